@@ -1,0 +1,31 @@
+-- The small words the rules are written in: a choice by a test, tests of numbers, and lists of them.
+use Prim.Native.Nat.{ℕ, zero, suc}
+use mathlib.Core.Bool.{Bool, true, false, _&&_, _||_}
+use mathlib.Core.List.{List, [], _∷_, _++_}
+use lib.Dec.{leb}
+
+-- the first where the test holds, the second where it does not
+unfoldable pub pick : {A : Type 0} → Bool → A → A → A
+pick true a b = a
+pick false a b = b
+
+-- low to high, both included
+unfoldable pub within : ℕ → ℕ → ℕ → Bool
+within low high n = leb low n && leb n high
+
+module _ {A : Type 0} where
+  unfoldable pub isEmpty : List A → Bool
+  isEmpty [] = true
+  isEmpty (x ∷ xs) = false
+
+  unfoldable pub all : (A → Bool) → List A → Bool
+  all test [] = true
+  all test (x ∷ xs) = test x && all test xs
+
+  unfoldable pub any : (A → Bool) → List A → Bool
+  any test [] = false
+  any test (x ∷ xs) = test x || any test xs
+
+  unfoldable pub joined : List (List A) → List A
+  joined [] = []
+  joined (x ∷ xs) = x ++ joined xs

@@ -1,0 +1,4 @@
+pub mod Choice
+pub mod Numbers
+pub mod Messages
+pub mod StartRead

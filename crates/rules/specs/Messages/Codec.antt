@@ -1,0 +1,147 @@
+-- Reading a message gives its fields or a number, writing fields gives bytes or a number; both without a line.
+use Prim.Native.Nat.{ℕ, zero, suc, _+_}
+use mathlib.Core.Bool.{Bool, true, false, _&&_}
+use mathlib.Core.List.{List, [], _∷_, _++_, map}
+use lib.Dec.{leb, ltb, eqb}
+use lib.ListN.{length, take, drop}
+use Rattle.rules.specs.Choice.{pick, within, isEmpty, all, joined}
+use Rattle.rules.specs.Numbers.{inputSize, messageSize, messageArea, smallArea, wrongLength, wrongType, unsound}
+use Rattle.rules.specs.Messages.Layout.{byteAt, sizeOf, widthsOf, fits, readGroups, writeGroups}
+use Rattle.rules.specs.Messages.Parameters.{Shape, soundParameter, fitsParameter, cleaned, cut}
+use Rattle.rules.specs.Messages.Forms.{Message, Tail, nothing, text, setAndText, list, Form, number, formOf}
+use Rattle.rules.specs.Messages.Forms.{startRead, readData, write}
+use Rattle.rules.specs.StartRead.{soundStartRead}
+
+-- what was asked for, or the number of a refusal
+pub data Outcome (A : Type 0) : Type 0 where
+  refused : ℕ → Outcome A
+  sound : A → Outcome A
+
+-- most set bytes
+abbrev setSize : ℕ
+setSize = 32
+
+unfoldable pub definedKind : ℕ → Bool
+definedKind kind = within 1 14 kind
+
+-- Each field has a value that 000 defines, and a Start Read passes its test. (Of Read Data the codes above 13 are undefined,
+-- of Write PP 3 and QQ 3; what the parameters hold is tested with them.)
+unfoldable pub definedFields : Message ℕ → Bool
+definedFields m =
+    pick (eqb (m .kind) startRead) (soundStartRead inputSize m)
+    (pick (eqb (m .kind) readData) (leb (number m 0) 13)
+    (pick (eqb (m .kind) write) (leb (number m 5) 2 && leb (number m 6) 2)
+    true))
+
+-- Reading.
+
+-- behind the head the tail is neither cut short nor followed by more
+unfoldable pub wholeTail : Tail → List ℕ → Bool
+wholeTail nothing rest = isEmpty rest
+wholeTail text rest = true
+wholeTail setAndText rest = ltb (byteAt rest 0) (length rest) && leb (byteAt rest 0) setSize
+wholeTail (list shape) rest = all (soundParameter shape) (cut shape zero rest)
+
+unfoldable pub setIn : Tail → List ℕ → List ℕ
+setIn nothing rest = []
+setIn text rest = []
+setIn setAndText rest = take (byteAt rest 0) (drop 1 rest)
+setIn (list shape) rest = []
+
+unfoldable pub parametersIn : Tail → List ℕ → List (List ℕ)
+parametersIn nothing rest = []
+parametersIn text rest = []
+parametersIn setAndText rest = []
+parametersIn (list shape) rest = map (cleaned shape) (cut shape zero rest)
+
+unfoldable pub textIn : Tail → List ℕ → List ℕ
+textIn nothing rest = []
+textIn text rest = rest
+textIn setAndText rest = drop (byteAt rest 0) (drop 1 rest)
+textIn (list shape) rest = []
+
+-- behind MSGTYPE and the head
+unfoldable pub behindHead : Form → List ℕ → List ℕ
+behindHead f bytes = drop (1 + sizeOf (f .head)) bytes
+
+unfoldable pub fieldsAs : Form → List ℕ → Message ℕ
+fieldsAs f bytes =
+    record {
+      kind = byteAt bytes 0;
+      numbers = readGroups (f .head) 1 bytes;
+      set = setIn (f .tail) (behindHead f bytes);
+      parameters = parametersIn (f .tail) (behindHead f bytes);
+      text = textIn (f .tail) (behindHead f bytes);
+    }
+
+-- not cut short, nothing left over, every value defined
+unfoldable pub soundAs : Form → List ℕ → Bool
+soundAs f bytes =
+    leb (1 + sizeOf (f .head)) (length bytes) &&
+    wholeTail (f .tail) (behindHead f bytes) &&
+    definedFields (fieldsAs f bytes)
+
+unfoldable pub soundLength : ℕ → Bool
+soundLength n = within 1 messageSize n
+
+-- reading: 2, 3 or 5, else the fields
+unfoldable pub read : List ℕ → Outcome (Message ℕ)
+read bytes =
+    pick (soundLength (length bytes))
+    (pick (definedKind (byteAt bytes 0))
+    (pick (soundAs (formOf (byteAt bytes 0)) bytes) (sound (fieldsAs (formOf (byteAt bytes 0)) bytes)) (refused unsound))
+    (refused wrongType))
+    (refused wrongLength)
+
+-- Writing.
+
+unfoldable pub allBytes : List ℕ → Bool
+allBytes bs = all (λ b. ltb b 256) bs
+
+unfoldable pub tailBytes : Tail → Message ℕ → List ℕ
+tailBytes nothing m = []
+tailBytes text m = m .text
+tailBytes setAndText m = length (m .set) ∷ (m .set ++ m .text)
+tailBytes (list shape) m = joined (m .parameters)
+
+unfoldable pub bytesAs : Form → Message ℕ → List ℕ
+bytesAs f m = m .kind ∷ (writeGroups (f .head) (m .numbers) ++ tailBytes (f .tail) m)
+
+-- the lists that this tail has fit it, and the others are empty
+unfoldable pub fitsTail : Tail → Message ℕ → Bool
+fitsTail nothing m = isEmpty (m .set) && isEmpty (m .parameters) && isEmpty (m .text)
+fitsTail text m = isEmpty (m .set) && isEmpty (m .parameters) && allBytes (m .text)
+fitsTail setAndText m = leb (length (m .set)) setSize && allBytes (m .set) && isEmpty (m .parameters) && allBytes (m .text)
+fitsTail (list shape) m =
+    isEmpty (m .set) &&
+    all (fitsParameter shape) (m .parameters) &&
+    all (soundParameter shape) (m .parameters) &&
+    isEmpty (m .text)
+
+-- every field fits its place, and the message would not be read as 5
+unfoldable pub fitsAs : Form → Message ℕ → Bool
+fitsAs f m = fits (widthsOf (f .head)) (m .numbers) && fitsTail (f .tail) m && definedFields m
+
+-- what can be handed to writing: a message, or a type and a body, which is how a type that is not 1 to 14 is held
+pub data Held : Type 0 where
+  message : Message ℕ → Held
+  other : ℕ → List ℕ → Held
+
+unfoldable pub kindOf : Held → ℕ
+kindOf (message m) = m .kind
+kindOf (other kind body) = kind
+
+unfoldable pub bytesOf : Held → List ℕ
+bytesOf (message m) = bytesAs (formOf (m .kind)) m
+bytesOf (other kind body) = kind ∷ body
+
+unfoldable pub fitsHeld : Held → Bool
+fitsHeld (message m) = fitsAs (formOf (m .kind)) m
+fitsHeld (other kind body) = false
+
+-- writing into an area of this length: 1, 2, 3 or 5, else the bytes
+unfoldable pub written : ℕ → Held → Outcome (List ℕ)
+written area h =
+    pick (ltb area messageArea) (refused smallArea)
+    (pick (ltb messageSize (length (bytesOf h))) (refused wrongLength)
+    (pick (definedKind (kindOf h)) (pick (fitsHeld h) (sound (bytesOf h)) (refused unsound)) (refused wrongType)))

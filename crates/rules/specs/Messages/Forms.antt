@@ -1,0 +1,117 @@
+-- The fourteen messages: their fields, and how these stand in bytes (000, 4.16.2 to 4.16.15).
+use Prim.Native.Nat.{ℕ, _-_}
+use mathlib.Core.List.{List, [], _∷_}
+use lib.ListN.{getD, replicate}
+use Rattle.rules.specs.Messages.Layout.{Group, flags, byte, word}
+use Rattle.rules.specs.Messages.Parameters.{Shape, initiation, question, setting}
+
+-- The fields of a message: numbers and lists. D is the type of the characters in its text; bytes, unless the line sends it.
+pub record Message (D : Type 0) : Type 0 where
+  pub kind : ℕ
+  -- the fields of the head, in the order of 000
+  pub numbers : List ℕ
+  -- Start Read's TERMINATION-SET
+  pub set : List ℕ
+  pub parameters : List (List ℕ)
+  -- DATA
+  pub text : List D
+
+abbrev pub number : {D : Type 0} → Message D → ℕ → ℕ
+number m at = getD (m .numbers) at 0
+
+-- a message that has no list
+abbrev pub plain : {D : Type 0} → ℕ → List ℕ → Message D
+plain kind numbers = record { kind = kind; numbers = numbers; set = []; parameters = []; text = [] }
+
+-- what follows the head
+pub data Tail : Type 0 where
+  nothing text setAndText : Tail
+  list : Shape → Tail
+
+pub record Form : Type 0 where
+  pub head : List Group
+  pub tail : Tail
+
+abbrev pub form : List Group → Tail → Form
+form head tail = record { head = head; tail = tail }
+
+-- MSGTYPE 1 to 14, each behind its type byte
+unfoldable pub forms : List Form
+forms =
+    -- Initiate: FLAGS; VERSION, ECO, MOD, REVISION; PARAMETERs
+    form (flags 1 [] ∷ replicate 11 byte) (list initiation) ∷
+    -- Start Read: UU, C, F, V, K, II, DDD, N, T, Q, ZZ, EE; MAX-LENGTH, END-OF-DATA, TIMEOUT, END-OF-PROMPT,
+    -- START-OF-DISPLAY, LOW-WATER; TERMINATION-SET, DATA
+    form
+    (flags 3 (2 ∷ 1 ∷ 1 ∷ 1 ∷ 1 ∷ 2 ∷ 3 ∷ 1 ∷ 1 ∷ 1 ∷ 2 ∷ 2 ∷ []) ∷ word ∷ word ∷ word ∷ word ∷ word ∷ word ∷ [])
+    setAndText ∷
+    -- Read Data: completion code, more-data; LOW-WATER, VERTICAL-POSITION, HORIZONTAL-POSITION, TERMINATION-POSITION; DATA
+    form (flags 1 (4 ∷ 1 ∷ []) ∷ word ∷ byte ∷ byte ∷ word ∷ []) text ∷
+    -- Out-of-Band: discard control; CHARACTER
+    form (flags 1 (1 ∷ []) ∷ byte ∷ []) nothing ∷
+    -- Unread: unread condition
+    form (flags 1 (1 ∷ []) ∷ []) nothing ∷
+    -- Clear Input
+    form (flags 1 [] ∷ []) nothing ∷
+    -- Write: UU, L, D, B, E, PP, QQ, S, T; PREFIX-VALUE, POSTFIX-VALUE; DATA
+    form (flags 2 (2 ∷ 1 ∷ 1 ∷ 1 ∷ 1 ∷ 2 ∷ 2 ∷ 1 ∷ 1 ∷ []) ∷ byte ∷ byte ∷ []) text ∷
+    -- Write Completion: discard status; HORIZONTAL-POS, VERTICAL-POS
+    form (flags 1 (1 ∷ []) ∷ word ∷ word ∷ []) nothing ∷
+    -- Discard State: discard control
+    form (flags 1 (1 ∷ []) ∷ []) nothing ∷
+    -- Read Characteristics: PARAMETERs
+    form (flags 1 [] ∷ []) (list question) ∷
+    -- Characteristics: PARAMETERs
+    form (flags 1 [] ∷ []) (list setting) ∷
+    -- Check Input
+    form (flags 1 [] ∷ []) nothing ∷
+    -- Input Count: COUNT
+    form (flags 1 [] ∷ word ∷ []) nothing ∷
+    -- Input State: count change
+    form (flags 1 (1 ∷ []) ∷ []) nothing ∷ []
+
+unfoldable pub formOf : ℕ → Form
+formOf kind = getD forms (kind - 1) (form [] nothing)
+
+-- the types by name
+abbrev pub initiate : ℕ
+initiate = 1
+
+abbrev pub startRead : ℕ
+startRead = 2
+
+abbrev pub readData : ℕ
+readData = 3
+
+abbrev pub outOfBand : ℕ
+outOfBand = 4
+
+abbrev pub unread : ℕ
+unread = 5
+
+abbrev pub clearInput : ℕ
+clearInput = 6
+
+abbrev pub write : ℕ
+write = 7
+
+abbrev pub writeCompletion : ℕ
+writeCompletion = 8
+
+abbrev pub discardState : ℕ
+discardState = 9
+
+abbrev pub readCharacteristics : ℕ
+readCharacteristics = 10
+
+abbrev pub characteristics : ℕ
+characteristics = 11
+
+abbrev pub checkInput : ℕ
+checkInput = 12
+
+abbrev pub inputCount : ℕ
+inputCount = 13
+
+abbrev pub inputState : ℕ
+inputState = 14

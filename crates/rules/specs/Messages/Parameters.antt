@@ -1,0 +1,103 @@
+-- Parameter lists: a parameter is its bytes, of which the first two say how it goes on.
+use Prim.Native.Nat.{ℕ, zero, suc, _+_, _*_, _-_, _%_}
+use mathlib.Core.Bool.{Bool, true, false, _&&_}
+use mathlib.Core.List.{List, [], _∷_, zipWith}
+use lib.Dec.{ltb, eqb}
+use lib.ListN.{length, take, drop, getD, replicate}
+use Rattle.rules.specs.Choice.{pick, within}
+use Rattle.rules.specs.Messages.Layout.{byteAt}
+
+-- A kind of parameter list.
+pub record Shape : Type 0 where
+  -- by a parameter's first two bytes: a limit for each byte behind them, which is the byte's used values
+  pub limits : ℕ → ℕ → List ℕ
+  -- 000 defines the parameter and its value
+  pub defined : List ℕ → Bool
+
+-- SELECTOR (000, 4.17): characteristic identifier, then the type of identifier, 2 for ours
+abbrev pub selector : List ℕ → ℕ
+selector p = byteAt p 0 + 256 * byteAt p 1
+
+-- identifiers of 4.17.2, as selectors
+abbrev pub characterAttributes : ℕ
+characterAttributes = 0x0202
+
+abbrev pub raiseInput : ℕ
+raiseInput = 0x0204
+
+abbrev pub normalEcho : ℕ
+normalEcho = 0x0205
+
+abbrev pub escapeRecognition : ℕ
+escapeRecognition = 0x0206
+
+abbrev pub inputCountState : ℕ
+inputCountState = 0x0208
+
+abbrev pub autoPrompt : ℕ
+autoPrompt = 0x0209
+
+abbrev pub errorProcessing : ℕ
+errorProcessing = 0x020A
+
+unfoldable pub definedSelector : ℕ → Bool
+definedSelector n = within 0x0201 0x020A n
+
+-- Initiate: PARMTYPE, a count, and that many bytes; nothing of it is looked at
+abbrev pub initiation : Shape
+initiation = record { limits = λ kind count. replicate count 256; defined = λ p. true }
+
+-- Read Characteristics: SELECTOR, and CHARACTER for character attributes alone
+unfoldable pub questionLimits : ℕ → List ℕ
+questionLimits n = pick (eqb n characterAttributes) (256 ∷ []) []
+
+abbrev pub question : Shape
+question = record { limits = λ low high. questionLimits (low + 256 * high); defined = λ p. definedSelector (selector p) }
+
+-- Characteristics: SELECTOR and VALUE. A Boolean uses bit 0; character attributes are CHARACTER, MASK and seven bits;
+-- INPUT-COUNT-STATE is an integer, 1 to 3; ERROR-PROCESSING uses four bits.
+unfoldable pub valueLimits : ℕ → List ℕ
+valueLimits n =
+    pick (eqb n characterAttributes) (256 ∷ 256 ∷ 128 ∷ [])
+    (pick (eqb n inputCountState) (256 ∷ 256 ∷ [])
+    (pick (eqb n errorProcessing) (16 ∷ [])
+    (pick (definedSelector n) (2 ∷ []) [])))
+
+unfoldable pub definedValue : List ℕ → Bool
+definedValue p = pick (eqb (selector p) inputCountState) (within 1 3 (byteAt p 2 + 256 * byteAt p 3)) (definedSelector (selector p))
+
+abbrev pub setting : Shape
+setting = record { limits = λ low high. valueLimits (low + 256 * high); defined = definedValue }
+
+-- as many bytes as limits, each under its own
+unfoldable pub under : List ℕ → List ℕ → Bool
+under [] [] = true
+under [] (b ∷ bs) = false
+under (l ∷ ls) [] = false
+under (l ∷ ls) (b ∷ bs) = ltb b l && under ls bs
+
+module _ (shape : Shape) where
+  -- the limits of the bytes behind the first two, and how long the parameter should be
+  unfoldable pub limitsOf : List ℕ → List ℕ
+  limitsOf p = shape .limits (byteAt p 0) (byteAt p 1)
+
+  unfoldable pub sizeOf : List ℕ → ℕ
+  sizeOf p = 2 + length (limitsOf p)
+
+  -- whole, and with a defined value
+  unfoldable pub soundParameter : List ℕ → Bool
+  soundParameter p = eqb (length p) (sizeOf p) && shape .defined p
+
+  -- each byte under its limit
+  unfoldable pub fitsParameter : List ℕ → Bool
+  fitsParameter p = under (256 ∷ 256 ∷ limitsOf p) p
+
+  -- unused bits set to 0
+  unfoldable pub cleaned : List ℕ → List ℕ
+  cleaned p = zipWith _%_ p (256 ∷ 256 ∷ limitsOf p)
+
+  -- the bytes of a list cut into parameters; the number is how many bytes the last one still takes
+  unfoldable pub cut : ℕ → List ℕ → List (List ℕ)
+  cut left [] = []
+  cut zero (x ∷ xs) = take (sizeOf (x ∷ xs)) (x ∷ xs) ∷ cut (sizeOf (x ∷ xs) - 1) xs
+  cut (suc left) (x ∷ xs) = cut left xs

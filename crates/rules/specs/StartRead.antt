@@ -1,0 +1,108 @@
+-- Page 01, "Start Read": its fields, its test and its termination sets. Acceptance, below this module, has what it then does.
+use Prim.Native.Nat.{ℕ, _-_, _/_, _%_, _^_}
+use mathlib.Core.Bool.{Bool, _&&_}
+use mathlib.Core.List.{List, [], _∷_}
+use lib.Dec.{leb, eqb}
+use lib.ListN.{length}
+use Rattle.rules.specs.Choice.{pick}
+use Rattle.rules.specs.Messages.Layout.{byteAt}
+use Rattle.rules.specs.Messages.Forms.{Message, number}
+
+-- UU: what 127 or 23 does with nothing to delete
+abbrev pub underflow : {D : Type 0} → Message D → ℕ
+underflow m = number m 0
+
+-- C: clear type-ahead
+abbrev pub clears : {D : Type 0} → Message D → ℕ
+clears m = number m 1
+
+-- F: formatting
+abbrev pub formats : {D : Type 0} → Message D → ℕ
+formats m = number m 2
+
+-- V: terminate on vertical change
+abbrev pub vertical : {D : Type 0} → Message D → ℕ
+vertical m = number m 3
+
+-- K: continuation read
+abbrev pub continues : {D : Type 0} → Message D → ℕ
+continues m = number m 4
+
+-- II: raise input
+abbrev pub raises : {D : Type 0} → Message D → ℕ
+raises m = number m 5
+
+-- DDD: disable control
+abbrev pub disables : {D : Type 0} → Message D → ℕ
+disables m = number m 6
+
+-- N: no echo
+abbrev pub silent : {D : Type 0} → Message D → ℕ
+silent m = number m 7
+
+-- T: echo the terminator
+abbrev pub terminatorEcho : {D : Type 0} → Message D → ℕ
+terminatorEcho m = number m 8
+
+-- Q: TIMEOUT counts
+abbrev pub timed : {D : Type 0} → Message D → ℕ
+timed m = number m 9
+
+-- ZZ: which termination set
+abbrev pub setChoice : {D : Type 0} → Message D → ℕ
+setChoice m = number m 10
+
+-- EE: recognise escape sequences
+abbrev pub escapes : {D : Type 0} → Message D → ℕ
+escapes m = number m 11
+
+-- MAX-LENGTH
+abbrev pub maxLength : {D : Type 0} → Message D → ℕ
+maxLength m = number m 12
+
+-- END-OF-DATA
+abbrev pub endOfData : {D : Type 0} → Message D → ℕ
+endOfData m = number m 13
+
+-- TIMEOUT
+abbrev pub timeout : {D : Type 0} → Message D → ℕ
+timeout m = number m 14
+
+-- END-OF-PROMPT
+abbrev pub endOfPrompt : {D : Type 0} → Message D → ℕ
+endOfPrompt m = number m 15
+
+-- START-OF-DISPLAY
+abbrev pub startOfDisplay : {D : Type 0} → Message D → ℕ
+startOfDisplay m = number m 16
+
+-- LOW-WATER
+abbrev pub lowWater : {D : Type 0} → Message D → ℕ
+lowWater m = number m 17
+
+-- The Start Read test, but for the count of set bytes, which reading tests. The largest read is an argument.
+unfoldable pub soundStartRead : {D : Type 0} → ℕ → Message D → Bool
+soundStartRead largest m =
+    leb (underflow m) 2 &&
+    leb (raises m) 2 &&
+    leb (setChoice m) 2 &&
+    leb (escapes m) 2 &&
+    leb (disables m) 3 &&
+    leb (endOfPrompt m) (endOfData m) &&
+    leb (lowWater m) (endOfData m) &&
+    leb (startOfDisplay m) (endOfData m) &&
+    leb (endOfData m) (maxLength m) &&
+    leb (maxLength m) largest &&
+    eqb (length (m .text)) (endOfData m - startOfDisplay m)
+
+-- code c is in the set when bit c mod 8 of byte c div 8 is 1
+unfoldable pub inSet : List ℕ → ℕ → Bool
+inSet set c = eqb (byteAt set (c / 8) / 2 ^ (c % 8) % 2) 1
+
+-- the universal set: codes 0 to 31 except 8, 9, 18, 21, 23
+unfoldable pub universal : List ℕ
+universal = 0b11111111 ∷ 0b11111100 ∷ 0b01011011 ∷ 0b11111111 ∷ []
+
+-- ZZ 0: the last set given with ZZ 1; 1: this set; 2: universal
+unfoldable pub chosenSet : {D : Type 0} → List ℕ → Message D → List ℕ
+chosenSet last m = pick (eqb (setChoice m) 0) last (pick (eqb (setChoice m) 1) (m .set) universal)
