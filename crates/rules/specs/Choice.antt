@@ -13,6 +13,10 @@ pick false a b = b
 unfoldable pub within : ℕ → ℕ → ℕ → Bool
 within low high n = leb low n && leb n high
 
+-- a flag as a number
+unfoldable pub bit : Bool → ℕ
+bit test = pick test 1 0
+
 module _ {A : Type 0} where
   unfoldable pub isEmpty : List A → Bool
   isEmpty [] = true

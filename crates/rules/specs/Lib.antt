@@ -2,3 +2,17 @@ pub mod Choice
 pub mod Numbers
 pub mod Messages
 pub mod StartRead
+pub mod Screen
+pub mod State
+pub mod Turns
+pub mod Token
+pub mod ReadData
+pub mod Editing
+pub mod Arrival
+pub mod Steps
+pub mod Characteristics
+pub mod Host
+pub mod Calls
+pub mod Bounds
+pub mod Bench
+pub mod Whole

@@ -1,4 +1,5 @@
 -- Page 01, "Start Read": its fields, its test and its termination sets. Acceptance, below this module, has what it then does.
+pub mod Acceptance
 use Prim.Native.Nat.{ℕ, _-_, _/_, _%_, _^_}
 use mathlib.Core.Bool.{Bool, _&&_}
 use mathlib.Core.List.{List, [], _∷_}

@@ -1,0 +1,90 @@
+-- What holds of every state from a fresh line on, and of what a call writes, over the names of the sizes.
+use Prim.Native.Nat.{ℕ, _+_, _≤_, _<_, _%_}
+use mathlib.Core.Path.{_≡_}
+use mathlib.Core.Bool.{Bool, true, false, not, _&&_}
+use mathlib.Core.List.{List, [], _∷_, map}
+use mathlib.Core.Option.{Option, none, some}
+use lib.Dec.{ltb, eqb}
+use lib.ListN.{length}
+use Rattle.rules.specs.Choice.{all}
+use Rattle.rules.specs.Numbers.{inputSize, typeAheadSize, tokenSize, terminalArea, messageArea, topColumn, topDropped}
+use Rattle.rules.specs.Messages.Forms.{Message}
+use Rattle.rules.specs.Messages.Codec.{sound, allBytes, read}
+use Rattle.rules.specs.State.{Host, Terminal, Key, Typed, Terms, Reading, State, codes}
+use Rattle.rules.specs.Token.{isWhole}
+use Rattle.rules.specs.Editing.{endOf}
+use Rattle.rules.specs.Characteristics.{isDeferredClear}
+use Rattle.rules.specs.Turns.{Turn}
+use Rattle.rules.specs.Calls.{Event, key, step, tick, message, Call, Answer, sentBytes, messageBytes, runFrom}
+
+-- an attribute: seven bits, and not deferred-clear
+unfoldable pub isAttribute : ℕ → Bool
+isAttribute a = ltb a 128 && not (isDeferredClear a)
+
+pub record BoundedHost (h : Host) : Type 0 where
+  pub table : length (h .attributes) ≡ 256
+  pub attributes : all isAttribute (h .attributes) ≡ true
+  pub setLength : length (h .lastSet) ≤ 32
+  pub setBytes : allBytes (h .lastSet) ≡ true
+
+pub record BoundedTerminal (t : Terminal) : Type 0 where
+  pub column : t .screen .column ≤ topColumn
+  pub line : t .screen .line < 256
+  pub dropped : t .dropped ≤ topDropped
+
+pub record BoundedTyped (t : Typed ℕ) : Type 0 where
+  pub typeAhead : length (t .typeAhead) ≤ typeAheadSize
+  pub token : length (t .token) ≤ tokenSize
+  pub keyBytes : allBytes (map (λ k. k .char) (t .typeAhead)) ≡ true
+  pub tokenBytes : allBytes (t .token) ≡ true
+
+-- a pending read has room for one character more, and is not yet due
+pub record BoundedReading (r : Reading ℕ) : Type 0 where
+  pub largest : r .terms .maxLength ≤ inputSize
+  pub room : endOf r < r .terms .maxLength
+  pub lowWater : r .lowWater ≤ endOf r
+  pub prompt : length (r .terms .prompt) ≤ r .terms .endOfPrompt
+  pub promptBytes : allBytes (r .terms .prompt) ≡ true
+  pub inputBytes : allBytes (r .input) ≡ true
+  pub setLength : length (r .terms .set) ≤ 32
+  pub setBytes : allBytes (r .terms .set) ≡ true
+  pub underflow : r .terms .underflow ≤ 2
+  pub disables : r .terms .disables ≤ 3
+  pub timeout : r .terms .timeout < 65536
+  pub idle : r .terms .timed ≡ true → 0 < r .terms .timeout → r .idle < r .terms .timeout
+  pub from : r .from ≤ topColumn
+  pub noteColumn : r .terms .column ≤ topColumn
+  pub noteLine : r .terms .line < 256
+
+abbrev pub BoundedRead : Option (Reading ℕ) → Type 0
+BoundedRead none = Unit {0}
+BoundedRead (some r) = BoundedReading r
+
+pub record Bounded (s : State ℕ) : Type 0 where
+  pub host : BoundedHost (s .host)
+  pub terminal : BoundedTerminal (s .terminal)
+  pub typed : BoundedTyped (s .typed)
+  pub read : BoundedRead (s .read)
+
+-- a call's key and bytes are bytes
+unfoldable pub isByteEvent : Event ℕ → Bool
+isByteEvent (key c) = ltb c 256
+isByteEvent step = true
+isByteEvent tick = true
+isByteEvent (message bytes) = allBytes bytes
+
+-- every message sent reads as what was meant
+abbrev pub AllMeant : List (Message ℕ) → Type 0
+AllMeant [] = Unit {0}
+AllMeant (m ∷ ms) = (read (sentBytes m) ≡ sound m) × AllMeant ms
+
+-- what a call leaves and writes
+pub record Within (a : Answer ℕ) : Type 0 where
+  pub state : Bounded (a .turn .state)
+  pub terminal : length (a .turn .bytes) ≤ terminalArea
+  pub messages : length (messageBytes codes (a .turn)) ≤ messageArea
+  pub meant : AllMeant (a .turn .messages)
+
+abbrev pub AllWithin : List (Answer ℕ) → Type 0
+AllWithin [] = Unit {0}
+AllWithin (a ∷ rest) = Within a × AllWithin rest

@@ -1,0 +1,148 @@
+-- The four calls with their refusals, and a list of calls run from a fresh line.
+use Prim.Native.Nat.{ℕ, _+_}
+use mathlib.Core.Bool.{Bool, true, false, not, _&&_, _||_}
+use mathlib.Core.List.{List, [], _∷_, _++_, map}
+use mathlib.Core.Option.{Option, none, some}
+use lib.Dec.{leb, ltb, eqb}
+use lib.ListN.{length, drop}
+use Rattle.rules.specs.Choice.{pick, all, joined}
+use Rattle.rules.specs.Numbers.{terminalArea, messageArea, messageSize, accepted, smallArea, wrongLength, wrongType, wrongTime, notCarried}
+use Rattle.rules.specs.Messages.Layout.{byteAt, bytesOf}
+use Rattle.rules.specs.Messages.Parameters.{selector}
+use Rattle.rules.specs.Messages.Forms as forms
+use Rattle.rules.specs.Messages.Forms.{Message, formOf}
+use Rattle.rules.specs.Messages.Codec.{Outcome, refused, sound, soundLength, definedKind, read, bytesAs}
+use Rattle.rules.specs.StartRead.{startOfDisplay, continues, vertical}
+use Rattle.rules.specs.State.{Characters, Reading, State, fresh}
+use Rattle.rules.specs.Turns.{Fate, Turn, Part, still}
+use Rattle.rules.specs.Arrival.{arrives}
+use Rattle.rules.specs.Steps.{steps, ticks}
+use Rattle.rules.specs.Characteristics.{isCarried, carriesSettings, report}
+use Rattle.rules.specs.Host.{obeys, lock, newline, prefix, postfix, transparent}
+
+-- an incoming event: a key, a step, a tick, or a host message's bytes
+pub data Event (C : Type 0) : Type 0 where
+  key : C → Event C
+  step tick : Event C
+  message : List ℕ → Event C
+
+-- a call, with the lengths of the two lent areas
+pub record Call (C : Type 0) : Type 0 where
+  pub terminal : ℕ
+  pub messages : ℕ
+  pub event : Event C
+
+-- a call's answer: its number, and what it did
+pub record Answer (C : Type 0) : Type 0 where
+  pub number : ℕ
+  pub turn : Turn C
+
+-- In the message area each message stands behind its length, in the order sent.
+unfoldable pub framed : List ℕ → List ℕ
+framed bytes = bytesOf 2 (length bytes) ++ bytes
+
+-- an area after a call that wrote these bytes to its front
+unfoldable pub areaAfter : List ℕ → List ℕ → List ℕ
+areaAfter bytes area = bytes ++ drop (length bytes) area
+
+-- a message's characters changed
+unfoldable pub mapText : {C D : Type 0} → (C → D) → Message C → Message D
+mapText f m =
+    record
+    { kind = m .kind; numbers = m .numbers; set = m .set; parameters = m .parameters; text = map f (m .text) }
+
+unfoldable pub sentBytes : Message ℕ → List ℕ
+sentBytes m = bytesAs (formOf (m .kind)) m
+
+-- 3: a type only servers send
+unfoldable pub isServers : ℕ → Bool
+isServers kind =
+    eqb kind forms.readData || eqb kind forms.outOfBand ||
+    eqb kind forms.writeCompletion || eqb kind forms.discardState ||
+    eqb kind forms.inputCount || eqb kind forms.inputState
+
+-- 6, by type
+unfoldable pub carriesStartRead : Message ℕ → Bool
+carriesStartRead m = eqb (startOfDisplay m) 0 && eqb (continues m) 0 && eqb (vertical m) 0
+
+unfoldable pub carriesWrite : Message ℕ → Bool
+carriesWrite m =
+    eqb (lock m) 0 && eqb (newline m) 0 && eqb (transparent m) 0 && eqb (prefix m) 0 && eqb (postfix m) 0
+
+module _ {C : Type 0} where
+  unfoldable pub isPending : Option (Reading C) → Bool
+  isPending none = false
+  isPending (some r) = true
+
+  -- 4: first accepted message not Initiate; Initiate again; Start Read with a read pending
+  unfoldable pub isTimely : ℕ → State C → Bool
+  isTimely kind s =
+      pick (s .host .begun)
+      (not (eqb kind forms.initiate) && not (eqb kind forms.startRead && isPending (s .read)))
+      (eqb kind forms.initiate)
+
+  -- 6: a Read Characteristics whose answer and its length pass the message area
+  unfoldable pub carriesQuestions : State C → Message ℕ → Bool
+  carriesQuestions s m =
+      all (λ p. isCarried (selector p)) (m .parameters) &&
+      leb (length (framed (sentBytes (report (s .host) m)))) messageArea
+
+  unfoldable pub isCarriedBy : State C → Message ℕ → Bool
+  isCarriedBy s m =
+      pick (eqb (m .kind) forms.startRead) (carriesStartRead m)
+      (pick (eqb (m .kind) forms.write) (carriesWrite m)
+      (pick (eqb (m .kind) forms.characteristics) (carriesSettings (s .host) m)
+      (pick (eqb (m .kind) forms.readCharacteristics) (carriesQuestions s m)
+      true)))
+
+  -- 5 is reading's, then 6
+  unfoldable pub judged : State C → Outcome (Message ℕ) → Outcome (Message ℕ)
+  judged s (refused n) = refused n
+  judged s (sound m) = pick (isCarriedBy s m) (sound m) (refused notCarried)
+
+  -- a host message's bytes: 2 to 6 in the table's order, else the message
+  unfoldable pub considered : State C → List ℕ → Outcome (Message ℕ)
+  considered s bytes =
+      pick (soundLength (length bytes))
+      (pick (definedKind (byteAt bytes 0) && not (isServers (byteAt bytes 0)))
+      (pick (isTimely (byteAt bytes 0) s)
+      (judged s (read bytes))
+      (refused wrongTime))
+      (refused wrongType))
+      (refused wrongLength)
+
+  -- a refusal writes nothing and leaves the line as it was
+  unfoldable pub refuses : ℕ → State C → Answer C
+  refuses n s = record { number = n; turn = still s }
+
+  unfoldable pub does : Part C → State C → Answer C
+  does f s = record { number = accepted; turn = f s }
+
+  unfoldable pub isRoomy : Call C → Bool
+  isRoomy c = leb terminalArea (c .terminal) && leb messageArea (c .messages)
+
+module _ {C : Type 0} (chars : Characters C) where
+  unfoldable pub hears : Outcome (Message ℕ) → State C → Answer C
+  hears (refused n) = refuses n
+  hears (sound m) = does (obeys chars m)
+
+  unfoldable pub answers : Event C → State C → Answer C
+  answers (key c) s = does (arrives chars c) s
+  answers step s = does (steps chars) s
+  answers tick s = does (ticks chars) s
+  answers (message bytes) s = hears (considered s bytes) s
+
+  unfoldable pub answer : Call C → State C → Answer C
+  answer c s = pick (isRoomy c) (answers (c .event)) (refuses smallArea) s
+
+  -- the message area's bytes
+  unfoldable pub messageBytes : Turn C → List ℕ
+  messageBytes t = joined (map (λ m. framed (sentBytes (mapText (chars .code) m))) (t .messages))
+
+  -- each call gets the line that the last one handed back
+  unfoldable pub runFrom : State C → List (Call C) → List (Answer C)
+  runFrom s [] = []
+  runFrom s (c ∷ cs) = let a = answer c s in a ∷ runFrom (a .turn .state) cs
+
+  unfoldable pub run : List (Call C) → List (Answer C)
+  run cs = runFrom fresh cs

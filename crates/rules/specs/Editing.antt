@@ -1,0 +1,79 @@
+-- Deleting from a pending read's input, and showing it again. 127, 23 and 21 delete, and so does the clear rule; 18 redisplays.
+use Prim.Native.Nat.{ℕ, _+_, _-_, min}
+use mathlib.Core.Bool.{Bool, true, false, not, _&&_, _||_}
+use mathlib.Core.List.{List, [], _∷_, map, reverse}
+use mathlib.Core.Option.{Option, none, some}
+use lib.Dec.{ltb}
+use lib.ListN.{length, take, drop}
+use Rattle.rules.specs.Choice.{pick, within, bit}
+use Rattle.rules.specs.Screen.{CR, LF, echoAll, marksBehind, rubOut}
+use Rattle.rules.specs.State.{Characters, State, Reading, withRead, withFrom}
+use Rattle.rules.specs.Turns.{Fate, Part, writes, tells, changes, _then_}
+
+-- word class: ASCII letter or digit, or neither
+unfoldable pub isWord : ℕ → Bool
+isWord n = within 48 57 n || within 65 90 n || within 97 122 n
+
+-- how many at the front pass a test
+unfoldable pub leading : (ℕ → Bool) → List ℕ → ℕ
+leading test [] = 0
+leading test (n ∷ ns) = pick (test n) (1 + leading test ns) 0
+
+-- how many characters 23 leaves: it deletes trailing non-word characters, then word characters
+unfoldable pub leftBy23 : List ℕ → ℕ
+leftBy23 ns =
+    let last = reverse ns in
+    let spaces = leading (λ n. not (isWord n)) last in
+    length ns - (spaces + leading isWord (drop spaces last))
+
+module _ {C : Type 0} where
+  -- END-OF-PROMPT and what stands after it: the end of the buffer
+  unfoldable pub endOf : Reading C → ℕ
+  endOf r = r .terms .endOfPrompt + length (r .input)
+
+  -- the LF that F hides is never displayed
+  unfoldable pub hiddenCount : Reading C → ℕ
+  hiddenCount r = bit (r .hidden)
+
+  -- the read with its first characters left; LOW-WATER falls to the new end if lower
+  unfoldable pub shortened : ℕ → Reading C → Reading C
+  shortened left r =
+      record {
+        terms = r .terms;
+        input = take left (r .input);
+        lowWater = min (r .lowWater) (r .terms .endOfPrompt + left);
+        hidden = r .hidden && ltb 0 left;
+        from = r .from;
+        idle = r .idle;
+      }
+
+  -- delete all but the first characters, without rubbing out; every one deleted meets a fate
+  unfoldable pub deletesUnseen : (C → Fate C) → ℕ → Reading C → Part C
+  deletesUnseen fate left r = tells (map fate (drop left (r .input))) then changes (withRead (some (shortened left r)))
+
+module _ {C : Type 0} (chars : Characters C) where
+  abbrev pub inputCodes : Reading C → List ℕ
+  inputCodes r = map (chars .code) (r .input)
+
+  unfoldable pub displayed : Reading C → List ℕ
+  displayed r = drop (hiddenCount r) (inputCodes r)
+
+  -- what deleting writes, in a read that echoes
+  unfoldable pub rubbing : ℕ → Reading C → List ℕ
+  rubbing left r = pick (r .terms .echoes) (rubOut (marksBehind (left - hiddenCount r) (r .from) (displayed r))) []
+
+  unfoldable pub deletes : (C → Fate C) → ℕ → Reading C → Part C
+  deletes fate left r = writes (rubbing left r) then deletesUnseen fate left r
+
+  -- the prompt raw and, if the read echoes, the echo of what follows it; the data's display begins after the prompt
+  unfoldable pub displays : Reading C → Part C
+  displays r =
+      writes (r .terms .prompt) then
+      (λ s.
+      (changes (withRead (some (withFrom (s .terminal .screen .column) r))) then
+      writes (pick (r .terms .echoes) (echoAll (s .terminal .screen .column) (displayed r)) []))
+      s)
+
+  -- redisplay, as 18 does
+  unfoldable pub redisplays : Reading C → Part C
+  redisplays r = writes (CR ∷ LF ∷ []) then displays r

@@ -1,0 +1,92 @@
+-- What an accepted host message does: Initiate, Clear Input, Write, and the rest by their own rules.
+use Prim.Native.Nat.{ℕ, _+_}
+use mathlib.Core.Bool.{Bool, true, false, not, _&&_}
+use mathlib.Core.List.{List, [], _∷_, _++_}
+use lib.Dec.{eqb}
+use lib.ListN.{replicate}
+use Rattle.rules.specs.Choice.{pick, bit, isEmpty}
+use Rattle.rules.specs.Numbers.{messageSize, inputSize}
+use Rattle.rules.specs.Messages.Layout.{bytesOf}
+use Rattle.rules.specs.Messages.Forms as forms
+use Rattle.rules.specs.Messages.Forms.{Message, number, plain}
+use Rattle.rules.specs.Screen.{SP, change}
+use Rattle.rules.specs.State.{Characters, State, withHost, withTerminal, withBegun, withDiscarding}
+use Rattle.rules.specs.Turns.{Part, still, writes, sends, changes, _then_, only}
+use Rattle.rules.specs.ReadData.{unreads, checksInput}
+use Rattle.rules.specs.Arrival.{clears}
+use Rattle.rules.specs.StartRead.Acceptance.{startsRead}
+use Rattle.rules.specs.Characteristics.{withParameters, report}
+
+-- Write's fields by 000's letters: lock UU, newline L, don't-discard D, prefix PP, postfix QQ, completion S, transparent T
+module _ {D : Type 0} where
+  abbrev pub lock : Message D → ℕ
+  lock m = number m 0
+
+  abbrev pub newline : Message D → ℕ
+  newline m = number m 1
+
+  abbrev pub keepsOutput : Message D → ℕ
+  keepsOutput m = number m 2
+
+  abbrev pub prefix : Message D → ℕ
+  prefix m = number m 5
+
+  abbrev pub postfix : Message D → ℕ
+  postfix m = number m 6
+
+  abbrev pub wantsCompletion : Message D → ℕ
+  wantsCompletion m = number m 7
+
+  abbrev pub transparent : Message D → ℕ
+  transparent m = number m 8
+
+-- our Initiate: version 1.0.0, spaces, and parameters 1 (message size), 2 (input size) and 3 (messages 1 to 14)
+unfoldable pub ourInitiate : {D : Type 0} → Message D
+ourInitiate =
+    record {
+      kind = forms.initiate;
+      numbers = 1 ∷ 0 ∷ 0 ∷ replicate 8 SP;
+      set = [];
+      parameters = (1 ∷ 2 ∷ bytesOf 2 messageSize) ∷ (2 ∷ 2 ∷ bytesOf 2 inputSize) ∷ (3 ∷ 2 ∷ 0xFE ∷ 0x7F ∷ []) ∷ [];
+      text = [];
+    }
+
+module _ {C : Type 0} where
+  unfoldable pub initiates : Part C
+  initiates = changes (λ s. withHost (withBegun true (s .host)) s) then sends ourInitiate
+
+  -- positions are changes since the state before; output is lost when there was some and it was discarded
+  unfoldable pub completion : Message ℕ → State C → State C → Message C
+  completion m before now =
+      plain forms.writeCompletion
+      (bit (now .terminal .discarding && not (isEmpty (m .text))) ∷
+      change (now .terminal .screen .column) (before .terminal .screen .column) ∷
+      change (now .terminal .screen .line) (before .terminal .screen .line) ∷
+      [])
+
+  -- Write sends its data unless output discard is on; don't-discard first turns it off
+  unfoldable pub writesOut : Message ℕ → Part C
+  writesOut m before =
+      (only (eqb (keepsOutput m) 1) (changes (λ s. withTerminal (withDiscarding false (s .terminal)) s)) then
+      (λ s. only (not (s .terminal .discarding)) (writes (m .text)) s) then
+      only (eqb (wantsCompletion m) 1) (λ s. sends (completion m before s) s))
+      before
+
+  unfoldable pub reports : Message ℕ → Part C
+  reports m s = sends (report (s .host) m) s
+
+  unfoldable pub setsCharacteristics : Message ℕ → Part C
+  setsCharacteristics m = changes (λ s. withHost (withParameters (m .parameters) (s .host)) s)
+
+module _ {C : Type 0} (chars : Characters C) where
+  -- by its type
+  unfoldable pub obeys : Message ℕ → Part C
+  obeys m =
+      pick (eqb (m .kind) forms.initiate) initiates
+      (pick (eqb (m .kind) forms.startRead) (startsRead chars m)
+      (pick (eqb (m .kind) forms.unread) (unreads chars m)
+      (pick (eqb (m .kind) forms.clearInput) (clears chars)
+      (pick (eqb (m .kind) forms.write) (writesOut m)
+      (pick (eqb (m .kind) forms.readCharacteristics) (reports m)
+      (pick (eqb (m .kind) forms.characteristics) (setsCharacteristics m)
+      checksInput))))))

@@ -1,0 +1,98 @@
+-- Page 01, "Read Data and counts": a read completes; Unread and Check Input.
+use Prim.Native.Nat.{ℕ, _+_, _-_}
+use mathlib.Core.Bool.{Bool, true, false, not, _&&_, _||_}
+use mathlib.Core.List.{List, [], _∷_, map}
+use mathlib.Core.Option.{Option, none, some}
+use lib.Dec.{eqb}
+use lib.ListN.{length}
+use Rattle.rules.specs.Choice.{bit, isEmpty}
+use Rattle.rules.specs.Messages.Forms.{Message, plain, number, readData, inputCount}
+use Rattle.rules.specs.Screen.{change}
+use Rattle.rules.specs.State.{Characters, State, Reading, Typed, withRead, withTyped}
+use Rattle.rules.specs.Token.{isWhole, isPartial}
+use Rattle.rules.specs.Turns.{Part, lost, still, sends, tells, changes, _then_, only}
+
+-- completion codes (000, 4.16.4)
+abbrev pub byTerminator : ℕ
+byTerminator = 0
+
+abbrev pub byValidToken : ℕ
+byValidToken = 1
+
+abbrev pub byInvalidToken : ℕ
+byInvalidToken = 2
+
+abbrev pub byOutOfBand : ℕ
+byOutOfBand = 3
+
+abbrev pub byFullBuffer : ℕ
+byFullBuffer = 4
+
+abbrev pub byTimeout : ℕ
+byTimeout = 5
+
+abbrev pub byUnread : ℕ
+byUnread = 6
+
+abbrev pub byUnderflow : ℕ
+byUnderflow = 7
+
+abbrev pub byAbsentee : ℕ
+byAbsentee = 8
+
+module _ {C : Type 0} where
+  -- type-ahead plus token bytes
+  unfoldable pub waitingCount : Typed C → ℕ
+  waitingCount t = length (t .typeAhead) + length (t .token)
+
+  unfoldable pub checksInput : Part C
+  checksInput s = sends (plain inputCount (waitingCount (s .typed) ∷ [])) s
+
+module _ {C : Type 0} (chars : Characters C) where
+  abbrev pub tokenCodes : State C → List ℕ
+  tokenCodes s = map (chars .code) (s .typed .token)
+
+  -- type-ahead or a held token remains
+  unfoldable pub moreData : State C → Bool
+  moreData s = not (isEmpty (s .typed .typeAhead)) || isWhole (tokenCodes s)
+
+  -- the read's answer: its code, and how many characters at the end are a terminator, token or underflow code
+  unfoldable pub answerOf : ℕ → ℕ → Reading C → State C → Message C
+  answerOf code ending r s =
+      record {
+        kind = readData;
+        numbers =
+            code ∷
+            bit (moreData s) ∷
+            r .lowWater ∷
+            change (s .terminal .screen .line) (r .terms .line) ∷
+            change (s .terminal .screen .column) (r .terms .column) ∷
+            (length (r .input) - ending) ∷
+            [];
+        set = [];
+        parameters = [];
+        text = r .input;
+      }
+
+  -- a completion drops a partial token
+  unfoldable pub losesPartial : Part C
+  losesPartial s =
+      only (isPartial (tokenCodes s))
+      (tells (map lost (s .typed .token)) then changes (withTyped (s .typed .typeAhead) []))
+      s
+
+  unfoldable pub completes : ℕ → ℕ → Reading C → Part C
+  completes code ending r =
+      losesPartial then (λ s. sends (answerOf code ending r s) s) then changes (withRead none)
+
+  -- Unread (always), and Unread (empty), which looks at type-ahead, tokens and input
+  unfoldable pub unreadsWhile : Option (Reading C) → Message ℕ → Part C
+  unreadsWhile none m = still
+  unreadsWhile (some r) m = λ s.
+      only
+      (eqb (number m 0) 0 || isEmpty (s .typed .typeAhead) && isEmpty (s .typed .token) && isEmpty (r .input))
+      (completes byUnread 0 r)
+      s
+
+  unfoldable pub unreads : Message ℕ → Part C
+  unreads m s = unreadsWhile (s .read) m s

@@ -1,0 +1,95 @@
+-- Page 01, "What the screen gets": echo, column and line, rubbing out.
+use Prim.Native.Nat.{ℕ, _+_, _-_, _*_, _/_, _%_, min}
+use mathlib.Core.Bool.{Bool, true, false, _||_}
+use mathlib.Core.List.{List, [], _∷_, _++_}
+use lib.Dec.{leb, eqb}
+use lib.ListN.{length, take, drop, replicate}
+use Rattle.rules.specs.Choice.{pick, within, joined}
+use Rattle.rules.specs.Numbers.{topColumn}
+
+abbrev pub BEL : ℕ
+BEL = 7
+
+abbrev pub BS : ℕ
+BS = 8
+
+abbrev pub HT : ℕ
+HT = 9
+
+abbrev pub LF : ℕ
+LF = 10
+
+abbrev pub CR : ℕ
+CR = 13
+
+abbrev pub SP : ℕ
+SP = 32
+
+abbrev pub DEL : ℕ
+DEL = 127
+
+-- a mark or a space: what takes a column
+unfoldable pub isMark : ℕ → Bool
+isMark n = within 32 126 n || within 160 254 n
+
+-- from a column to the next multiple of 8
+abbrev pub toTab : ℕ → ℕ
+toTab column = 8 - column % 8
+
+-- the column after a byte
+unfoldable pub columnAfter : ℕ → ℕ → ℕ
+columnAfter column b =
+    pick (isMark b) (min topColumn (column + 1))
+    (pick (eqb b CR) 0
+    (pick (eqb b BS) (column - 1)
+    (pick (eqb b HT) (min topColumn (column + toTab column))
+    column)))
+
+unfoldable pub columnAfterAll : ℕ → List ℕ → ℕ
+columnAfterAll column [] = column
+columnAfterAll column (b ∷ bs) = columnAfterAll (columnAfter column b) bs
+
+pub record Screen : Type 0 where
+  pub column : ℕ
+  pub line : ℕ
+  -- the last byte that any call wrote was CR
+  pub afterCR : Bool
+
+-- the screen after a byte, and after some
+unfoldable pub shown : Screen → ℕ → Screen
+shown s b =
+    record { column = columnAfter (s .column) b; line = pick (eqb b LF) ((s .line + 1) % 256) (s .line); afterCR = eqb b CR }
+
+unfoldable pub shownAll : Screen → List ℕ → Screen
+shownAll s [] = s
+shownAll s (b ∷ bs) = shownAll (shown s b) bs
+
+-- a change of position, modulo 256: 255 times a number is minus that number
+unfoldable pub change : ℕ → ℕ → ℕ
+change now before = (now + 255 * before) % 256
+
+-- what a character echoes at a column: nothing but marks and spaces
+unfoldable pub echo : ℕ → ℕ → List ℕ
+echo column n =
+    pick (isMark n) (n ∷ [])
+    (pick (eqb n HT) (replicate (toTab column) SP)
+    (pick (leb n 31) (0x5E ∷ (n + 64) ∷ [])
+    (pick (eqb n DEL) (0x5E ∷ 0x3F ∷ [])
+    [])))
+
+-- a terminator's echo: 13 is CR LF
+unfoldable pub terminatorEcho : ℕ → ℕ → List ℕ
+terminatorEcho column n = pick (eqb n CR) (CR ∷ LF ∷ []) (echo column n)
+
+-- the echo of a text from a column on
+unfoldable pub echoAll : ℕ → List ℕ → List ℕ
+echoAll column [] = []
+echoAll column (n ∷ ns) = echo column n ++ echoAll (columnAfterAll column (echo column n)) ns
+
+-- how many marks and spaces stand on the screen for the text behind its first characters, shown from a column on
+unfoldable pub marksBehind : ℕ → ℕ → List ℕ → ℕ
+marksBehind kept column ns = length (echoAll (columnAfterAll column (echoAll column (take kept ns))) (drop kept ns))
+
+-- BS SP BS for each mark
+unfoldable pub rubOut : ℕ → List ℕ
+rubOut marks = joined (replicate marks (BS ∷ SP ∷ BS ∷ []))

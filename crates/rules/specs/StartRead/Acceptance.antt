@@ -1,0 +1,72 @@
+-- Page 01, "Start Read": what acceptance does.
+use Prim.Native.Nat.{ℕ}
+use mathlib.Core.Bool.{Bool, _&&_}
+use mathlib.Core.List.{List, [], _∷_, map}
+use lib.Dec.{eqb}
+use lib.ListN.{take, drop}
+use Rattle.rules.specs.Choice.{pick, bit}
+use Rattle.rules.specs.Messages.Layout.{byteAt}
+use Rattle.rules.specs.Messages.Forms.{Message}
+use Rattle.rules.specs.Screen.{LF}
+use Rattle.rules.specs.State.{Characters, Terms, Reading, State, withHost, withLastSet}
+use Rattle.rules.specs.Turns.{Part, still, writes, changes, _then_, only}
+use Rattle.rules.specs.ReadData.{byFullBuffer, completes}
+use Rattle.rules.specs.Editing.{displays}
+use Rattle.rules.specs.Arrival.{emptiesTyped}
+use Rattle.rules.specs.StartRead as fields
+use Rattle.rules.specs.StartRead.{chosenSet}
+
+-- II and EE: 0 leaves it to the characteristic, 1 is off, 2 is on
+unfoldable pub chosen : ℕ → Bool → Bool
+chosen n characteristic = pick (eqb n 0) characteristic (eqb n 2)
+
+-- with F, a first DATA byte LF is never displayed
+unfoldable pub hidesLF : Message ℕ → Bool
+hidesLF m = eqb (fields.formats m) 1 && eqb (byteAt (m .text) 0) LF
+
+module _ {C : Type 0} (chars : Characters C) where
+  unfoldable pub termsOf : Message ℕ → State C → Terms
+  termsOf m s =
+      record {
+        underflow = fields.underflow m;
+        disables = fields.disables m;
+        raises = chosen (fields.raises m) (s .host .switches .raising);
+        recognises = chosen (fields.escapes m) (s .host .switches .recognising);
+        echoes = eqb (fields.silent m) 0 && s .host .switches .echoing;
+        terminatorEcho = eqb (fields.terminatorEcho m) 1;
+        timed = eqb (fields.timed m) 1;
+        timeout = fields.timeout m;
+        set = chosenSet (s .host .lastSet) m;
+        maxLength = fields.maxLength m;
+        endOfPrompt = fields.endOfPrompt m;
+        prompt = drop (bit (hidesLF m)) (take (fields.endOfPrompt m) (m .text));
+        column = s .terminal .screen .column;
+        line = s .terminal .screen .line;
+      }
+
+  unfoldable pub readingOf : Message ℕ → State C → Reading C
+  readingOf m s =
+      record {
+        terms = termsOf m s;
+        input = map (chars .given) (drop (fields.endOfPrompt m) (m .text));
+        lowWater = fields.lowWater m;
+        hidden = hidesLF m && eqb (fields.endOfPrompt m) 0;
+        from = s .terminal .screen .column;
+        idle = 0;
+      }
+
+  -- ZZ 1 gives the set that ZZ 0 looks at
+  unfoldable pub remembersSet : Message ℕ → Part C
+  remembersSet m = only (eqb (fields.setChoice m) 1) (changes (λ s. withHost (withLastSet (m .set) (s .host)) s))
+
+  -- in page 01's order, the note being in the read that begins here
+  unfoldable pub begins : Message ℕ → Reading C → Part C
+  begins m r =
+      only (eqb (fields.clears m) 1) emptiesTyped then
+      (λ s. only (eqb (fields.formats m) 1 && s .terminal .screen .afterCR) (writes (LF ∷ [])) s) then
+      (λ s. only (s .host .switches .prompting) (writes (1 ∷ [])) s) then
+      displays chars r then
+      only (eqb (fields.endOfData m) (fields.maxLength m)) (completes chars byFullBuffer 0 r)
+
+  unfoldable pub startsRead : Message ℕ → Part C
+  startsRead m s = (begins m (readingOf m s) then remembersSet m) s

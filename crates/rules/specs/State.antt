@@ -1,0 +1,165 @@
+-- The line's state, the typed characters in it, and what became of a key.
+use Prim.Native.Nat.{ℕ, _+_, _-_}
+use mathlib.Core.Bool.{Bool, true, false}
+use mathlib.Core.List.{List, [], _∷_}
+use mathlib.Core.Option.{Option, none, some}
+use lib.ListN.{length, replicate}
+use Rattle.rules.specs.Choice.{pick, within}
+use Rattle.rules.specs.StartRead.{universal}
+use Rattle.rules.specs.Screen.{Screen}
+
+-- Typed characters. The rules are written over any type of them, so that a claim can follow a key through a history.
+pub record Characters (C : Type 0) : Type 0 where
+  pub code : C → ℕ
+  pub raise : C → C
+  -- a character of the text that a Start Read brings
+  pub given : ℕ → C
+
+-- raised form: 97 to 122 less 32, others themselves
+unfoldable pub raised : ℕ → ℕ
+raised n = pick (within 97 122 n) (n - 32) n
+
+-- the characters that a program has: their codes
+abbrev pub codes : Characters ℕ
+codes = record { code = λ n. n; raise = raised; given = λ n. n }
+
+-- the four characteristics that are switches
+pub record Switches : Type 0 where
+  pub raising : Bool
+  pub echoing : Bool
+  pub recognising : Bool
+  pub prompting : Bool
+
+-- what the host has set
+pub record Host : Type 0 where
+  -- Initiate was accepted
+  pub begun : Bool
+  pub switches : Switches
+  -- 256 character attributes
+  pub attributes : List ℕ
+  -- the last set given with ZZ 1, universal if none was
+  pub lastSet : List ℕ
+
+-- what is known of the terminal
+pub record Terminal : Type 0 where
+  pub screen : Screen
+  pub discarding : Bool
+  pub quoting : Bool
+  pub dropped : ℕ
+
+-- a key that waits
+pub record Key (C : Type 0) : Type 0 where
+  pub char : C
+  pub quoted : Bool
+
+-- typed and not yet in a read
+pub record Typed (C : Type 0) : Type 0 where
+  pub typeAhead : List (Key C)
+  -- a partial or held escape token
+  pub token : List C
+
+-- what is fixed for the whole of a read
+pub record Terms : Type 0 where
+  -- UU and DDD
+  pub underflow : ℕ
+  pub disables : ℕ
+  pub raises : Bool
+  pub recognises : Bool
+  pub echoes : Bool
+  -- T
+  pub terminatorEcho : Bool
+  -- Q and TIMEOUT
+  pub timed : Bool
+  pub timeout : ℕ
+  pub set : List ℕ
+  pub maxLength : ℕ
+  pub endOfPrompt : ℕ
+  -- the prompt as it is displayed
+  pub prompt : List ℕ
+  -- the note of column and line
+  pub column : ℕ
+  pub line : ℕ
+
+-- a pending read
+pub record Reading (C : Type 0) : Type 0 where
+  pub terms : Terms
+  -- what stands after END-OF-PROMPT
+  pub input : List C
+  pub lowWater : ℕ
+  -- the input's first character is the LF that F hides
+  pub hidden : Bool
+  -- the column where the data's display last began
+  pub from : ℕ
+  pub idle : ℕ
+
+pub record State (C : Type 0) : Type 0 where
+  pub host : Host
+  pub terminal : Terminal
+  pub typed : Typed C
+  pub read : Option (Reading C)
+
+-- A fresh line.
+unfoldable pub freshSwitches : Switches
+freshSwitches = record { raising = false; echoing = true; recognising = false; prompting = false }
+
+unfoldable pub freshHost : Host
+freshHost = record { begun = false; switches = freshSwitches; attributes = replicate 256 0; lastSet = universal }
+
+unfoldable pub freshTerminal : Terminal
+freshTerminal =
+    record { screen = record { column = 0; line = 0; afterCR = false }; discarding = false; quoting = false; dropped = 0 }
+
+unfoldable pub fresh : {C : Type 0} → State C
+fresh = record { host = freshHost; terminal = freshTerminal; typed = record { typeAhead = []; token = [] }; read = none }
+
+-- One part changed.
+abbrev pub withSwitches : Switches → Host → Host
+withSwitches x h = record { begun = h .begun; switches = x; attributes = h .attributes; lastSet = h .lastSet }
+
+abbrev pub withAttributes : List ℕ → Host → Host
+withAttributes x h = record { begun = h .begun; switches = h .switches; attributes = x; lastSet = h .lastSet }
+
+abbrev pub withLastSet : List ℕ → Host → Host
+withLastSet x h = record { begun = h .begun; switches = h .switches; attributes = h .attributes; lastSet = x }
+
+abbrev pub withBegun : Bool → Host → Host
+withBegun x h = record { begun = x; switches = h .switches; attributes = h .attributes; lastSet = h .lastSet }
+
+module _ {C : Type 0} where
+  abbrev pub withHost : Host → State C → State C
+  withHost x s = record { host = x; terminal = s .terminal; typed = s .typed; read = s .read }
+
+  abbrev pub withTerminal : Terminal → State C → State C
+  withTerminal x s = record { host = s .host; terminal = x; typed = s .typed; read = s .read }
+
+  abbrev pub withTyped : List (Key C) → List C → State C → State C
+  withTyped keys token s =
+      record { host = s .host; terminal = s .terminal; typed = record { typeAhead = keys; token = token }; read = s .read }
+
+  abbrev pub withRead : Option (Reading C) → State C → State C
+  withRead x s = record { host = s .host; terminal = s .terminal; typed = s .typed; read = x }
+
+abbrev pub withScreen : Screen → Terminal → Terminal
+withScreen x t = record { screen = x; discarding = t .discarding; quoting = t .quoting; dropped = t .dropped }
+
+abbrev pub withDiscarding : Bool → Terminal → Terminal
+withDiscarding x t = record { screen = t .screen; discarding = x; quoting = t .quoting; dropped = t .dropped }
+
+abbrev pub withQuoting : Bool → Terminal → Terminal
+withQuoting x t = record { screen = t .screen; discarding = t .discarding; quoting = x; dropped = t .dropped }
+
+abbrev pub withDropped : ℕ → Terminal → Terminal
+withDropped x t = record { screen = t .screen; discarding = t .discarding; quoting = t .quoting; dropped = x }
+
+module _ {C : Type 0} where
+  abbrev pub withInput : List C → Reading C → Reading C
+  withInput x r =
+      record { terms = r .terms; input = x; lowWater = r .lowWater; hidden = r .hidden; from = r .from; idle = r .idle }
+
+  abbrev pub withFrom : ℕ → Reading C → Reading C
+  withFrom x r =
+      record { terms = r .terms; input = r .input; lowWater = r .lowWater; hidden = r .hidden; from = x; idle = r .idle }
+
+  abbrev pub withIdle : ℕ → Reading C → Reading C
+  withIdle x r =
+      record { terms = r .terms; input = r .input; lowWater = r .lowWater; hidden = r .hidden; from = r .from; idle = x }

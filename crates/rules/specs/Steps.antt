@@ -1,0 +1,145 @@
+-- Page 01, "One step": a step takes one key, edits, fills a token or the buffer; and the tick.
+use Prim.Native.Nat.{ℕ, _+_, _-_}
+use mathlib.Core.Bool.{Bool, true, false, not, _&&_, _||_}
+use mathlib.Core.List.{List, [], _∷_, _++_, map}
+use mathlib.Core.Option.{Option, none, some}
+use lib.Dec.{leb, ltb, eqb}
+use lib.ListN.{length}
+use Rattle.rules.specs.Choice.{pick, isEmpty}
+use Rattle.rules.specs.Screen.{BEL, DEL, echo, terminatorEcho}
+use Rattle.rules.specs.State.{Characters, Key, Reading, State, withTyped, withRead, withInput, withIdle}
+use Rattle.rules.specs.StartRead.{inSet}
+use Rattle.rules.specs.Token.{ESC, CSI, standing, isValid, isWhole, isPartial}
+use Rattle.rules.specs.Turns.{Part, edit, control, taken, tokened, edited, still, writes, tells, changes, _then_, only}
+use Rattle.rules.specs.ReadData.{byTerminator, byValidToken, byInvalidToken, byFullBuffer, byTimeout, byUnderflow, byAbsentee}
+use Rattle.rules.specs.ReadData.{tokenCodes, completes}
+use Rattle.rules.specs.Editing.{endOf, inputCodes, leftBy23, deletes, redisplays}
+
+module _ {C : Type 0} where
+  abbrev pub columnNow : State C → ℕ
+  columnNow s = s .terminal .screen .column
+
+  unfoldable pub appended : List C → Reading C → Reading C
+  appended cs r = withInput (r .input ++ cs) r
+
+  -- DDD 1: 21 and 18 do not edit; 2 and 3: none do
+  unfoldable pub editsBy : ℕ → Reading C → Bool
+  editsBy code r =
+      (eqb code DEL || eqb code 23) && leb (r .terms .disables) 1 || (eqb code 21 || eqb code 18) && eqb (r .terms .disables) 0
+
+  unfoldable pub beginsToken : ℕ → Reading C → Bool
+  beginsToken code r = (eqb code ESC || eqb code CSI) && r .terms .recognises
+
+module _ {C : Type 0} (chars : Characters C) where
+  unfoldable pub tokenCode : List C → ℕ
+  tokenCode cs = pick (isValid (standing (map (chars .code) cs))) byValidToken byInvalidToken
+
+  -- a whole token: if it fits the buffer it is appended and completes the read, else absentee, and it stays held
+  unfoldable pub takesToken : Reading C → Part C
+  takesToken r s =
+      pick (leb (endOf r + length (s .typed .token)) (r .terms .maxLength))
+      (changes (withTyped (s .typed .typeAhead) []) then
+      completes chars (tokenCode (s .typed .token)) (length (s .typed .token)) (appended (s .typed .token) r))
+      (completes chars byAbsentee 0 r)
+      s
+
+  -- rules 1 and 3: a key goes into a token, and a finished one is treated as held, in the same step
+  unfoldable pub addsToToken : C → Reading C → Part C
+  addsToToken c r =
+      tells (tokened c ∷ []) then
+      changes (λ s. withTyped (s .typed .typeAhead) (s .typed .token ++ c ∷ []) s) then
+      (λ s. only (isWhole (tokenCodes chars s)) (takesToken r) s)
+
+  -- rule 7, data: append, echo; complete, buffer full, at MAX-LENGTH
+  unfoldable pub takesData : C → Reading C → Part C
+  takesData c r =
+      changes (withRead (some (appended (c ∷ []) r))) then
+      (λ s. writes (pick (r .terms .echoes) (echo (columnNow s) (chars .code c)) []) s) then
+      only (eqb (endOf r + 1) (r .terms .maxLength)) (completes chars byFullBuffer 0 (appended (c ∷ []) r))
+
+  -- rule 5, a terminator: it echoes only with T and in a read that echoes
+  unfoldable pub terminates : C → Reading C → Part C
+  terminates c r =
+      (λ s. writes (pick (r .terms .terminatorEcho && r .terms .echoes) (terminatorEcho (columnNow s) (chars .code c)) []) s) then
+      completes chars byTerminator 1 (appended (c ∷ []) r)
+
+  -- 127 or 23 with nothing to delete, by UU
+  unfoldable pub underflows : C → Reading C → Part C
+  underflows c r =
+      pick (eqb (r .terms .underflow) 2) (completes chars byUnderflow 1 (appended (c ∷ []) r))
+      (tells (control edit c ∷ []) then only (eqb (r .terms .underflow) 1) (writes (BEL ∷ [])))
+
+  -- 127 and 23, which leave so many characters
+  unfoldable pub erases : ℕ → C → Reading C → Part C
+  erases left c r =
+      pick (isEmpty (r .input)) (underflows c r) (tells (control edit c ∷ []) then deletes chars edited left r)
+
+  unfoldable pub erasesAll : C → Reading C → Part C
+  erasesAll c r = tells (control edit c ∷ []) then deletes chars edited 0 r
+
+  unfoldable pub showsAgain : C → Reading C → Part C
+  showsAgain c r = tells (control edit c ∷ []) then redisplays chars r
+
+  -- rule 6
+  unfoldable pub edits : C → Reading C → Part C
+  edits c r =
+      pick (eqb (chars .code c) DEL) (erases (length (r .input) - 1) c r)
+      (pick (eqb (chars .code c) 23) (erases (leftBy23 (inputCodes chars r)) c r)
+      (pick (eqb (chars .code c) 21) (erasesAll c r)
+      (showsAgain c r)))
+
+  -- rules 5, 6 and 7, after raising
+  unfoldable pub takesPlain : C → Reading C → Part C
+  takesPlain c r =
+      pick (inSet (r .terms .set) (chars .code c)) (terminates c r)
+      (pick (editsBy (chars .code c) r) (edits c r)
+      (takesData c r))
+
+  -- rule 4
+  unfoldable pub raisedBy : Reading C → C → C
+  raisedBy r c = pick (r .terms .raises) (chars .raise c) c
+
+  -- the rules in order
+  unfoldable pub takes : Key C → Reading C → Part C
+  takes k r s =
+      pick (isPartial (tokenCodes chars s)) (addsToToken (k .char) r)
+      (pick (k .quoted) (takesData (k .char) r)
+      (pick (beginsToken (chars .code (k .char)) r) (addsToToken (k .char) r)
+      (takesPlain (raisedBy r (k .char)) r)))
+      s
+
+  -- one key is taken from type-ahead, and idle is 0; with type-ahead empty a read with Q and TIMEOUT 0 completes
+  unfoldable pub takesFirst : List (Key C) → Reading C → Part C
+  takesFirst [] r = only (r .terms .timed && eqb (r .terms .timeout) 0) (completes chars byTimeout 0 r)
+  takesFirst (k ∷ ks) r =
+      tells (taken (k .char) (r .terms) ∷ []) then
+      changes (λ s. withRead (some (withIdle 0 r)) (withTyped ks (s .typed .token) s)) then
+      takes k (withIdle 0 r)
+
+  -- a whole held token goes first
+  unfoldable pub stepsWhile : Option (Reading C) → Part C
+  stepsWhile none = still
+  stepsWhile (some r) = λ s. pick (isWhole (tokenCodes chars s)) (takesToken r) (takesFirst (s .typed .typeAhead) r) s
+
+  unfoldable pub steps : Part C
+  steps s = stepsWhile (s .read) s
+
+  -- Tick: idle rises by one; at TIMEOUT the read completes
+  unfoldable pub idles : Reading C → Part C
+  idles r =
+      pick (leb (r .terms .timeout) (r .idle + 1)) (completes chars byTimeout 0 r)
+      (changes (withRead (some (withIdle (r .idle + 1) r))))
+
+  unfoldable pub ticksWhile : Option (Reading C) → Part C
+  ticksWhile none = still
+  ticksWhile (some r) = λ s.
+      only
+      (r .terms .timed &&
+      ltb 0 (r .terms .timeout) &&
+      isEmpty (s .typed .typeAhead) &&
+      not (isWhole (tokenCodes chars s)))
+      (idles r)
+      s
+
+  unfoldable pub ticks : Part C
+  ticks s = ticksWhile (s .read) s

@@ -1,0 +1,80 @@
+-- What a call does, put together from parts: each writes bytes, sends messages, says what became of keys, and hands the state on.
+use Prim.Native.Nat.{ℕ}
+use mathlib.Core.Bool.{Bool}
+use mathlib.Core.List.{List, [], _∷_, _++_}
+use Rattle.rules.specs.Choice.{pick}
+use Rattle.rules.specs.Messages.Forms.{Message}
+use Rattle.rules.specs.Screen.{shownAll}
+use Rattle.rules.specs.State.{Terms, State, withTerminal, withScreen}
+
+-- the ways a key is used as a control
+pub data Control : Type 0 where
+  quote clear discard outOfBand edit : Control
+
+-- What became of a key.
+pub data Fate (C : Type 0) : Type 0 where
+  -- it arrived; its attribute was then hello or immediate clear, or not
+  arrived : C → Bool → Fate C
+  control : Control → C → Fate C
+  dropped : C → Fate C
+  -- a step took it, while a read with these terms was pending
+  taken : C → Terms → Fate C
+  tokened : C → Fate C
+  -- by the clear rule, or by a Start Read's C
+  cleared : C → Fate C
+  -- with a partial token, at a completion
+  lost : C → Fate C
+  -- by editing
+  edited : C → Fate C
+
+pub record Turn (C : Type 0) : Type 0 where
+  pub bytes : List ℕ
+  pub messages : List (Message C)
+  pub fates : List (Fate C)
+  pub state : State C
+
+abbrev pub Part : Type 0 → Type 0
+Part C = State C → Turn C
+
+module _ {C : Type 0} where
+  infixr 20 _then_
+  -- nothing
+  unfoldable pub still : Part C
+  still s = record { bytes = []; messages = []; fates = []; state = s }
+
+  -- terminal bytes
+  unfoldable pub writes : List ℕ → Part C
+  writes bs s =
+      record {
+        bytes = bs;
+        messages = [];
+        fates = [];
+        state = withTerminal (withScreen (shownAll (s .terminal .screen) bs) (s .terminal)) s;
+      }
+
+  unfoldable pub sends : Message C → Part C
+  sends m s = record { bytes = []; messages = m ∷ []; fates = []; state = s }
+
+  unfoldable pub tells : List (Fate C) → Part C
+  tells fs s = record { bytes = []; messages = []; fates = fs; state = s }
+
+  unfoldable pub changes : (State C → State C) → Part C
+  changes f s = record { bytes = []; messages = []; fates = []; state = f s }
+
+  -- the second's bytes, messages and fates behind the first's
+  unfoldable pub behind : Turn C → Turn C → Turn C
+  behind t u =
+      record {
+        bytes = t .bytes ++ u .bytes;
+        messages = t .messages ++ u .messages;
+        fates = t .fates ++ u .fates;
+        state = u .state;
+      }
+
+  -- one part, then the next from the state it left
+  unfoldable pub _then_ : Part C → Part C → Part C
+  (f then g) s = let t = f s in behind t (g (t .state))
+
+  -- a part where a test holds, nothing where it does not
+  unfoldable pub only : Bool → Part C → Part C
+  only test f = pick test f still

@@ -1,0 +1,106 @@
+-- One name that opens every definition, for what is proved by computing: a part for each file, and the whole.
+use mathlib.Core.List.{zipWith}
+use Rattle.rules.specs.Choice
+use Rattle.rules.specs.Numbers
+use Rattle.rules.specs.Messages.Layout
+use Rattle.rules.specs.Messages.Parameters
+use Rattle.rules.specs.Messages.Forms
+use Rattle.rules.specs.Messages.Codec
+use Rattle.rules.specs.StartRead
+use Rattle.rules.specs.Screen
+use Rattle.rules.specs.State
+use Rattle.rules.specs.Turns
+use Rattle.rules.specs.Token
+use Rattle.rules.specs.ReadData
+use Rattle.rules.specs.Editing
+use Rattle.rules.specs.Arrival
+use Rattle.rules.specs.StartRead.Acceptance
+use Rattle.rules.specs.Steps
+use Rattle.rules.specs.Characteristics
+use Rattle.rules.specs.Host
+use Rattle.rules.specs.Calls
+use Rattle.rules.specs.Bench
+
+unfoldable pub openChoice : Unit {0}
+unfolding Choice.pick Choice.within Choice.bit Choice.isEmpty Choice.all Choice.any Choice.joined
+openChoice = tt
+
+unfoldable pub openNumbers : Unit {0}
+unfolding Numbers.inputSize Numbers.typeAheadSize Numbers.tokenSize Numbers.messageSize Numbers.terminalArea Numbers.messageArea Numbers.topColumn Numbers.topDropped
+openNumbers = tt
+
+unfoldable pub openLayout : Unit {0}
+unfolding Layout.fieldsIn Layout.numberOf Layout.fits Layout.sizeOf Layout.widthsOf Layout.readGroups Layout.writeGroups
+openLayout = tt
+
+unfoldable pub openParameters : Unit {0}
+unfolding zipWith Parameters.definedSelector Parameters.questionLimits Parameters.valueLimits Parameters.definedValue Parameters.under Parameters.limitsOf Parameters.sizeOf Parameters.soundParameter Parameters.fitsParameter Parameters.cleaned Parameters.cut
+openParameters = tt
+
+unfoldable pub openForms : Unit {0}
+unfolding Forms.forms Forms.formOf
+openForms = tt
+
+unfoldable pub openCodec : Unit {0}
+unfolding Codec.definedKind Codec.definedFields Codec.wholeTail Codec.setIn Codec.parametersIn Codec.textIn Codec.behindHead Codec.fieldsAs Codec.soundAs Codec.soundLength Codec.read Codec.allBytes Codec.tailBytes Codec.bytesAs Codec.fitsTail Codec.fitsAs Codec.kindOf Codec.bytesOf Codec.fitsHeld Codec.written
+openCodec = tt
+
+unfoldable pub openStartRead : Unit {0}
+unfolding StartRead.soundStartRead StartRead.inSet StartRead.universal StartRead.chosenSet
+openStartRead = tt
+
+unfoldable pub openScreen : Unit {0}
+unfolding Screen.isMark Screen.columnAfter Screen.columnAfterAll Screen.shown Screen.shownAll Screen.change Screen.echo Screen.terminatorEcho Screen.echoAll Screen.marksBehind Screen.rubOut
+openScreen = tt
+
+unfoldable pub openState : Unit {0}
+unfolding State.raised State.freshSwitches State.freshHost State.freshTerminal State.fresh
+openState = tt
+
+unfoldable pub openTurns : Unit {0}
+unfolding Turns.still Turns.writes Turns.sends Turns.tells Turns.changes Turns.behind Turns._then_ Turns.only
+openTurns = tt
+
+unfoldable pub openToken : Unit {0}
+unfolding Token.next Token.placeFrom Token.isFinished Token.isValid Token.standing Token.isWhole Token.isPartial
+openToken = tt
+
+unfoldable pub openReadData : Unit {0}
+unfolding ReadData.waitingCount ReadData.checksInput ReadData.moreData ReadData.answerOf ReadData.losesPartial ReadData.completes ReadData.unreadsWhile ReadData.unreads
+openReadData = tt
+
+unfoldable pub openEditing : Unit {0}
+unfolding Editing.isWord Editing.leading Editing.leftBy23 Editing.endOf Editing.hiddenCount Editing.shortened Editing.deletesUnseen Editing.displayed Editing.rubbing Editing.deletes Editing.displays Editing.redisplays
+openEditing = tt
+
+unfoldable pub openArrival : Unit {0}
+unfolding Arrival.isImmediateClear Arrival.isHello Arrival.idleAgain Arrival.keeps Arrival.drops Arrival.stores Arrival.storesQuoted Arrival.quotes Arrival.flipsDiscard Arrival.passesControls Arrival.emptiesTyped Arrival.clearsUnseen Arrival.clearsSeen Arrival.clears Arrival.clearsBy Arrival.sendsOutOfBand Arrival.endsOutOfBand Arrival.clearsAtOnce Arrival.controlled Arrival.ruled Arrival.arrives
+openArrival = tt
+
+unfoldable pub openAcceptance : Unit {0}
+unfolding Acceptance.chosen Acceptance.hidesLF Acceptance.termsOf Acceptance.readingOf Acceptance.remembersSet Acceptance.begins Acceptance.startsRead
+openAcceptance = tt
+
+unfoldable pub openSteps : Unit {0}
+unfolding Steps.appended Steps.editsBy Steps.beginsToken Steps.tokenCode Steps.takesToken Steps.addsToToken Steps.takesData Steps.terminates Steps.underflows Steps.erases Steps.erasesAll Steps.showsAgain Steps.edits Steps.takesPlain Steps.raisedBy Steps.takes Steps.takesFirst Steps.stepsWhile Steps.steps Steps.idles Steps.ticksWhile Steps.ticks
+openSteps = tt
+
+unfoldable pub openCharacteristics : Unit {0}
+unfolding Characteristics.isCarried Characteristics.masked Characteristics.withAttribute Characteristics.withSwitch Characteristics.withParameter Characteristics.withParameters Characteristics.isDeferredClear Characteristics.switchOf Characteristics.reported Characteristics.report Characteristics.carriesSettings
+openCharacteristics = tt
+
+unfoldable pub openHost : Unit {0}
+unfolding Host.ourInitiate Host.initiates Host.completion Host.writesOut Host.reports Host.setsCharacteristics Host.obeys
+openHost = tt
+
+unfoldable pub openCalls : Unit {0}
+unfolding Calls.framed Calls.areaAfter Calls.mapText Calls.sentBytes Calls.isServers Calls.carriesStartRead Calls.carriesWrite Calls.isPending Calls.isTimely Calls.carriesQuestions Calls.isCarriedBy Calls.judged Calls.considered Calls.refuses Calls.does Calls.isRoomy Calls.hears Calls.answers Calls.answer Calls.messageBytes Calls.runFrom Calls.run
+openCalls = tt
+
+unfoldable pub openBench : Unit {0}
+unfolding Bench.same Bench.sameAll Bench.readsAs Bench.endsIn Bench.copied Bench.answersAs Bench.runsAs Bench.holds Bench.failures
+openBench = tt
+
+unfoldable pub whole : Unit {0}
+unfolding openChoice openNumbers openLayout openParameters openForms openCodec openStartRead openScreen openState openTurns openToken openReadData openEditing openArrival openAcceptance openSteps openCharacteristics openHost openCalls openBench
+whole = tt

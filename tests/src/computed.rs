@@ -1,0 +1,156 @@
+//! Lets the checker compute the definitions of `rules` over scripts: a scratch
+//! repository holds a copy of `rules` and a crate that states each script as
+//! rows of the bench table's form, and that all of them hold.
+
+use crate::script::{lines, parse, Order, Runner};
+use std::fmt::Write as _;
+use std::fs;
+use std::io;
+use std::path::{Path, PathBuf};
+use std::process::{Command, Output};
+
+/// A script and the answers it must give.
+pub struct Script {
+    pub orders: Vec<u8>,
+    pub answers: Vec<u8>,
+}
+
+const HEADER: &str = "\
+use Prim.Native.Nat.{ℕ}
+use mathlib.Core.Path.{_≡_, refl}
+use mathlib.Core.List.{List, [], _∷_}
+use Rattle.rules.specs.Calls.{key, step, tick, message}
+use Rattle.rules.specs.Bench.{Row, runs, copies, failures, asked}
+use Rattle.rules.specs.Whole.{whole}
+
+";
+
+/// The rows of a script, and how many calls they hold. A line that is no order
+/// is not a call; the dropped counts between two `D` come from the second
+/// implementation, which answers each `D` too.
+fn rows(script: &Script) -> (String, usize) {
+    let mut answers = lines(&script.answers);
+    let (mut rows, mut calls) = (String::new(), 0);
+    let mut run = String::new();
+    let mut runner = Runner::default();
+    let mut areas = (4096, 256);
+    for text in lines(&script.orders) {
+        let mut ours = Vec::new();
+        runner.run(text, &mut ours);
+        let answer = if ours.is_empty() { Vec::new() } else { words(answers.next()) };
+        match parse(text) {
+            Some(Order::Lengths(next)) => areas = (next.terminal, next.message),
+            Some(Order::Fresh) => {
+                end_run(&mut run, &mut rows);
+                areas = (4096, 256);
+            }
+            Some(Order::Read(bytes)) => {
+                let (number, again) = (&answer[0], list(&hex(&answer[1])));
+                writeln!(rows, "    copies {} {number} {again} ∷", list(&bytes)).unwrap();
+                calls += 1;
+            }
+            Some(Order::Dropped) => assert_eq!(answer[0], runner.dropped().to_string()),
+            None => assert_eq!(answer[0], "?"),
+            Some(order) => {
+                let (terminal, messages) = (list(&hex(&answer[1])), list(&hex(&answer[2])));
+                let (event, dropped) = (event(&order), runner.dropped());
+                let (a, b) = areas;
+                writeln!(run, "    asked {a} {b} {event} {} {terminal} {messages} {dropped} ∷", answer[0])
+                    .unwrap();
+                calls += 1;
+            }
+        }
+    }
+    end_run(&mut run, &mut rows);
+    (rows, calls)
+}
+
+fn end_run(run: &mut String, rows: &mut String) {
+    if !run.is_empty() {
+        write!(rows, "    runs (\n{run}    []) ∷\n").unwrap();
+        run.clear();
+    }
+}
+
+fn event(order: &Order) -> String {
+    match order {
+        Order::Key(code) => format!("(key {code})"),
+        Order::Host(bytes) => format!("(message {})", list(bytes)),
+        Order::Step => "step".into(),
+        _ => "tick".into(),
+    }
+}
+
+fn words(answer: Option<&[u8]>) -> Vec<String> {
+    let text = String::from_utf8_lossy(answer.unwrap_or_default());
+    text.split(' ').map(String::from).collect()
+}
+
+fn hex(digits: &str) -> Vec<u8> {
+    if digits == "-" {
+        return Vec::new();
+    }
+    let bytes = digits.as_bytes().chunks(2);
+    bytes.map(|two| u8::from_str_radix(std::str::from_utf8(two).unwrap(), 16).unwrap()).collect()
+}
+
+/// A list as antt writes it.
+fn list(bytes: &[u8]) -> String {
+    if bytes.is_empty() {
+        return "[]".into();
+    }
+    let mut text = String::from("(");
+    for byte in bytes {
+        write!(text, "{byte} ∷ ").unwrap();
+    }
+    text + "[])"
+}
+
+fn copy(from: &Path, to: &Path) -> io::Result<()> {
+    fs::create_dir_all(to)?;
+    for entry in fs::read_dir(from)? {
+        let entry = entry?;
+        let (old, new) = (entry.path(), to.join(entry.file_name()));
+        if old.is_dir() {
+            copy(&old, &new)?;
+        } else {
+            fs::copy(&old, &new)?;
+        }
+    }
+    Ok(())
+}
+
+/// Writes the scratch repository; gives the number of calls in it.
+fn lay_out(repository: &Path, scratch: &Path, scripts: &[Script]) -> io::Result<usize> {
+    let specs = scratch.join("crates/scripts/specs");
+    fs::create_dir_all(&specs)?;
+    fs::create_dir_all(scratch.join("crates/scripts/src"))?;
+    for part in ["src", "specs"] {
+        copy(&repository.join("crates/rules").join(part), &scratch.join("crates/rules").join(part))?;
+    }
+    fs::write(scratch.join("crates.txt"), "rules:\nscripts: rules\n")?;
+    fs::write(scratch.join("crates/scripts/src/lib.rt"), "pub const SCRIPTS: usize = 1;\n")?;
+    let (mut root, mut calls) = (String::new(), 0);
+    for (number, script) in scripts.iter().enumerate() {
+        let (rows, count) = rows(script);
+        let text = format!(
+            "{HEADER}rows : List Row\nrows =\n{rows}    []\n\nhold : failures 0 rows ≡ []\nunfolding whole rows\nhold = refl\n"
+        );
+        fs::write(specs.join(format!("Script{number}.antt")), text)?;
+        writeln!(root, "pub mod Script{number}").unwrap();
+        calls += count;
+    }
+    fs::write(specs.join("Lib.antt"), root)?;
+    Ok(calls)
+}
+
+/// The checker's verdict on the definitions at `repository` over all scripts,
+/// and the number of calls that it computed.
+pub fn check(repository: &Path, scripts: &[Script]) -> io::Result<(Output, usize)> {
+    let name = format!("shekuftav-computed-{}", std::process::id());
+    let scratch: PathBuf = std::env::temp_dir().join(name);
+    let calls = lay_out(repository, &scratch, scripts)?;
+    let output = Command::new("rt").arg("check").current_dir(&scratch).output()?;
+    fs::remove_dir_all(&scratch)?;
+    Ok((output, calls))
+}

@@ -1,0 +1,208 @@
+//! Makes random scripts that reach deep states, from a seed.
+
+mod messages;
+mod random;
+mod refusals;
+mod scenes;
+mod typing;
+
+use crate::line::{Areas, Line};
+use crate::message::{Message, StartRead};
+use crate::script::Order;
+use random::Random;
+use std::fmt::Write as _;
+
+/// Makes a script with at least this many calls.
+pub fn script(seed: u64, calls: usize) -> String {
+    let mut generator = Generator {
+        random: Random::new(seed),
+        text: String::new(),
+        calls: 0,
+        line: Line::default(),
+        areas: Areas::default(),
+    };
+    generator.beginning();
+    while generator.calls < calls {
+        generator.scene();
+    }
+    generator.text
+}
+
+struct Generator {
+    random: Random,
+    text: String,
+    calls: usize,
+    /// Follows the script, so that scenes know whether a read is pending and
+    /// how much waits: without it most typing would meet no read.
+    line: Line,
+    areas: Areas,
+}
+
+impl Generator {
+    /// Writes an order down and lets the line follow it.
+    fn order(&mut self, order: Order) {
+        let counts = !matches!(order, Order::Lengths(_) | Order::Fresh | Order::Dropped);
+        self.calls += usize::from(counts);
+        match &order {
+            Order::Key(code) => {
+                let _ = write!(self.text, "K {code:02X}");
+                self.line.key(*code, self.areas);
+            }
+            Order::Step => {
+                self.text.push('S');
+                self.line.step(self.areas);
+            }
+            Order::Tick => {
+                self.text.push('T');
+                self.line.tick(self.areas);
+            }
+            Order::Host(bytes) => {
+                self.hex('M', bytes);
+                self.line.host(bytes, self.areas);
+            }
+            Order::Lengths(areas) => {
+                let _ = write!(self.text, "A {} {}", areas.terminal, areas.message);
+                self.areas = *areas;
+            }
+            Order::Fresh => {
+                self.text.push('F');
+                self.line = Line::default();
+                self.areas = Areas::default();
+            }
+            Order::Read(bytes) => self.hex('R', bytes),
+            Order::Dropped => self.text.push('D'),
+        }
+        self.text.push('\n');
+    }
+
+    fn hex(&mut self, word: char, bytes: &[u8]) {
+        self.text.push(word);
+        if !bytes.is_empty() {
+            self.text.push(' ');
+        }
+        for byte in bytes {
+            let _ = write!(self.text, "{byte:02X}");
+        }
+    }
+
+    fn key(&mut self, code: u8) {
+        self.order(Order::Key(code));
+    }
+
+    fn step(&mut self) {
+        self.order(Order::Step);
+    }
+
+    fn tick(&mut self) {
+        self.order(Order::Tick);
+    }
+
+    fn send(&mut self, bytes: &[u8]) {
+        self.order(Order::Host(bytes.to_vec()));
+    }
+
+    fn host(&mut self, message: &Message) {
+        self.send(&messages::bytes_of(message));
+    }
+
+    /// One scene; a script is a row of them.
+    fn scene(&mut self) {
+        match self.random.below(100) {
+            0..=25 => self.read(),
+            26 => self.many_lines(),
+            27..=29 => self.idling(),
+            30..=37 => self.tokens(),
+            38..=47 => self.typing(),
+            48..=55 => self.write(),
+            56..=60 => self.characteristics(),
+            61..=63 => self.read_characteristics(),
+            64..=66 => self.out_of_band(),
+            67..=71 => self.small_requests(),
+            72..=74 => self.ticks(),
+            75 => self.flood(),
+            76 => self.far_right(),
+            77 => self.small_areas(),
+            78 => self.absentee(),
+            79..=83 => self.reading(),
+            84..=88 => self.spoiled(),
+            89..=92 => self.sound_message(),
+            93 => self.wrong_length(),
+            94 if self.random.chance(50) => self.stray_line(),
+            94 => self.edge_values(),
+            95 => self.order(Order::Dropped),
+            96 => self.hidden_lf(),
+            97 => self.narrow_tab(),
+            _ => self.fresh(),
+        }
+    }
+
+    fn beginning(&mut self) {
+        if self.random.chance(35) {
+            for _ in 0..self.random.below(4) {
+                let code = typing::key(&mut self.random);
+                self.key(code);
+            }
+        }
+        match self.random.below(20) {
+            0 => self.sound_message(),
+            1 => self.spoiled(),
+            2 => self.flood(),
+            _ => {}
+        }
+        if self.random.chance(98) {
+            let initiate = messages::initiate(&mut self.random);
+            self.host(&initiate);
+        }
+    }
+
+    fn fresh(&mut self) {
+        self.order(Order::Fresh);
+        self.beginning();
+    }
+
+    /// Ends the read there is, most of the time, and starts one.
+    fn start(&mut self, change: impl FnOnce(&mut Random, &mut StartRead)) {
+        if self.line.read_pending() && self.random.chance(90) {
+            self.send(&[5, 0]);
+        }
+        if self.line.waiting() > 12 && self.random.chance(60) {
+            self.send(&[6, 0]);
+        }
+        let mut read = messages::start_read(&mut self.random);
+        change(&mut self.random, &mut read);
+        self.host(&Message::StartRead(read));
+    }
+
+    fn write(&mut self) {
+        if self.random.chance(30) {
+            self.key(15);
+        }
+        for _ in 0..self.random.between(1, 3) {
+            let write = messages::write(&mut self.random);
+            self.host(&Message::Write(write));
+        }
+    }
+
+    fn characteristics(&mut self) {
+        let values = messages::carried_values(&mut self.random);
+        self.host(&Message::Characteristics(values));
+    }
+
+    fn read_characteristics(&mut self) {
+        let outside = self.random.chance(15);
+        let wanted = messages::wanted(&mut self.random, outside);
+        self.host(&Message::ReadCharacteristics(wanted));
+    }
+
+    fn small_requests(&mut self) {
+        if self.random.chance(30) {
+            self.settle();
+        }
+        match self.random.below(7) {
+            0 => self.send(&[5, 0]),
+            1..=3 => self.send(&[5, 1]),
+            4 => self.send(&[6, 0]),
+            _ => self.send(&[12, 0]),
+        }
+    }
+}

@@ -1,0 +1,109 @@
+//! Scenes that end in refusals, and reading without a line.
+
+use super::{messages, typing, Generator};
+use crate::line::Areas;
+use crate::message::{Message, Value};
+use crate::script::Order;
+
+impl Generator {
+    pub(super) fn small_areas(&mut self) {
+        let terminal = self.random.pick(&[4096, 4096, 4095, 0, 5000, 65_535]);
+        let message = self.random.pick(&[256, 256, 255, 0, 300, 65_535]);
+        self.order(Order::Lengths(Areas { terminal, message }));
+        match self.random.below(4) {
+            0 => self.read(),
+            1 => self.small_requests(),
+            2 => self.type_keys(6),
+            _ => self.sound_message(),
+        }
+        self.ticks();
+        self.order(Order::Lengths(Areas::default()));
+    }
+
+    /// Reading without a line.
+    pub(super) fn reading(&mut self) {
+        let kind = self.random.between(1, 14);
+        let mut bytes = messages::bytes_of(&messages::sound(kind, &mut self.random));
+        match self.random.below(6) {
+            0..=2 => bytes = messages::damaged(bytes, &mut self.random),
+            3 if self.random.chance(10) => {
+                let length = self.random.between(1, 260);
+                bytes = self.random.bytes(length);
+            }
+            _ => {}
+        }
+        self.order(Order::Read(bytes));
+    }
+
+    pub(super) fn spoiled(&mut self) {
+        if self.line.read_pending() && self.random.chance(50) {
+            self.send(&[5, 0]);
+        }
+        let kind = self.random.pick(&[1, 2, 2, 2, 2, 5, 6, 7, 7, 10, 10, 11, 11, 11, 12]);
+        let sound = messages::bytes_of(&messages::sound(kind, &mut self.random));
+        let bytes = messages::damaged(sound, &mut self.random);
+        self.send(&bytes);
+    }
+
+    pub(super) fn sound_message(&mut self) {
+        if self.line.read_pending() && self.random.chance(50) {
+            self.send(&[5, 0]);
+        }
+        let kind =
+            self.random.pick(&[1, 2, 2, 2, 2, 3, 4, 5, 6, 7, 7, 8, 9, 10, 11, 11, 12, 13, 14]);
+        let message = messages::sound(kind, &mut self.random);
+        self.host(&message);
+    }
+
+    pub(super) fn wrong_length(&mut self) {
+        let length = self.random.pick(&[0, 255, 256, 257, 258, 300]);
+        let mut bytes = vec![b'a'; length];
+        let front = [7, 32, 0, 0, 0];
+        for (place, byte) in bytes.iter_mut().zip(front) {
+            *place = byte;
+        }
+        if self.random.chance(50) {
+            self.send(&bytes);
+        } else {
+            self.order(Order::Read(bytes));
+        }
+    }
+
+    /// A line of no known form.
+    pub(super) fn stray_line(&mut self) {
+        let stray = ["", "K", "K 1", "K 123", "k 41", "S ", "M 0", "M 0G", "A 1", "A 65536 256"];
+        let more =
+            ["A 1 2 3", "A -1 256", "A 100000 1", "Q", " S", "M  0500", "T 1", "R 012", "K  41"];
+        let line =
+            if self.random.chance(50) { self.random.pick(&stray) } else { self.random.pick(&more) };
+        self.text.push_str(line);
+        self.text.push('\n');
+    }
+
+    /// Values that are not defined, and characters left deferred-clear or not.
+    pub(super) fn edge_values(&mut self) {
+        let undefined: [&[u8]; 8] = [
+            &[7, 0xC0, 0, 0, 0],
+            &[7, 0, 3, 0, 0, b'x'],
+            &[11, 0, 8, 2, 0, 0],
+            &[11, 0, 8, 2, 4, 0],
+            &[11, 0, 8, 2, 1, 1],
+            &[11, 0, 9, 2, 1, 8, 2, 0, 1],
+            &[11, 0, 8, 2, 3, 0],
+            &[3, 14, 0, 0, 0, 0, 0, 0],
+        ];
+        if self.random.chance(50) {
+            let bytes = self.random.pick(&undefined).to_vec();
+            self.order(Order::Read(bytes.clone()));
+            return self.send(&bytes);
+        }
+        let character = self.random.pick(&typing::OUT_OF_BAND);
+        let mut values = vec![Value::Attributes { character, mask: 3, attributes: 2 }];
+        if self.random.chance(40) {
+            let attributes = self.random.pick(&[0, 1, 3]);
+            let mask = self.random.pick(&[1, 2, 3]);
+            values.push(Value::Attributes { character, mask, attributes });
+        }
+        self.host(&Message::Characteristics(values));
+    }
+}

@@ -1,0 +1,10 @@
+//! A second console end of a command terminal line, written from document 01
+//! alone so that another program can be compared with it byte for byte.
+
+pub mod computed;
+pub mod coverage;
+pub mod generator;
+pub mod line;
+pub mod message;
+pub mod screen;
+pub mod script;

@@ -1,0 +1,106 @@
+//! A key arrives: the four arrival rules.
+
+use super::{Answer, Key, Line, TYPE_AHEAD};
+use crate::coverage::Rule;
+use crate::message::Message;
+use crate::screen::BEL;
+
+/// The out-of-band field of an attribute.
+const OUT_OF_BAND: u8 = 3;
+const IMMEDIATE_CLEAR: u8 = 1;
+const HELLO: u8 = 3;
+
+const DISCARD_KEY: u8 = 15;
+const QUOTE_KEY: u8 = 22;
+const CLEAR_KEY: u8 = 24;
+
+impl Line {
+    pub(super) fn arrive(&mut self, code: u8, out: &mut Answer) {
+        if !self.initiated {
+            self.seen.met(Rule::KeyBeforeInitiate);
+            return self.store(code, false, out);
+        }
+        let out_of_band = self.attributes[usize::from(code)] & OUT_OF_BAND;
+        if self.quote_pending {
+            self.quote_pending = false;
+            self.seen.met(Rule::KeyQuoted);
+            self.seen.met_if(out_of_band != 0, Rule::KeyQuotedOutOfBand);
+            return self.store(code, true, out);
+        }
+        let all_off = self.read.as_ref().is_some_and(|read| read.disable == 3);
+        self.seen.met_if(out_of_band != 0 && all_off, Rule::KeyOutOfBandInDdd3);
+        match (out_of_band, code) {
+            (HELLO, _) => {
+                self.seen.met(Rule::KeyHello);
+                self.send(Message::OutOfBand { discard: false, character: code }, out);
+            }
+            (IMMEDIATE_CLEAR, _) => self.immediate_clear(code, out),
+            (_, QUOTE_KEY | CLEAR_KEY | DISCARD_KEY) if !all_off => self.control(code, out),
+            _ => {
+                self.seen.met_if(all_off && code == QUOTE_KEY, Rule::KeyQuoteDdd3);
+                self.seen.met_if(all_off && code == CLEAR_KEY, Rule::KeyClearDdd3);
+                self.seen.met_if(all_off && code == DISCARD_KEY, Rule::KeyDiscardDdd3);
+                self.store(code, false, out);
+            }
+        }
+    }
+
+    fn immediate_clear(&mut self, code: u8, out: &mut Answer) {
+        self.send(Message::OutOfBand { discard: false, character: code }, out);
+        self.clear(false, out);
+        if self.read.is_some() {
+            self.seen.met(Rule::KeyImmediateClearRead);
+            self.complete(super::reads::OUT_OF_BAND, 0, out);
+        } else {
+            self.seen.met(Rule::KeyImmediateClearIdle);
+        }
+    }
+
+    fn control(&mut self, code: u8, out: &mut Answer) {
+        match code {
+            QUOTE_KEY => {
+                self.seen.met(Rule::KeyQuote);
+                self.quote_pending = true;
+            }
+            CLEAR_KEY => {
+                let pending = self.read.is_some();
+                self.seen.met(if pending { Rule::KeyClearRead } else { Rule::KeyClearIdle });
+                self.clear(true, out);
+            }
+            _ => {
+                self.discard = !self.discard;
+                let rule = if self.discard { Rule::KeyDiscardOn } else { Rule::KeyDiscardOff };
+                self.seen.met(rule);
+                self.send(Message::DiscardState { shown: !self.discard }, out);
+            }
+        }
+    }
+
+    fn store(&mut self, code: u8, quoted: bool, out: &mut Answer) {
+        if self.type_ahead.len() == TYPE_AHEAD {
+            self.seen.met(Rule::KeyDropped);
+            self.seen.met_if(quoted, Rule::KeyQuotedDropped);
+            self.screen.send(BEL, &mut out.terminal);
+            self.dropped = self.dropped.saturating_add(1);
+            return;
+        }
+        self.seen.met(Rule::KeyStored);
+        self.type_ahead.push_back(Key { code, quoted });
+        self.idle = 0;
+    }
+
+    /// The clear rule; immediate clear does it without rubbing out.
+    pub(super) fn clear(&mut self, rub_out: bool, out: &mut Answer) {
+        self.seen.met_if(!self.type_ahead.is_empty(), Rule::ClearedTypeAhead);
+        self.seen.met_if(self.held.is_some(), Rule::ClearedHeld);
+        self.seen.met_if(!self.partial.is_empty(), Rule::ClearedPartial);
+        self.type_ahead.clear();
+        self.held = None;
+        self.partial.clear();
+        if let Some(read) = &self.read {
+            let prompt = read.end_of_prompt;
+            self.seen.met_if(read.buffer.len() > prompt, Rule::ClearedInput);
+            self.delete_to(prompt, rub_out, out);
+        }
+    }
+}

@@ -1,0 +1,112 @@
+//! Taking characters from the end of the input, and showing it again.
+
+use super::{Answer, Line, Read};
+use crate::coverage::Rule;
+use crate::screen::{self, CR, HT, LF, TOP};
+
+impl Read {
+    /// Marks and spaces in the echo of what stands from `end` on: the echo is
+    /// replayed from the column where the display began, since a tab's width
+    /// hangs on what is before it.
+    fn marks_after(&self, end: usize) -> usize {
+        let mut column = self.display_column;
+        let mut marks = 0;
+        for place in self.end_of_prompt..self.buffer.len() {
+            if self.hides(place) {
+                continue;
+            }
+            let width = screen::width(self.buffer[place], column);
+            column = (column + width).min(TOP);
+            if place >= end {
+                marks += usize::from(width);
+            }
+        }
+        marks
+    }
+
+    pub(super) fn hides(&self, place: usize) -> bool {
+        self.hidden_lf && place == 0
+    }
+
+    /// The end of the input when 23 has done its work.
+    pub(super) fn word_start(&self) -> usize {
+        let mut end = self.buffer.len();
+        while end > self.end_of_prompt && !self.buffer[end - 1].is_ascii_alphanumeric() {
+            end -= 1;
+        }
+        while end > self.end_of_prompt && self.buffer[end - 1].is_ascii_alphanumeric() {
+            end -= 1;
+        }
+        end
+    }
+
+    /// Whether anything can be deleted.
+    pub(super) fn has_input(&self) -> bool {
+        self.buffer.len() > self.end_of_prompt
+    }
+}
+
+impl Line {
+    /// Deletes the pending read's input back to `end`.
+    pub(super) fn delete_to(&mut self, end: usize, rub_out: bool, out: &mut Answer) {
+        let Some(read) = &mut self.read else { return };
+        if read.buffer.len() <= end {
+            return;
+        }
+        let removed = &read.buffer[end..];
+        if rub_out && read.echo {
+            let marks = read.marks_after(end);
+            self.seen.met_if(removed.contains(&HT), Rule::RubTab);
+            let control = |code: &u8| (*code < 32 && *code != HT) || *code == 127;
+            self.seen.met_if(removed.iter().any(control), Rule::RubControl);
+            self.seen.met_if(marks == 0, Rule::RubNothing);
+            self.seen.met_if(marks > usize::from(self.screen.column), Rule::BackspaceAtEdge);
+            self.screen.rub_out(marks, &mut out.terminal);
+        }
+        self.seen.met_if(rub_out && !read.echo, Rule::RubNoEcho);
+        let falls = end < read.low_water;
+        self.seen.met(if falls { Rule::LowWaterFalls } else { Rule::LowWaterStays });
+        read.low_water = read.low_water.min(end);
+        read.buffer.truncate(end);
+        if end == 0 && read.hidden_lf {
+            // An LF typed in its place is shown.
+            self.seen.met(Rule::HiddenLfDeleted);
+            read.hidden_lf = false;
+        }
+    }
+
+    /// 18: shows the prompt and the input again on a new line.
+    pub(super) fn redisplay(&mut self, out: &mut Answer) {
+        self.screen.send_all(&[CR, LF], &mut out.terminal);
+        self.show_prompt(out);
+        let Some(read) = &self.read else { return };
+        let rule = if read.echo { Rule::Redisplay } else { Rule::RedisplayNoEcho };
+        self.seen.met(rule);
+        self.seen.met_if(read.hidden_lf, Rule::HiddenLfRedisplayed);
+        self.show_input(out);
+    }
+
+    /// Sends the prompt as it is and notes where the data's display begins.
+    pub(super) fn show_prompt(&mut self, out: &mut Answer) {
+        let Some(read) = &mut self.read else { return };
+        for place in 0..read.end_of_prompt {
+            if !read.hides(place) {
+                self.screen.send(read.buffer[place], &mut out.terminal);
+            }
+        }
+        read.display_column = self.screen.column;
+    }
+
+    /// Echoes what follows the prompt, if the read echoes.
+    pub(super) fn show_input(&mut self, out: &mut Answer) {
+        let Some(read) = &self.read else { return };
+        if !read.echo {
+            return;
+        }
+        for place in read.end_of_prompt..read.buffer.len() {
+            if !read.hides(place) {
+                self.screen.echo(read.buffer[place], &mut out.terminal);
+            }
+        }
+    }
+}

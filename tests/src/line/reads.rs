@@ -1,0 +1,137 @@
+//! A read starts, and a read completes.
+
+use super::{Answer, Line, Read};
+use crate::coverage::Rule;
+use crate::message::{Message, ReadData, StartRead};
+use crate::screen::{CR, LF};
+
+/// Completion codes of 000, 4.16.4.
+pub const TERMINATOR: u8 = 0;
+pub const VALID_TOKEN: u8 = 1;
+pub const INVALID_TOKEN: u8 = 2;
+pub const OUT_OF_BAND: u8 = 3;
+pub const BUFFER_FULL: u8 = 4;
+pub const TIMEOUT: u8 = 5;
+pub const UNREAD: u8 = 6;
+pub const UNDERFLOW: u8 = 7;
+pub const ABSENTEE: u8 = 8;
+
+/// What auto prompt writes before the prompt.
+const PROMPT_MARK: u8 = 1;
+
+/// Codes 0 to 31 except 8, 9, 18, 21 and 23.
+fn universal_set() -> [u8; 32] {
+    let mut set = [0; 32];
+    set[..4].fill(255);
+    for code in [8, 9, 18, 21, 23] {
+        set[code / 8] &= !(1 << (code % 8));
+    }
+    set
+}
+
+impl Line {
+    pub(super) fn start_read(&mut self, asked: StartRead, out: &mut Answer) {
+        let read = self.fixed(&asked);
+        let full = read.buffer.len() == read.max_length;
+        self.idle = 0;
+        if asked.clear {
+            self.seen.met(Rule::ReadClears);
+            self.seen.met_if(self.held.is_some(), Rule::ReadClearsHeld);
+            self.type_ahead.clear();
+            self.held = None;
+        }
+        if asked.formatting {
+            let after_cr = self.screen.last == Some(CR);
+            self.seen.met(if after_cr { Rule::FormattingLf } else { Rule::FormattingNoLf });
+            if after_cr {
+                self.screen.send(LF, &mut out.terminal);
+            }
+        }
+        if self.auto_prompt {
+            self.seen.met(Rule::AutoPrompt);
+            self.screen.send(PROMPT_MARK, &mut out.terminal);
+        }
+        self.read = Some(read);
+        self.show_prompt(out);
+        self.show_input(out);
+        if full {
+            self.seen.met(Rule::ReadFullAtOnce);
+            self.complete(BUFFER_FULL, 0, out);
+        } else {
+            self.seen.met(Rule::ReadPending);
+        }
+    }
+
+    /// The read with everything that holds for the whole of it; the note of
+    /// column and line is taken here, before anything is written.
+    fn fixed(&mut self, asked: &StartRead) -> Read {
+        let raise = asked.raise == 2 || asked.raise == 0 && self.raise;
+        let escapes = asked.escapes == 2 || asked.escapes == 0 && self.escapes;
+        let hidden_lf = asked.formatting && asked.data.first() == Some(&LF);
+        self.seen.met_if(raise, Rule::RaiseOn);
+        self.seen.met_if(escapes, Rule::EscapesOn);
+        self.seen.met_if(asked.no_echo, Rule::NoEcho);
+        self.seen.met_if(!asked.no_echo && !self.normal_echo, Rule::EchoOffByCharacteristic);
+        self.seen.met_if(hidden_lf && asked.end_of_prompt > 0, Rule::HiddenLfInPrompt);
+        self.seen.met_if(hidden_lf && asked.end_of_prompt == 0, Rule::HiddenLfInData);
+        Read {
+            end_of_prompt: usize::from(asked.end_of_prompt),
+            max_length: usize::from(asked.max_length),
+            low_water: usize::from(asked.low_water),
+            underflow: asked.underflow,
+            disable: asked.disable,
+            raise,
+            escapes,
+            echo: !asked.no_echo && self.normal_echo,
+            echo_terminator: asked.echo_terminator,
+            timeout: asked.timed.then_some(asked.timeout),
+            set: self.chosen_set(asked),
+            hidden_lf,
+            display_column: self.screen.column,
+            note_column: self.screen.column,
+            note_line: self.screen.line,
+            buffer: asked.data.clone(),
+        }
+    }
+
+    fn chosen_set(&mut self, asked: &StartRead) -> [u8; 32] {
+        match asked.which_set {
+            1 => {
+                let mut set = [0; 32];
+                set[..asked.set.len()].copy_from_slice(&asked.set);
+                self.last_set = Some(set);
+                self.seen.met(Rule::SetGiven);
+                set
+            }
+            2 => {
+                self.seen.met(Rule::SetUniversal);
+                universal_set()
+            }
+            _ => {
+                let given = self.last_set.is_some();
+                self.seen.met(if given { Rule::SetLast } else { Rule::SetLastNone });
+                self.last_set.unwrap_or_else(universal_set)
+            }
+        }
+    }
+
+    /// Completes the pending read. `tail` is the length of the terminator,
+    /// token or underflow code at the end of the buffer.
+    pub(super) fn complete(&mut self, code: u8, tail: usize, out: &mut Answer) {
+        let Some(read) = self.read.take() else { return };
+        self.seen.codes[usize::from(code)] += 1;
+        self.seen.met_if(!self.partial.is_empty(), Rule::PartialDropped);
+        self.partial.clear();
+        let data = read.buffer[read.end_of_prompt..].to_vec();
+        let data = ReadData {
+            code,
+            more: !self.type_ahead.is_empty() || self.held.is_some(),
+            low_water: read.low_water as u16,
+            vertical: self.screen.line.wrapping_sub(read.note_line),
+            horizontal: self.screen.column.wrapping_sub(read.note_column) as u8,
+            terminator: (data.len() - tail) as u16,
+            data,
+        };
+        self.send(Message::ReadData(data), out);
+    }
+}

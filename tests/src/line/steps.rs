@@ -1,0 +1,193 @@
+//! One step and one tick.
+
+use super::reads::{BUFFER_FULL, TERMINATOR, TIMEOUT, UNDERFLOW};
+use super::tokens::{CSI, ESC};
+use super::{Answer, Key, Line};
+use crate::coverage::Rule;
+use crate::screen::{BEL, CR, HT, LF};
+
+const DELETE: u8 = 127;
+const DELETE_WORD: u8 = 23;
+const DELETE_LINE: u8 = 21;
+const REDISPLAY: u8 = 18;
+
+impl Line {
+    pub(super) fn take_step(&mut self, out: &mut Answer) {
+        let Some(read) = &self.read else {
+            self.seen.met(Rule::StepNoRead);
+            return;
+        };
+        if let Some(token) = self.held.take() {
+            self.seen.met_if(!read.escapes, Rule::StepHeldUnrecognised);
+            let fits = self.offer(token, out);
+            self.seen.met(if fits { Rule::StepHeldFits } else { Rule::StepHeldAbsentee });
+            return;
+        }
+        let at_once = read.timeout == Some(0);
+        match self.type_ahead.pop_front() {
+            Some(key) => self.take_key(key, out),
+            None if at_once => {
+                self.seen.met(Rule::StepTimeoutZero);
+                self.complete(TIMEOUT, 0, out);
+            }
+            None => self.seen.met(Rule::StepEmpty),
+        }
+    }
+
+    /// The seven step rules.
+    fn take_key(&mut self, key: Key, out: &mut Answer) {
+        self.idle = 0;
+        let Some(read) = &self.read else { return };
+        if !self.partial.is_empty() {
+            self.seen.met(Rule::StepPartial);
+            self.seen.met_if(key.quoted, Rule::StepQuotedInToken);
+            return self.add_to_token(key.code, out);
+        }
+        if key.quoted {
+            self.seen.met(Rule::StepQuoted);
+            return self.data(key.code, true, out);
+        }
+        if key.code == ESC || key.code == CSI {
+            if read.escapes {
+                return self.begin_token(key.code);
+            }
+            self.seen.met(Rule::StepEscapeOff);
+        }
+        let raised = read.raise && key.code.is_ascii_lowercase();
+        self.seen.met_if(raised, Rule::StepRaised);
+        let code = if raised { key.code - 32 } else { key.code };
+        if read.set[usize::from(code / 8)] >> (code % 8) & 1 == 1 {
+            self.seen.met_if(raised, Rule::StepRaisedTerminator);
+            return self.terminator(code, out);
+        }
+        if self.edits(code) {
+            self.edit(code, out);
+        } else {
+            self.data(code, false, out);
+        }
+    }
+
+    fn terminator(&mut self, code: u8, out: &mut Answer) {
+        let Some(read) = &mut self.read else { return };
+        read.buffer.push(code);
+        self.seen.met(Rule::StepTerminator);
+        self.seen.met_if(read.buffer.len() == read.max_length, Rule::StepTerminatorFills);
+        let edit = matches!(code, DELETE | DELETE_WORD | DELETE_LINE | REDISPLAY);
+        self.seen.met_if(edit, Rule::EditInSet);
+        match (read.echo_terminator, read.echo) {
+            (true, true) if code == CR => {
+                self.seen.met(Rule::TerminatorCrLf);
+                self.screen.send_all(&[CR, LF], &mut out.terminal);
+            }
+            (true, true) => {
+                self.seen.met(Rule::TerminatorEchoed);
+                self.screen.echo(code, &mut out.terminal);
+            }
+            (true, false) => self.seen.met(Rule::TerminatorNoEcho),
+            (false, _) => self.seen.met(Rule::TerminatorSilent),
+        }
+        self.complete(TERMINATOR, 1, out);
+    }
+
+    /// Whether the code edits in this read.
+    fn edits(&mut self, code: u8) -> bool {
+        let disable = self.read.as_ref().map_or(0, |read| read.disable);
+        let edits = match code {
+            DELETE | DELETE_WORD => disable < 2,
+            DELETE_LINE | REDISPLAY => disable == 0,
+            _ => return false,
+        };
+        self.seen.met_if(!edits && disable == 1, Rule::EditOffDdd1);
+        self.seen.met_if(!edits && disable == 2, Rule::EditOffDdd2);
+        self.seen.met_if(!edits && disable == 3, Rule::EditOffDdd3);
+        edits
+    }
+
+    fn edit(&mut self, code: u8, out: &mut Answer) {
+        let Some(read) = &self.read else { return };
+        let some = read.has_input();
+        let end = match code {
+            REDISPLAY => return self.redisplay(out),
+            DELETE_LINE => read.end_of_prompt,
+            DELETE_WORD => read.word_start(),
+            _ => read.buffer.len().saturating_sub(1),
+        };
+        match (code, some) {
+            (DELETE_LINE, false) => self.seen.met(Rule::LineNothing),
+            (_, false) => self.underflow(code, out),
+            (_, true) => {
+                self.seen.met(match code {
+                    DELETE => Rule::DeleteSome,
+                    DELETE_WORD => Rule::WordSome,
+                    _ => Rule::LineSome,
+                });
+                self.delete_to(end, true, out);
+            }
+        }
+    }
+
+    /// 127 or 23 with nothing to delete.
+    fn underflow(&mut self, code: u8, out: &mut Answer) {
+        let Some(read) = &mut self.read else { return };
+        self.seen.met(match (read.underflow, code) {
+            (0, DELETE) => Rule::DeleteNothing,
+            (1, DELETE) => Rule::DeleteBell,
+            (_, DELETE) => Rule::DeleteUnderflow,
+            (0, _) => Rule::WordNothing,
+            (1, _) => Rule::WordBell,
+            (_, _) => Rule::WordUnderflow,
+        });
+        match read.underflow {
+            0 => {}
+            1 => self.screen.send(BEL, &mut out.terminal),
+            _ => {
+                read.buffer.push(code);
+                self.seen.met_if(read.buffer.len() == read.max_length, Rule::UnderflowFills);
+                self.complete(UNDERFLOW, 1, out);
+            }
+        }
+    }
+
+    fn data(&mut self, code: u8, quoted: bool, out: &mut Answer) {
+        let Some(read) = &mut self.read else { return };
+        read.buffer.push(code);
+        let full = read.buffer.len() == read.max_length;
+        if read.echo {
+            self.seen.met(match code {
+                HT => Rule::EchoTab,
+                0..=31 | 127 => Rule::EchoControl,
+                32..=126 => Rule::DataEchoed,
+                160..=254 => Rule::EchoHigh,
+                _ => Rule::EchoNothing,
+            });
+            self.screen.echo(code, &mut out.terminal);
+        } else {
+            self.seen.met(Rule::DataSilent);
+        }
+        if full {
+            self.seen.met(if quoted { Rule::QuotedFull } else { Rule::DataFull });
+            self.complete(BUFFER_FULL, 0, out);
+        }
+    }
+
+    pub(super) fn take_tick(&mut self, out: &mut Answer) {
+        let timeout = self.read.as_ref().and_then(|read| read.timeout);
+        let timeout = match timeout {
+            Some(timeout) if timeout > 0 => u32::from(timeout),
+            _ => return self.seen.met(Rule::TickNothing),
+        };
+        if !self.type_ahead.is_empty() {
+            return self.seen.met(Rule::TickWaiting);
+        }
+        if self.held.is_some() {
+            return self.seen.met(Rule::TickHeld);
+        }
+        self.seen.met(Rule::TickIdle);
+        self.seen.met_if(!self.partial.is_empty(), Rule::TickIdlePartial);
+        self.idle += 1;
+        if self.idle >= timeout {
+            self.seen.met(Rule::TickTimeout);
+            self.complete(TIMEOUT, 0, out);
+        }
+    }
+}

@@ -1,0 +1,174 @@
+//! Runs script text through a line and gives the answer lines.
+
+use crate::coverage::Coverage;
+use crate::line::{Answer, Areas, Line};
+use crate::message;
+
+/// A message kept by a runner is never longer: one byte over tells enough.
+const KEPT: usize = message::LONGEST + 1;
+
+/// One line of a script.
+#[derive(Clone, Debug, PartialEq, Eq)]
+pub enum Order {
+    Key(u8),
+    Step,
+    Tick,
+    Host(Vec<u8>),
+    Lengths(Areas),
+    Fresh,
+    Read(Vec<u8>),
+    Dropped,
+}
+
+/// The order of a script line, if it is well formed.
+pub fn parse(text: &[u8]) -> Option<Order> {
+    let (&word, rest) = text.split_first()?;
+    let argument = match rest.split_first() {
+        None => None,
+        Some((b' ', argument)) => Some(argument),
+        Some(_) => return None,
+    };
+    match (word, argument) {
+        (b'K', Some(digits)) if digits.len() == 2 => Some(Order::Key(bytes_of(digits)?[0])),
+        (b'S', None) => Some(Order::Step),
+        (b'T', None) => Some(Order::Tick),
+        (b'M', digits) => Some(Order::Host(bytes_of(digits.unwrap_or_default())?)),
+        (b'R', digits) => Some(Order::Read(bytes_of(digits.unwrap_or_default())?)),
+        (b'A', Some(numbers)) => lengths(numbers),
+        (b'F', None) => Some(Order::Fresh),
+        (b'D', None) => Some(Order::Dropped),
+        _ => None,
+    }
+}
+
+fn lengths(numbers: &[u8]) -> Option<Order> {
+    let mut parts = numbers.split(|byte| *byte == b' ');
+    let terminal = decimal(parts.next()?)?;
+    let message = decimal(parts.next()?)?;
+    if parts.next().is_some() {
+        return None;
+    }
+    Some(Order::Lengths(Areas { terminal, message }))
+}
+
+fn decimal(digits: &[u8]) -> Option<usize> {
+    if digits.is_empty() || digits.len() > 5 || !digits.iter().all(u8::is_ascii_digit) {
+        return None;
+    }
+    let number = digits.iter().fold(0, |sum, digit| sum * 10 + usize::from(digit - b'0'));
+    (number <= 65_535).then_some(number)
+}
+
+fn bytes_of(digits: &[u8]) -> Option<Vec<u8>> {
+    if !digits.len().is_multiple_of(2) {
+        return None;
+    }
+    let mut bytes = Vec::with_capacity(KEPT.min(digits.len() / 2));
+    for pair in digits.chunks_exact(2) {
+        let byte = nibble(pair[0])? << 4 | nibble(pair[1])?;
+        if bytes.len() < KEPT {
+            bytes.push(byte);
+        }
+    }
+    Some(bytes)
+}
+
+fn nibble(digit: u8) -> Option<u8> {
+    match digit {
+        b'0'..=b'9' => Some(digit - b'0'),
+        b'A'..=b'F' => Some(digit - b'A' + 10),
+        b'a'..=b'f' => Some(digit - b'a' + 10),
+        _ => None,
+    }
+}
+
+/// A line with the area lengths that hold from now on.
+#[derive(Clone, Debug, Default)]
+pub struct Runner {
+    line: Line,
+    areas: Areas,
+    seen: Coverage,
+}
+
+impl Runner {
+    /// Runs one script line and adds its answer line, if it has one.
+    pub fn run(&mut self, text: &[u8], to: &mut Vec<u8>) {
+        let Some(order) = parse(text) else {
+            return to.extend(b"?\n");
+        };
+        match order {
+            Order::Key(code) => put_answer(&self.line.key(code, self.areas), to),
+            Order::Step => put_answer(&self.line.step(self.areas), to),
+            Order::Tick => put_answer(&self.line.tick(self.areas), to),
+            Order::Host(bytes) => put_answer(&self.line.host(&bytes, self.areas), to),
+            Order::Lengths(areas) => self.areas = areas,
+            Order::Fresh => {
+                self.seen.add(&self.line.seen);
+                self.line = Line::default();
+                self.areas = Areas::default();
+            }
+            Order::Read(bytes) => self.read(&bytes, to),
+            Order::Dropped => to.extend(format!("{}\n", self.line.dropped()).bytes()),
+        }
+    }
+
+    fn read(&mut self, bytes: &[u8], to: &mut Vec<u8>) {
+        let answer = message::read(bytes).and_then(|read| {
+            self.seen.read[usize::from(read.kind())] += 1;
+            message::write(&read, message::LONGEST)
+        });
+        let number = *answer.as_ref().err().unwrap_or(&0);
+        self.seen.read_numbers[usize::from(number)] += 1;
+        to.extend([b'0' + number, b' ']);
+        put_hex(&answer.unwrap_or_default(), to);
+        to.push(b'\n');
+    }
+
+    /// The line's dropped count.
+    pub fn dropped(&self) -> u16 {
+        self.line.dropped()
+    }
+
+    /// What occurred on this line and on those before it.
+    pub fn coverage(&self) -> Coverage {
+        let mut all = self.seen.clone();
+        all.add(&self.line.seen);
+        all
+    }
+}
+
+fn put_answer(answer: &Answer, to: &mut Vec<u8>) {
+    to.extend([b'0' + answer.number, b' ']);
+    put_hex(&answer.terminal, to);
+    to.push(b' ');
+    put_hex(&answer.message_area(), to);
+    to.push(b'\n');
+}
+
+fn put_hex(bytes: &[u8], to: &mut Vec<u8>) {
+    const DIGITS: &[u8; 16] = b"0123456789ABCDEF";
+    if bytes.is_empty() {
+        to.push(b'-');
+    }
+    for byte in bytes {
+        to.push(DIGITS[usize::from(byte >> 4)]);
+        to.push(DIGITS[usize::from(byte & 15)]);
+    }
+}
+
+/// The lines of a script; the last may lack its newline.
+pub fn lines(script: &[u8]) -> impl Iterator<Item = &[u8]> {
+    let whole = script.strip_suffix(b"\n").unwrap_or(script);
+    let none = script.is_empty();
+    whole.split(|byte| *byte == b'\n').filter(move |_| !none)
+}
+
+/// Runs a whole script from a fresh line.
+pub fn run(script: &[u8]) -> (Vec<u8>, Coverage) {
+    let mut runner = Runner::default();
+    let mut answers = Vec::new();
+    for text in lines(script) {
+        runner.run(text, &mut answers);
+    }
+    (answers, runner.coverage())
+}

@@ -1,0 +1,40 @@
+//! Over fixed seeds everything that can be reached occurs.
+
+use second::coverage::Coverage;
+use second::{generator, script};
+
+#[test]
+fn each_thing_that_can_be_reached_occurs() {
+    let mut all = Coverage::default();
+    let mut calls = 0;
+    for seed in 1..=40 {
+        let text = generator::script(seed, 10_000);
+        let (answers, seen) = script::run(text.as_bytes());
+        assert!(!answers.is_empty());
+        all.add(&seen);
+        calls += seen.numbers.iter().sum::<u64>();
+    }
+    println!("calls {calls}");
+    for (name, count) in all.table() {
+        println!("{name:30} {count}");
+    }
+    assert!(calls >= 300_000);
+    assert_eq!(all.missing(), Vec::<String>::new());
+}
+
+#[test]
+fn a_seed_gives_the_same_script_each_time() {
+    assert_eq!(generator::script(7, 2_000), generator::script(7, 2_000));
+    assert_ne!(generator::script(7, 2_000), generator::script(8, 2_000));
+}
+
+#[test]
+fn a_script_run_in_parts_gives_the_same_answers() {
+    let text = generator::script(3, 5_000);
+    let mut runner = script::Runner::default();
+    let mut answers = Vec::new();
+    for line in script::lines(text.as_bytes()) {
+        runner.run(line, &mut answers);
+    }
+    assert_eq!(answers, script::run(text.as_bytes()).0);
+}

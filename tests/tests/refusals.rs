@@ -1,0 +1,204 @@
+//! Each row of the refusal table at its edges.
+
+mod common;
+use common::*;
+
+const INITIATE: &str = "01 00 01 00 00 20 20 20 20 20 20 20 20";
+
+#[test]
+fn row_1_areas() {
+    for (terminal, message, number) in
+        [(4096, 256, 0), (4095, 256, 1), (4096, 255, 1), (0, 0, 1), (65_535, 65_535, 0)]
+    {
+        let mut bench = Bench::initiated();
+        bench.areas.terminal = terminal;
+        bench.areas.message = message;
+        assert_eq!(bench.key(b'a').0, number);
+        assert_eq!(bench.step().0, number);
+        assert_eq!(bench.tick().0, number);
+        assert_eq!(bench.number("0C 00"), number);
+        if number == 1 {
+            // 1 comes before 2, 3, 4, 5 and 6.
+            for message in ["", "00", "03", INITIATE, "05", "07 01 00 00 00"] {
+                bench.refused(1, &bytes(message));
+            }
+        }
+    }
+}
+
+#[test]
+fn row_1_leaves_the_line_as_it_was() {
+    let mut bench = Bench::initiated();
+    start(ZZ2 | Q, b"", b"").timeout(1).on(&mut bench);
+    let before = bench.line.clone();
+    bench.areas.message = 255;
+    assert_eq!((bench.key(7).0, bench.step().0, bench.tick().0), (1, 1, 1));
+    bench.line.seen = before.seen.clone();
+    assert!(bench.line == before);
+}
+
+#[test]
+fn row_2_lengths() {
+    let mut bench = Bench::initiated();
+    bench.refused(2, &[]);
+    let mut write = vec![b'w'; 257];
+    write[..5].copy_from_slice(&[7, 0, 0, 0, 0]);
+    bench.refused(2, &write);
+    assert_eq!(bench.host_bytes(&write[..256]).0, 0);
+    // 2 comes before 3: the type is not looked at.
+    bench.refused(2, &[0; 257]);
+    let mut fresh = Bench::default();
+    fresh.refused(2, &[]);
+}
+
+#[test]
+fn row_3_types() {
+    for mut bench in [Bench::default(), Bench::initiated()] {
+        for kind in [0, 3, 4, 8, 9, 13, 14, 15, 16, 17, 128, 255] {
+            bench.refused(3, &[kind]);
+            bench.refused(3, &[kind, 0, 0, 0, 0, 0, 0, 0]);
+        }
+    }
+}
+
+#[test]
+fn row_4_order_of_messages() {
+    let mut bench = Bench::default();
+    for kind in [2, 5, 6, 7, 10, 11, 12] {
+        bench.refused(4, &[kind]);
+        bench.refused(4, &[kind, 0]);
+    }
+    // A damaged Initiate is not accepted, so the first is still to come.
+    bench.refused(5, &bytes("01 00"));
+    bench.refused(4, &[12, 0]);
+    assert_eq!(bench.number(INITIATE), 0);
+    bench.refused(4, &bytes(INITIATE));
+    bench.refused(4, &[1]);
+    let read = start(ZZ2, b"", b"").bytes();
+    assert_eq!(bench.host_bytes(&read).0, 0);
+    bench.refused(4, &read);
+    bench.refused(4, &[2]);
+    assert_eq!(bench.number("05 00"), 0);
+    assert_eq!(bench.host_bytes(&read).0, 0);
+}
+
+#[test]
+fn row_5_cut_short_and_left_over() {
+    let mut bench = Bench::initiated();
+    for whole in ["05 00", "06 00", "0C 00"] {
+        let whole = bytes(whole);
+        bench.refused(5, &whole[..1]);
+        bench.refused(5, &[whole.clone(), vec![0]].concat());
+    }
+    for message in ["07", "07 00", "07 00 00", "07 00 00 00", "0A", "0A 00 04", "0A 00 02 02"] {
+        bench.refused(5, &bytes(message));
+    }
+    for message in ["0B", "0B 00 04", "0B 00 04 02", "0B 00 02 02 41 FF", "0B 00 08 02 01"] {
+        bench.refused(5, &bytes(message));
+    }
+    let read = start(ZZ2, b"? ", b"ab").bytes();
+    for end in 1..read.len() {
+        bench.refused(5, &read[..end]);
+    }
+    bench.refused(5, &[read, vec![0]].concat());
+    let mut fresh = Bench::default();
+    let whole = bytes("01 00 01 00 00 20 20 20 20 20 20 20 20 01 02 00 01");
+    for end in (1..13).chain([14, 15, 16]) {
+        fresh.refused(5, &whole[..end]);
+    }
+    assert_eq!(fresh.host_bytes(&whole).0, 0);
+}
+
+#[test]
+fn row_5_values_and_selectors() {
+    let mut bench = Bench::initiated();
+    for message in ["07 C0 00 00 00", "07 00 03 00 00", "0B 00 08 02 00 00", "0B 00 08 02 04 00"] {
+        bench.refused(5, &bytes(message));
+    }
+    for selector in ["00 02", "0B 02", "80 02", "FF 02", "04 00", "04 01", "04 03", "02 04"] {
+        bench.refused(5, &bytes(&format!("0A 00 {selector}")));
+        bench.refused(5, &bytes(&format!("0B 00 {selector} 01")));
+    }
+}
+
+#[test]
+fn row_5_the_start_read_test() {
+    let mut bench = Bench::initiated();
+    for flags in [3, 3 << 6, 3 << 14, 3 << 16, 4 << 8, 5 << 8, 6 << 8, 7 << 8] {
+        bench.refused(5, &start(flags, b"", b"").bytes());
+    }
+    let mut long_set = start(ZZ1, b"", b"");
+    long_set.set = vec![0; 33];
+    bench.refused(5, &long_set.bytes());
+    let mut prompt = start(ZZ2, b"", b"ab");
+    prompt.prompt = 3;
+    bench.refused(5, &prompt.bytes());
+    let mut low = start(ZZ2, b"", b"ab");
+    low.low = Some(3);
+    bench.refused(5, &low.bytes());
+    let mut display = start(ZZ2, b"", b"ab").bytes();
+    display[12] = 3;
+    bench.refused(5, &display);
+    bench.refused(5, &start(ZZ2, b"", b"ab").max(1).bytes());
+    bench.refused(5, &start(ZZ2, b"", b"ab").max(133).bytes());
+    bench.refused(5, &start(ZZ2, b"", b"ab").max(132 + 256).bytes());
+    // The edges that pass.
+    let mut edge = start(3 << 8 | ZZ1 | 2 | II2 | EE2, b"ab", b"").max(132);
+    edge.set = vec![0; 32];
+    assert_eq!(bench.host_bytes(&edge.bytes()).0, 0);
+}
+
+#[test]
+fn row_6_reads_and_writes_not_carried() {
+    let mut bench = Bench::initiated();
+    let mut display = start(ZZ2, b"", b"ab");
+    display.display = 1;
+    bench.refused(6, &display.bytes());
+    for uu in 0..3 {
+        bench.refused(6, &start(ZZ2 | K | uu, b"", b"").bytes());
+    }
+    bench.refused(5, &start(ZZ2 | K | 3, b"", b"").bytes());
+    bench.refused(6, &start(ZZ2 | V, b"", b"").bytes());
+    for flags in ["01 00", "02 00", "03 00", "04 00", "40 00", "80 00", "00 01", "00 02", "00 08"] {
+        bench.refused(6, &bytes(&format!("07 {flags} 00 00 41")));
+    }
+    // The bits of first part, last part, status and the unused ones are no reason.
+    assert_eq!(bench.number("07 30 F4 09 09 41"), 0);
+}
+
+#[test]
+fn row_6_characteristics_not_carried() {
+    let mut bench = Bench::initiated();
+    for selector in ["01 02", "03 02", "07 02", "0A 02"] {
+        bench.refused(6, &bytes(&format!("0A 00 {selector}")));
+        bench.refused(6, &bytes(&format!("0B 00 {selector} 01")));
+        bench.refused(6, &bytes(&format!("0B 00 04 02 01 {selector} 01")));
+    }
+    bench.refused(6, &bytes("0A 00 08 02"));
+    bench.refused(6, &bytes("0B 00 08 02 02 00"));
+    bench.refused(6, &bytes("0B 00 02 02 41 03 02"));
+    // 5 anywhere comes first.
+    bench.refused(5, &bytes("0B 00 01 02 01 0B 02 01"));
+}
+
+#[test]
+fn row_6_the_longest_answer() {
+    let mut bench = Bench::initiated();
+    // 84 short ones answer with 2 + 252 = 254 bytes, with the length 256.
+    let asked = [bytes("0A 00"), [4, 2].repeat(84)].concat();
+    let (number, _, messages) = bench.host_bytes(&asked);
+    assert_eq!((number, bytes(&messages.replace(' ', "")).len()), (0, 254));
+    bench.refused(6, &[asked, vec![5, 2]].concat());
+    // 50 attributes and one short one answer with 255 bytes.
+    let asked = [bytes("0A 00"), [2, 2, 65].repeat(50)].concat();
+    assert_eq!(bench.host_bytes(&asked).0, 0);
+    bench.refused(6, &[asked, vec![5, 2]].concat());
+}
+
+#[test]
+fn calls_other_than_messages_are_never_refused_for_anything_but_areas() {
+    let mut bench = Bench::default();
+    for code in 0..=255 {
+        assert_eq!((bench.key(code).0, bench.step().0, bench.tick().0), (0, 0, 0));
+    }
+}
