@@ -98,7 +98,7 @@ unfolding Calls.framed Calls.areaAfter Calls.mapText Calls.sentBytes Calls.isSer
 openCalls = tt
 
 unfoldable pub openBench : Unit {0}
-unfolding Bench.same Bench.sameAll Bench.readsAs Bench.endsIn Bench.copied Bench.answersAs Bench.runsAs Bench.holds Bench.failures
+unfolding Bench.same Bench.sameAll Bench.readsAs Bench.endsIn Bench.copied Bench.answersAs Bench.runsAs Bench.holds Bench.failures Bench.starred Bench.warned
 openBench = tt
 
 unfoldable pub whole : Unit {0}
