@@ -1,1 +1,9 @@
+-- Laws of the rules, and what is proved of them.
+pub mod Tests
+pub mod Fields
+pub mod ParameterLists
+pub mod FormTable
+pub mod Tails
+pub mod Outcomes
+pub mod RoundTrip
 pub mod Bench

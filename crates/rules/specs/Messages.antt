@@ -3,3 +3,4 @@ pub mod Layout
 pub mod Parameters
 pub mod Forms
 pub mod Codec
+pub mod Unused

@@ -18,7 +18,7 @@ pub data Outcome (A : Type 0) : Type 0 where
   sound : A → Outcome A
 
 -- most set bytes
-abbrev setSize : ℕ
+abbrev pub setSize : ℕ
 setSize = 32
 
 unfoldable pub definedKind : ℕ → Bool

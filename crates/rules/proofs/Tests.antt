@@ -1,0 +1,145 @@
+-- Laws of the tests and of the choice by a test: from a test's value to what it says, and back.
+use mathlib.Core.Path.{_≡_, refl, sym, ap, _∙_}
+use Prim.Native.Nat.{ℕ, zero, suc, _≤_, _<_}
+use mathlib.Core.Bool.{Bool, true, false, _&&_, _||_, false≢true, and-assoc, or-assoc, or-true}
+use mathlib.Core.List.{List, [], _∷_, _++_, map}
+use lib.Dec.{leb}
+use lib.ListN.{length, getD, take, drop, take-append-drop}
+use native.Mathlib.Omega.{arith}
+use borrow.Author.Tests.{leb-true, le-leb}
+use Rattle.rules.specs.Choice.{pick, within, isEmpty, all, any, joined}
+
+-- The choice.
+module _ {A : Type 0} where
+  pub pick-true : {t : Bool} (a b : A) → t ≡ true → pick t a b ≡ a
+  unfolding pick
+  pick-true a b e = rw e
+
+  pub pick-false : {t : Bool} (a b : A) → t ≡ false → pick t a b ≡ b
+  unfolding pick
+  pick-false a b e = rw e
+
+  -- what holds of both, each under its test, holds of the choice
+  pub pick-case : (P : A → Type 0) (t : Bool) {a b : A} → (t ≡ true → P a) → (t ≡ false → P b) → P (pick t a b)
+  unfolding pick
+  pick-case P true f g = f refl
+  pick-case P false f g = g refl
+
+  -- a choice that is x was made for the side that can be x
+  pub pick-first : (t : Bool) {a b x : A} → (b ≡ x → ⊥) → pick t a b ≡ x → (t ≡ true) × (a ≡ x)
+  unfolding pick
+  pick-first true no-b e = (refl, e)
+  pick-first false no-b e = absurd (no-b e)
+
+  pub pick-second : (t : Bool) {a b x : A} → (a ≡ x → ⊥) → pick t a b ≡ x → (t ≡ false) × (b ≡ x)
+  unfolding pick
+  pick-second true no-a e = absurd (no-a e)
+  pick-second false no-a e = (refl, e)
+
+-- Both tests.
+pub both : {a b : Bool} → a ≡ true → b ≡ true → a && b ≡ true
+both p q = rw (p, q)
+
+pub halves : (a b : Bool) → a && b ≡ true → (a ≡ true) × (b ≡ true)
+halves true b e = (refl, e)
+halves false b e = absurd (false≢true e)
+
+pub thirds : (a b c : Bool) → a && b && c ≡ true → (a ≡ true) × (b ≡ true) × (c ≡ true)
+thirds a b c e =
+    let h = halves (a && b) c e in
+    let k = halves a b (h .0) in
+    (k .0, k .1, h .1)
+
+pub quarters : (a b c d : Bool) → a && b && c && d ≡ true → (a ≡ true) × (b ≡ true) × (c ≡ true) × (d ≡ true)
+quarters a b c d e =
+    let h = halves (a && b && c) d e in
+    let k = thirds a b c (h .0) in
+    (k .0, k .1, k .2, h .1)
+
+-- Low to high.
+pub within-bounds : (low high n : ℕ) → within low high n ≡ true → (low ≤ n) × (n ≤ high)
+unfolding within
+within-bounds low high n e =
+    let h = halves (leb low n) (leb n high) e in
+    (leb-true low n (h .0), leb-true n high (h .1))
+
+pub within-true : (low high n : ℕ) → low ≤ n → n ≤ high → within low high n ≡ true
+unfolding within
+within-true low high n p q = both (le-leb low n p) (le-leb n high q)
+
+-- Lists of tests.
+module _ {A : Type 0} where
+  pub isEmpty-nil : (xs : List A) → isEmpty xs ≡ true → xs ≡ []
+  unfolding isEmpty
+  isEmpty-nil [] e = refl
+  isEmpty-nil (x ∷ xs) e = absurd (false≢true e)
+
+  module _ (test : A → Bool) where
+    pub all-cons : (x : A) (xs : List A) → all test (x ∷ xs) ≡ true → (test x ≡ true) × (all test xs ≡ true)
+    unfolding all
+    all-cons x xs e = halves (test x) (all test xs) e
+
+    pub all-more : (x : A) (xs : List A) → test x ≡ true → all test xs ≡ true → all test (x ∷ xs) ≡ true
+    unfolding all
+    all-more x xs p q = both p q
+
+    pub all-append : (xs ys : List A) → all test (xs ++ ys) ≡ all test xs && all test ys
+    unfolding all
+    all-append [] ys = refl
+    all-append (x ∷ xs) ys = ap (λ b. test x && b) (all-append xs ys) ∙ sym (and-assoc (test x) (all test xs) (all test ys))
+
+    pub all-split : (n : ℕ) (xs : List A) → all test xs ≡ true → (all test (take n xs) ≡ true) × (all test (drop n xs) ≡ true)
+    all-split n xs e =
+        halves (all test (take n xs)) (all test (drop n xs)) (rw (← take-append-drop n xs, all-append) at e)
+
+    pub all-joined : (xss : List (List A)) → all test (joined xss) ≡ all (all test) xss
+    unfolding all joined
+    all-joined [] = refl
+    all-joined (xs ∷ xss) = all-append xs (joined xss) ∙ ap (λ b. all test xs && b) (all-joined xss)
+
+    -- at any place, and past the end if the default passes
+    pub all-at : (xs : List A) (d : A) → all test xs ≡ true → test d ≡ true → (k : ℕ) → test (getD xs k d) ≡ true
+    all-at [] d e p k = p
+    all-at (x ∷ xs) d e p zero = all-cons x xs e .0
+    all-at (x ∷ xs) d e p (suc k) = all-at xs d (all-cons x xs e .1) p k
+
+    pub any-here : (x : A) (xs : List A) → test x ≡ true → any test (x ∷ xs) ≡ true
+    unfolding any
+    any-here x xs p = rw p
+
+    pub any-later : (x : A) (xs : List A) → any test xs ≡ true → any test (x ∷ xs) ≡ true
+    unfolding any
+    any-later x xs p = rw p (or-true (test x))
+
+    pub any-append : (xs ys : List A) → any test (xs ++ ys) ≡ any test xs || any test ys
+    unfolding any
+    any-append [] ys = refl
+    any-append (x ∷ xs) ys = ap (λ b. test x || b) (any-append xs ys) ∙ sym (or-assoc (test x) (any test xs) (any test ys))
+
+    -- a place where the test passes
+    abbrev Passed : List A → A → Type 0
+    Passed xs d = (k : ℕ) × (k < length xs) × (test (getD xs k d) ≡ true)
+
+    pub any-at : (xs : List A) (d : A) → any test xs ≡ true → Passed xs d
+    unfolding any
+    any-at [] d e = absurd (false≢true e)
+    any-at (x ∷ xs) d e = by-head (test x) refl (any-at xs d) e
+      where
+        by-head : (t : Bool) → test x ≡ t → (any test xs ≡ true → Passed xs d) → t || any test xs ≡ true → Passed (x ∷ xs) d
+        by-head true p later e = (zero, omega arith, p)
+        by-head false p later e = let r = later e in (suc (r .0), omega arith, r .2)
+
+  -- each element that passes one test passes another, after a step
+  pub all-map : {B : Type 0} (p : A → Bool) (q : B → Bool) (f : A → B) → ((x : A) → p x ≡ true → q (f x) ≡ true) →
+      (xs : List A) → all p xs ≡ true → all q (map f xs) ≡ true
+  unfolding all
+  all-map p q f h [] e = refl
+  all-map p q f h (x ∷ xs) e = let t = all-cons p x xs e in both (h x (t .0)) (all-map p q f h xs (t .1))
+
+  pub all-both : (p q : A → Bool) (xs : List A) → all p xs ≡ true → all q xs ≡ true → all (λ x. p x && q x) xs ≡ true
+  unfolding all
+  all-both p q [] e e′ = refl
+  all-both p q (x ∷ xs) e e′ =
+      let t = all-cons p x xs e in
+      let t′ = all-cons q x xs e′ in
+      both (both (t .0) (t′ .0)) (all-both p q xs (t .1) (t′ .1))
