@@ -7,3 +7,5 @@ pub mod Tails
 pub mod Outcomes
 pub mod RoundTrip
 pub mod Bench
+pub mod Sizes
+pub mod Bounds
