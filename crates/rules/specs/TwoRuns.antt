@@ -1,4 +1,5 @@
 -- Demand 3: two runs that differ only in hidden typed characters look the same to everyone but the host that reads DATA.
+pub mod Examples
 use Prim.Native.Nat.{ℕ, zero, suc}
 use mathlib.Core.Path.{_≡_}
 use mathlib.Core.Bool.{Bool, true, false, not, Bool·beq, _&&_, _||_}

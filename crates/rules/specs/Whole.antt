@@ -22,6 +22,7 @@ use Rattle.rules.specs.Host
 use Rattle.rules.specs.Calls
 use Rattle.rules.specs.Bench
 use Rattle.rules.specs.TwoRuns
+use Rattle.rules.specs.TwoRuns.Examples
 
 unfoldable pub openChoice : Unit {0}
 unfolding Choice.pick Choice.within Choice.bit Choice.isEmpty Choice.all Choice.any Choice.joined Choice.same
@@ -111,6 +112,10 @@ unfoldable pub openTwoRuns : Unit {0}
 unfolding TwoRuns.kindOf TwoRuns.bytesOf TwoRuns.codeOf TwoRuns.agree TwoRuns.alike TwoRuns.changedAt TwoRuns.eachChanged TwoRuns.isPrinting TwoRuns.bothPrinting TwoRuns.sameClass TwoRuns.codeIn TwoRuns.raisedIn TwoRuns.placedEvent TwoRuns.placed TwoRuns.history TwoRuns.fateTest TwoRuns.isOutOfBand TwoRuns.inBand TwoRuns.unacted TwoRuns.unechoed TwoRuns.untokened TwoRuns.unset TwoRuns.unsetRaised TwoRuns.isChanged TwoRuns.inBoth TwoRuns.suppositions TwoRuns.supposed TwoRuns.blanked TwoRuns.seen
 openTwoRuns = tt
 
+unfoldable pub openExamples : Unit {0}
+unfolding Examples.sameSeen Examples.looksSame Examples.hostReads Examples.conversation Examples.typing Examples.reading Examples.meets Examples.passcode Examples.isHidden Examples.broken Examples.shows
+openExamples = tt
+
 unfoldable pub whole : Unit {0}
-unfolding openChoice openNumbers openLayout openParameters openForms openCodec openUnused openStartRead openScreen openState openTurns openToken openReadData openEditing openArrival openAcceptance openSteps openCharacteristics openHost openCalls openBench openTwoRuns
+unfolding openChoice openNumbers openLayout openParameters openForms openCodec openUnused openStartRead openScreen openState openTurns openToken openReadData openEditing openArrival openAcceptance openSteps openCharacteristics openHost openCalls openBench openTwoRuns openExamples
 whole = tt
