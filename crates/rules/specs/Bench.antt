@@ -1,6 +1,6 @@
 -- Page 01, "Bench cases": the starred ones as one table, and what it is for a row to hold.
-use Prim.Native.Nat.{ℕ, suc, _+_}
-use mathlib.Core.Bool.{Bool, true, false, not, _&&_}
+use Prim.Native.Nat.{ℕ, suc}
+use mathlib.Core.Bool.{Bool, true, false, _&&_}
 use mathlib.Core.List.{List, [], _∷_, _++_}
 use lib.Dec.{eqb}
 use lib.ListN.{take, replicate}
@@ -10,7 +10,7 @@ use Rattle.rules.specs.Messages.Forms.{Message}
 use Rattle.rules.specs.Messages.Codec as codec
 use Rattle.rules.specs.Messages.Codec.{Outcome, refused, sound, read, written}
 use Rattle.rules.specs.State.{State, fresh, codes}
-use Rattle.rules.specs.Calls.{Event, key, step, tick, message, Call, Answer, answer, messageBytes}
+use Rattle.rules.specs.Calls.{Event, key, step, message, Call, Answer, answer, messageBytes}
 
 -- a call and what it is to answer: number, terminal bytes, the message area's bytes, and the dropped count after it
 pub record Exchange : Type 0 where

@@ -8,7 +8,7 @@ use lib.ListN.{replicate}
 use Rattle.rules.specs.Choice.{bit, joined, same}
 use Rattle.rules.specs.Numbers.{terminalArea, messageArea}
 use Rattle.rules.specs.State.{codes}
-use Rattle.rules.specs.Calls.{Event, key, step, message, Call, Answer, messageBytes, run}
+use Rattle.rules.specs.Calls.{Event, key, step, message, Call, messageBytes, run}
 use Rattle.rules.specs.TwoRuns.{suppositions, inBand, Seen, seen}
 
 -- the same to everyone, as a test
