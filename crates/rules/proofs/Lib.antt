@@ -9,3 +9,4 @@ pub mod RoundTrip
 pub mod Bench
 pub mod Sizes
 pub mod Bounds
+pub mod Erasure

@@ -1,7 +1,7 @@
 -- Page 01, "A key arrives", and the clear rule.
 use Prim.Native.Nat.{ℕ, _+_, _%_, min}
-use mathlib.Core.Bool.{Bool, true, false, not, _&&_, _||_}
-use mathlib.Core.List.{List, [], _∷_, _++_, map}
+use mathlib.Core.Bool.{Bool, true, false, not, _||_}
+use mathlib.Core.List.{[], _∷_, _++_, map}
 use mathlib.Core.Option.{Option, none, some}
 use lib.Dec.{ltb, eqb}
 use lib.ListN.{length, getD}
@@ -10,9 +10,9 @@ use Rattle.rules.specs.Numbers.{typeAheadSize, topDropped}
 use Rattle.rules.specs.Messages.Forms as forms
 use Rattle.rules.specs.Messages.Forms.{plain}
 use Rattle.rules.specs.Screen.{BEL}
-use Rattle.rules.specs.State.{Characters, Key, Reading, State, Terminal}
+use Rattle.rules.specs.State.{Characters, Reading, State}
 use Rattle.rules.specs.State.{withTerminal, withTyped, withRead, withIdle, withDiscarding, withQuoting, withDropped}
-use Rattle.rules.specs.Turns.{Fate, Part, quote, clear, discard, outOfBand, arrived, control, dropped, cleared}
+use Rattle.rules.specs.Turns.{Part, quote, clear, discard, outOfBand, arrived, control, dropped, cleared}
 use Rattle.rules.specs.Turns.{still, writes, sends, tells, changes, _then_}
 use Rattle.rules.specs.ReadData.{byOutOfBand, completes}
 use Rattle.rules.specs.Editing.{deletes, deletesUnseen}

@@ -1,16 +1,16 @@
 -- Page 01, "Bench cases": the starred ones as one table, and what it is for a row to hold.
-use Prim.Native.Nat.{ℕ, suc, _+_}
-use mathlib.Core.Bool.{Bool, true, false, not, _&&_}
+use Prim.Native.Nat.{ℕ, suc}
+use mathlib.Core.Bool.{Bool, true, false, _&&_}
 use mathlib.Core.List.{List, [], _∷_, _++_}
 use lib.Dec.{eqb}
 use lib.ListN.{take, replicate}
-use Rattle.rules.specs.Choice.{pick, joined}
+use Rattle.rules.specs.Choice.{pick, joined, same}
 use Rattle.rules.specs.Numbers.{terminalArea, messageArea, typeAheadSize}
 use Rattle.rules.specs.Messages.Forms.{Message}
 use Rattle.rules.specs.Messages.Codec as codec
 use Rattle.rules.specs.Messages.Codec.{Outcome, refused, sound, read, written}
 use Rattle.rules.specs.State.{State, fresh, codes}
-use Rattle.rules.specs.Calls.{Event, key, step, tick, message, Call, Answer, answer, messageBytes}
+use Rattle.rules.specs.Calls.{Event, key, step, message, Call, Answer, answer, messageBytes}
 
 -- a call and what it is to answer: number, terminal bytes, the message area's bytes, and the dropped count after it
 pub record Exchange : Type 0 where
@@ -28,13 +28,7 @@ pub data Row : Type 0 where
   -- these calls, from a fresh line, answer this
   runs : List Exchange → Row
 
--- equal lists of numbers, and of these
-unfoldable pub same : List ℕ → List ℕ → Bool
-same [] [] = true
-same [] (y ∷ ys) = false
-same (x ∷ xs) [] = false
-same (x ∷ xs) (y ∷ ys) = eqb x y && same xs ys
-
+-- equal lists of lists
 unfoldable pub sameAll : List (List ℕ) → List (List ℕ) → Bool
 sameAll [] [] = true
 sameAll [] (y ∷ ys) = false

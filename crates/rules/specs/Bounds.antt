@@ -1,21 +1,19 @@
 -- What holds of every state from a fresh line on, and of what a call writes, over the names of the sizes.
-use Prim.Native.Nat.{ℕ, _+_, _≤_, _<_, _%_}
+use Prim.Native.Nat.{ℕ, _≤_, _<_}
 use mathlib.Core.Path.{_≡_}
-use mathlib.Core.Bool.{Bool, true, false, not, _&&_}
+use mathlib.Core.Bool.{Bool, true, not, _&&_}
 use mathlib.Core.List.{List, [], _∷_, map}
 use mathlib.Core.Option.{Option, none, some}
-use lib.Dec.{ltb, eqb}
+use lib.Dec.{ltb}
 use lib.ListN.{length}
 use Rattle.rules.specs.Choice.{all}
 use Rattle.rules.specs.Numbers.{inputSize, typeAheadSize, tokenSize, terminalArea, messageArea, topColumn, topDropped}
 use Rattle.rules.specs.Messages.Forms.{Message}
 use Rattle.rules.specs.Messages.Codec.{sound, allBytes, read}
-use Rattle.rules.specs.State.{Host, Terminal, Key, Typed, Terms, Reading, State, codes}
-use Rattle.rules.specs.Token.{isWhole}
+use Rattle.rules.specs.State.{Host, Terminal, Typed, Terms, Reading, State, codes}
 use Rattle.rules.specs.Editing.{endOf}
 use Rattle.rules.specs.Characteristics.{isDeferredClear}
-use Rattle.rules.specs.Turns.{Turn}
-use Rattle.rules.specs.Calls.{Event, key, step, tick, message, Call, Answer, sentBytes, messageBytes, runFrom}
+use Rattle.rules.specs.Calls.{Event, key, step, tick, message, Answer, sentBytes, messageBytes}
 
 -- an attribute: seven bits, and not deferred-clear
 unfoldable pub isAttribute : ℕ → Bool

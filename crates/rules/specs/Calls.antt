@@ -1,12 +1,12 @@
 -- The four calls with their refusals, and a list of calls run from a fresh line.
-use Prim.Native.Nat.{ℕ, _+_}
+use Prim.Native.Nat.{ℕ}
 use mathlib.Core.Bool.{Bool, true, false, not, _&&_, _||_}
 use mathlib.Core.List.{List, [], _∷_, _++_, map}
 use mathlib.Core.Option.{Option, none, some}
-use lib.Dec.{leb, ltb, eqb}
+use lib.Dec.{leb, eqb}
 use lib.ListN.{length, drop}
 use Rattle.rules.specs.Choice.{pick, all, joined}
-use Rattle.rules.specs.Numbers.{terminalArea, messageArea, messageSize, accepted, smallArea, wrongLength, wrongType, wrongTime, notCarried}
+use Rattle.rules.specs.Numbers.{terminalArea, messageArea, accepted, smallArea, wrongLength, wrongType, wrongTime, notCarried}
 use Rattle.rules.specs.Messages.Layout.{byteAt, bytesOf}
 use Rattle.rules.specs.Messages.Parameters.{selector}
 use Rattle.rules.specs.Messages.Forms as forms
@@ -14,7 +14,7 @@ use Rattle.rules.specs.Messages.Forms.{Message, formOf}
 use Rattle.rules.specs.Messages.Codec.{Outcome, refused, sound, soundLength, definedKind, read, bytesAs}
 use Rattle.rules.specs.StartRead.{startOfDisplay, continues, vertical}
 use Rattle.rules.specs.State.{Characters, Reading, State, fresh}
-use Rattle.rules.specs.Turns.{Fate, Turn, Part, still}
+use Rattle.rules.specs.Turns.{Turn, Part, still}
 use Rattle.rules.specs.Arrival.{arrives}
 use Rattle.rules.specs.Steps.{steps, ticks}
 use Rattle.rules.specs.Characteristics.{isCarried, carriesSettings, report}

@@ -1,6 +1,6 @@
 -- Characteristics and Read Characteristics: the five that are carried (000, 4.16.11, 4.16.12 and 4.17.2).
 use Prim.Native.Nat.{ℕ, zero, suc, _+_, _*_, _/_, _%_}
-use mathlib.Core.Bool.{Bool, true, false, not, _||_}
+use mathlib.Core.Bool.{Bool, false, not, _||_}
 use mathlib.Core.List.{List, [], _∷_, map}
 use lib.Dec.{eqb}
 use lib.ListN.{getD, set}

@@ -1,8 +1,8 @@
 -- The small words the rules are written in: a choice by a test, tests of numbers, and lists of them.
-use Prim.Native.Nat.{ℕ, zero, suc}
+use Prim.Native.Nat.{ℕ}
 use mathlib.Core.Bool.{Bool, true, false, _&&_, _||_}
 use mathlib.Core.List.{List, [], _∷_, _++_}
-use lib.Dec.{leb}
+use lib.Dec.{leb, eqb}
 
 -- the first where the test holds, the second where it does not
 unfoldable pub pick : {A : Type 0} → Bool → A → A → A
@@ -33,3 +33,10 @@ module _ {A : Type 0} where
   unfoldable pub joined : List (List A) → List A
   joined [] = []
   joined (x ∷ xs) = x ++ joined xs
+
+-- equal lists of numbers
+unfoldable pub same : List ℕ → List ℕ → Bool
+same [] [] = true
+same [] (y ∷ ys) = false
+same (x ∷ xs) [] = false
+same (x ∷ xs) (y ∷ ys) = eqb x y && same xs ys

@@ -1,13 +1,13 @@
 -- Deleting from a pending read's input, and showing it again. 127, 23 and 21 delete, and so does the clear rule; 18 redisplays.
 use Prim.Native.Nat.{ℕ, _+_, _-_, min}
-use mathlib.Core.Bool.{Bool, true, false, not, _&&_, _||_}
+use mathlib.Core.Bool.{Bool, not, _&&_, _||_}
 use mathlib.Core.List.{List, [], _∷_, map, reverse}
-use mathlib.Core.Option.{Option, none, some}
+use mathlib.Core.Option.{some}
 use lib.Dec.{ltb}
 use lib.ListN.{length, take, drop}
 use Rattle.rules.specs.Choice.{pick, within, bit}
 use Rattle.rules.specs.Screen.{CR, LF, echoAll, marksBehind, rubOut}
-use Rattle.rules.specs.State.{Characters, State, Reading, withRead, withFrom}
+use Rattle.rules.specs.State.{Characters, Reading, withRead, withFrom}
 use Rattle.rules.specs.Turns.{Fate, Part, writes, tells, changes, _then_}
 
 -- word class: ASCII letter or digit, or neither

@@ -1,7 +1,7 @@
 -- What an accepted host message does: Initiate, Clear Input, Write, and the rest by their own rules.
-use Prim.Native.Nat.{ℕ, _+_}
-use mathlib.Core.Bool.{Bool, true, false, not, _&&_}
-use mathlib.Core.List.{List, [], _∷_, _++_}
+use Prim.Native.Nat.{ℕ}
+use mathlib.Core.Bool.{true, false, not, _&&_}
+use mathlib.Core.List.{[], _∷_}
 use lib.Dec.{eqb}
 use lib.ListN.{replicate}
 use Rattle.rules.specs.Choice.{pick, bit, isEmpty}
@@ -11,7 +11,7 @@ use Rattle.rules.specs.Messages.Forms as forms
 use Rattle.rules.specs.Messages.Forms.{Message, number, plain}
 use Rattle.rules.specs.Screen.{SP, change}
 use Rattle.rules.specs.State.{Characters, State, withHost, withTerminal, withBegun, withDiscarding}
-use Rattle.rules.specs.Turns.{Part, still, writes, sends, changes, _then_, only}
+use Rattle.rules.specs.Turns.{Part, writes, sends, changes, _then_, only}
 use Rattle.rules.specs.ReadData.{unreads, checksInput}
 use Rattle.rules.specs.Arrival.{clears}
 use Rattle.rules.specs.StartRead.Acceptance.{startsRead}

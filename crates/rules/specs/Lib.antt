@@ -15,4 +15,5 @@ pub mod Host
 pub mod Calls
 pub mod Bounds
 pub mod Bench
+pub mod TwoRuns
 pub mod Whole

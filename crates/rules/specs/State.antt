@@ -1,9 +1,9 @@
 -- The line's state, the typed characters in it, and what became of a key.
-use Prim.Native.Nat.{ℕ, _+_, _-_}
+use Prim.Native.Nat.{ℕ, _-_}
 use mathlib.Core.Bool.{Bool, true, false}
-use mathlib.Core.List.{List, [], _∷_}
-use mathlib.Core.Option.{Option, none, some}
-use lib.ListN.{length, replicate}
+use mathlib.Core.List.{List, []}
+use mathlib.Core.Option.{Option, none}
+use lib.ListN.{replicate}
 use Rattle.rules.specs.Choice.{pick, within}
 use Rattle.rules.specs.StartRead.{universal}
 use Rattle.rules.specs.Screen.{Screen}

@@ -6,6 +6,7 @@ use Rattle.rules.specs.Messages.Layout
 use Rattle.rules.specs.Messages.Parameters
 use Rattle.rules.specs.Messages.Forms
 use Rattle.rules.specs.Messages.Codec
+use Rattle.rules.specs.Messages.Unused
 use Rattle.rules.specs.StartRead
 use Rattle.rules.specs.Screen
 use Rattle.rules.specs.State
@@ -20,9 +21,11 @@ use Rattle.rules.specs.Characteristics
 use Rattle.rules.specs.Host
 use Rattle.rules.specs.Calls
 use Rattle.rules.specs.Bench
+use Rattle.rules.specs.TwoRuns
+use Rattle.rules.specs.TwoRuns.Examples
 
 unfoldable pub openChoice : Unit {0}
-unfolding Choice.pick Choice.within Choice.bit Choice.isEmpty Choice.all Choice.any Choice.joined
+unfolding Choice.pick Choice.within Choice.bit Choice.isEmpty Choice.all Choice.any Choice.joined Choice.same
 openChoice = tt
 
 unfoldable pub openNumbers : Unit {0}
@@ -44,6 +47,10 @@ openForms = tt
 unfoldable pub openCodec : Unit {0}
 unfolding Codec.definedKind Codec.definedFields Codec.wholeTail Codec.setIn Codec.parametersIn Codec.textIn Codec.behindHead Codec.fieldsAs Codec.soundAs Codec.soundLength Codec.read Codec.allBytes Codec.tailBytes Codec.bytesAs Codec.fitsTail Codec.fitsAs Codec.kindOf Codec.bytesOf Codec.fitsHeld Codec.written
 openCodec = tt
+
+unfoldable pub openUnused : Unit {0}
+unfolding Unused.bitsOf Unused.clearGroups Unused.clearTail Unused.clearAs Unused.unusedZero
+openUnused = tt
 
 unfoldable pub openStartRead : Unit {0}
 unfolding StartRead.soundStartRead StartRead.inSet StartRead.universal StartRead.chosenSet
@@ -98,9 +105,17 @@ unfolding Calls.framed Calls.areaAfter Calls.mapText Calls.sentBytes Calls.isSer
 openCalls = tt
 
 unfoldable pub openBench : Unit {0}
-unfolding Bench.same Bench.sameAll Bench.readsAs Bench.endsIn Bench.copied Bench.answersAs Bench.runsAs Bench.holds Bench.failures Bench.starred Bench.warned
+unfolding Bench.sameAll Bench.readsAs Bench.endsIn Bench.copied Bench.answersAs Bench.runsAs Bench.holds Bench.failures Bench.starred Bench.warned
 openBench = tt
 
+unfoldable pub openTwoRuns : Unit {0}
+unfolding TwoRuns.kindOf TwoRuns.bytesOf TwoRuns.codeOf TwoRuns.agree TwoRuns.alike TwoRuns.changedAt TwoRuns.eachChanged TwoRuns.isPrinting TwoRuns.bothPrinting TwoRuns.sameClass TwoRuns.codeIn TwoRuns.raisedIn TwoRuns.placedEvent TwoRuns.placed TwoRuns.history TwoRuns.fateTest TwoRuns.isOutOfBand TwoRuns.inBand TwoRuns.unacted TwoRuns.unechoed TwoRuns.untokened TwoRuns.unset TwoRuns.unsetRaised TwoRuns.isChanged TwoRuns.inBoth TwoRuns.suppositions TwoRuns.supposed TwoRuns.blanked TwoRuns.seen
+openTwoRuns = tt
+
+unfoldable pub openExamples : Unit {0}
+unfolding Examples.sameSeen Examples.looksSame Examples.hostReads Examples.conversation Examples.typing Examples.reading Examples.meets Examples.passcode Examples.isHidden Examples.broken Examples.shows
+openExamples = tt
+
 unfoldable pub whole : Unit {0}
-unfolding openChoice openNumbers openLayout openParameters openForms openCodec openStartRead openScreen openState openTurns openToken openReadData openEditing openArrival openAcceptance openSteps openCharacteristics openHost openCalls openBench
+unfolding openChoice openNumbers openLayout openParameters openForms openCodec openUnused openStartRead openScreen openState openTurns openToken openReadData openEditing openArrival openAcceptance openSteps openCharacteristics openHost openCalls openBench openTwoRuns openExamples
 whole = tt

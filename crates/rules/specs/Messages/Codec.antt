@@ -1,5 +1,5 @@
 -- Reading a message gives its fields or a number, writing fields gives bytes or a number; both without a line.
-use Prim.Native.Nat.{ℕ, zero, suc, _+_}
+use Prim.Native.Nat.{ℕ, zero, _+_}
 use mathlib.Core.Bool.{Bool, true, false, _&&_}
 use mathlib.Core.List.{List, [], _∷_, _++_, map}
 use lib.Dec.{leb, ltb, eqb}
@@ -7,7 +7,7 @@ use lib.ListN.{length, take, drop}
 use Rattle.rules.specs.Choice.{pick, within, isEmpty, all, joined}
 use Rattle.rules.specs.Numbers.{inputSize, messageSize, messageArea, smallArea, wrongLength, wrongType, unsound}
 use Rattle.rules.specs.Messages.Layout.{byteAt, sizeOf, widthsOf, fits, readGroups, writeGroups}
-use Rattle.rules.specs.Messages.Parameters.{Shape, soundParameter, fitsParameter, cleaned, cut}
+use Rattle.rules.specs.Messages.Parameters.{soundParameter, fitsParameter, cleaned, cut}
 use Rattle.rules.specs.Messages.Forms.{Message, Tail, nothing, text, setAndText, list, Form, number, formOf}
 use Rattle.rules.specs.Messages.Forms.{startRead, readData, write}
 use Rattle.rules.specs.StartRead.{soundStartRead}

@@ -1,7 +1,7 @@
 -- Page 01, "Start Read": what acceptance does.
 use Prim.Native.Nat.{ℕ}
 use mathlib.Core.Bool.{Bool, _&&_}
-use mathlib.Core.List.{List, [], _∷_, map}
+use mathlib.Core.List.{[], _∷_, map}
 use lib.Dec.{eqb}
 use lib.ListN.{take, drop}
 use Rattle.rules.specs.Choice.{pick, bit}
@@ -9,7 +9,7 @@ use Rattle.rules.specs.Messages.Layout.{byteAt}
 use Rattle.rules.specs.Messages.Forms.{Message}
 use Rattle.rules.specs.Screen.{LF}
 use Rattle.rules.specs.State.{Characters, Terms, Reading, State, withHost, withLastSet}
-use Rattle.rules.specs.Turns.{Part, still, writes, changes, _then_, only}
+use Rattle.rules.specs.Turns.{Part, writes, changes, _then_, only}
 use Rattle.rules.specs.ReadData.{byFullBuffer, completes}
 use Rattle.rules.specs.Editing.{displays}
 use Rattle.rules.specs.Arrival.{emptiesTyped}
