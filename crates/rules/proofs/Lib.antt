@@ -10,3 +10,4 @@ pub mod Bench
 pub mod Sizes
 pub mod Bounds
 pub mod Erasure
+pub mod TwoRuns

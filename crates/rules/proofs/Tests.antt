@@ -31,6 +31,12 @@ module _ {A : Type 0} where
   pick-both R true p q = p
   pick-both R false p q = q
 
+  -- choices by one test, of equal things where it holds
+  pub pick-same : (t : Bool) {a a′ : A} (b : A) → (t ≡ true → a ≡ a′) → pick t a b ≡ pick t a′ b
+  unfolding pick
+  pick-same true b e = e refl
+  pick-same false b e = refl
+
   -- a choice that is x was made for the side that can be x
   pub pick-first : (t : Bool) {a b x : A} → (b ≡ x → ⊥) → pick t a b ≡ x → (t ≡ true) × (a ≡ x)
   unfolding pick
@@ -41,6 +47,13 @@ module _ {A : Type 0} where
   unfolding pick
   pick-second true no-a e = absurd (no-a e)
   pick-second false no-a e = (refl, e)
+
+-- what holds between the first two and between the second two holds between choices by one test
+pub pick-related : {A B : Type 0} (R : A → B → Type 0) (t : Bool) {a a′ : A} {b b′ : B} → R a b → R a′ b′ →
+    R (pick t a a′) (pick t b b′)
+unfolding pick
+pick-related R true r r′ = r
+pick-related R false r r′ = r′
 
 -- Both tests.
 pub both : {a b : Bool} → a ≡ true → b ≡ true → a && b ≡ true
@@ -98,6 +111,10 @@ module _ {A : Type 0} where
     unfolding all
     all-append [] ys = refl
     all-append (x ∷ xs) ys = ap (λ b. test x && b) (all-append xs ys) ∙ sym (and-assoc (test x) (all test xs) (all test ys))
+
+    pub all-snoc : (xs : List A) (x : A) → all test xs ≡ true → test x ≡ true → all test (xs ++ x ∷ []) ≡ true
+    unfolding all
+    all-snoc xs x p q = all-append xs (x ∷ []) ∙ both p (both q refl)
 
     pub all-split : (n : ℕ) (xs : List A) → all test xs ≡ true → (all test (take n xs) ≡ true) × (all test (drop n xs) ≡ true)
     all-split n xs e =

@@ -1,0 +1,10 @@
+-- Two runs that differ in hidden keys: what is proved of demand 3.
+pub mod Printing
+pub mod Twins
+pub mod Parts
+pub mod Fates
+pub mod Reads
+pub mod Arrivals
+pub mod Words
+pub mod Steps
+pub mod Answers

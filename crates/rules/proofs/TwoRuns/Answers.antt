@@ -1,0 +1,133 @@
+-- Agreement of two runs: host messages, and a call's answer.
+use Prim.Native.Nat.{ℕ}
+use mathlib.Core.Path.{_≡_, refl}
+use mathlib.Core.Bool.{Bool, true}
+use mathlib.Core.List.{List, [], _∷_, map}
+use lib.ListN.{drop}
+use Rattle.rules.specs.Choice.{all}
+use Rattle.rules.specs.Messages.Forms.{Message}
+use Rattle.rules.specs.Messages.Codec.{Outcome, refused, sound}
+use Rattle.rules.specs.State.{Reading, State, fresh}
+use Rattle.rules.specs.Turns.{Part}
+use Rattle.rules.specs.TwoRuns.{preloaded}
+use Rattle.rules.specs.ReadData.{checksInput}
+use Rattle.rules.specs.StartRead.{endOfPrompt}
+use Rattle.rules.specs.StartRead.Acceptance.{termsOf, readingOf, remembersSet, begins, startsRead}
+use Rattle.rules.specs.Host.{initiates, writesOut, reports, setsCharacteristics, obeys}
+use Rattle.rules.specs.Calls.{Event, key, step, tick, message, Call, Answer, refuses, does, considered, isRoomy, hears, answers, answer}
+use Rattle.rules.proofs.Tests.{pick-related}
+use Rattle.rules.proofs.TwoRuns.Twins.{Twin, both, isBoth, code₁, code₂, first-chars, second-chars, LevelReading, Level}
+use Rattle.rules.proofs.TwoRuns.Twins.{Spared, Agree, Agrees, Parts, Agreeing}
+use Rattle.rules.proofs.TwoRuns.Parts.{agrees-terminal, agrees-host, agrees-then, agrees-still, agrees-writes, agrees-sends, agrees-pick, agrees-only}
+use Rattle.rules.proofs.TwoRuns.Reads.{completes-agrees, unreads-agrees, displays-agrees}
+use Rattle.rules.proofs.TwoRuns.Arrivals.{emptiesTyped-agrees, clears-agrees, arrives-agrees}
+use Rattle.rules.proofs.TwoRuns.Steps.{steps-agrees, ticks-agrees}
+
+-- the text that a Start Read brings is the same in both runs
+given-both : (changed : ℕ → Bool) (ns : List ℕ) → all (isBoth {changed = changed}) (map (λ n. both (preloaded n)) ns) ≡ true
+unfolding all
+given-both changed [] = refl
+given-both changed (n ∷ ns) = given-both changed ns
+
+module _ {changed : ℕ → Bool} where
+  pub fresh-level : Level {changed = changed} fresh
+  unfolding fresh all
+  fresh-level = record { token = refl; read = tt }
+
+  -- Start Read.
+
+  begins-agrees : (m : Message ℕ) (r : Reading (Twin changed)) → LevelReading r → Agreeing (λ chars. begins chars m r)
+  unfolding begins
+  begins-agrees m r h =
+      agrees-then (agrees-only refl emptiesTyped-agrees)
+      (agrees-then (λ s. agrees-only refl (agrees-writes refl) s)
+      (agrees-then (λ s. agrees-only refl (agrees-writes refl) s)
+      (agrees-then (displays-agrees r h)
+      (agrees-only refl (completes-agrees refl 0 r)))))
+
+  remembersSet-agrees : (m : Message ℕ) → Agreeing {changed = changed} (λ chars. remembersSet chars m)
+  unfolding remembersSet
+  remembersSet-agrees m = agrees-only refl (agrees-host _)
+
+  startsRead-agrees : (m : Message ℕ) → Agreeing {changed = changed} (λ chars. startsRead chars m)
+  unfolding startsRead readingOf termsOf
+  startsRead-agrees m s =
+      let r = readingOf first-chars m s in
+      agrees-then (begins-agrees m r (λ e. given-both changed (drop (endOfPrompt m) (m .text)))) (remembersSet-agrees m) s
+
+  -- The other messages.
+
+  initiates-agrees : Agreeing {changed = changed} (λ chars. initiates)
+  unfolding initiates
+  initiates-agrees = agrees-then (agrees-host _) (agrees-sends refl)
+
+  writesOut-agrees : (m : Message ℕ) → Agreeing {changed = changed} (λ chars. writesOut m)
+  unfolding writesOut
+  writesOut-agrees m before =
+      agrees-then (agrees-only refl (agrees-terminal _))
+      (agrees-then (λ s. agrees-only refl (agrees-writes refl) s)
+      (agrees-only refl (λ s. agrees-sends refl s))) before
+
+  reports-agrees : (m : Message ℕ) → Agreeing {changed = changed} (λ chars. reports m)
+  unfolding reports
+  reports-agrees m s = agrees-sends refl s
+
+  setsCharacteristics-agrees : (m : Message ℕ) → Agreeing {changed = changed} (λ chars. setsCharacteristics m)
+  unfolding setsCharacteristics
+  setsCharacteristics-agrees m = agrees-host _
+
+  checksInput-agrees : Agreeing {changed = changed} (λ chars. checksInput)
+  unfolding checksInput
+  checksInput-agrees s = agrees-sends refl s
+
+  obeys-agrees : (m : Message ℕ) → Agreeing {changed = changed} (λ chars. obeys chars m)
+  unfolding obeys
+  obeys-agrees m =
+      agrees-pick refl initiates-agrees
+      (agrees-pick refl (startsRead-agrees m)
+      (agrees-pick refl (unreads-agrees m)
+      (agrees-pick refl clears-agrees
+      (agrees-pick refl (writesOut-agrees m)
+      (agrees-pick refl (reports-agrees m)
+      (agrees-pick refl (setsCharacteristics-agrees m)
+      checksInput-agrees))))))
+
+  -- A call.
+
+  record SameAnswer (a b : Answer (Twin changed)) : Type 0 where
+    number : a .number ≡ b .number
+    turn : Agrees (a .turn) (b .turn)
+
+  -- from any level state
+  abbrev SameAnswers : (State (Twin changed) → Answer (Twin changed)) → (State (Twin changed) → Answer (Twin changed)) → Type 0
+  SameAnswers f g = (s : State (Twin changed)) → Level s → SameAnswer (f s) (g s)
+
+  does-same : {f g : Part (Twin changed)} → Parts f g → SameAnswers (does f) (does g)
+  unfolding does
+  does-same p s l = record { number = refl; turn = p s l }
+
+  refuses-same : (n : ℕ) → SameAnswers (refuses n) (refuses n)
+  unfolding refuses
+  refuses-same n s l = record { number = refl; turn = agrees-still s l }
+
+  hears-same : (o : Outcome (Message ℕ)) → SameAnswers (hears first-chars o) (hears second-chars o)
+  unfolding hears
+  hears-same (refused n) = refuses-same n
+  hears-same (sound m) = does-same (obeys-agrees m)
+
+  answers-same : (e : Event (Twin changed)) → SameAnswers (answers first-chars e) (answers second-chars e)
+  unfolding answers
+  answers-same (key c) s l = does-same (arrives-agrees c) s l
+  answers-same step s l = does-same steps-agrees s l
+  answers-same tick s l = does-same ticks-agrees s l
+  answers-same (message bytes) s l = hears-same (considered s bytes) s l
+
+  pub agree-answer : (c : Call (Twin changed)) (s : State (Twin changed)) → Level s →
+      Spared code₁ (answer first-chars c s .turn .fates) →
+      Spared code₂ (answer second-chars c s .turn .fates) →
+      (answer first-chars c s .number ≡ answer second-chars c s .number) ×
+      Agree (answer first-chars c s .turn) (answer second-chars c s .turn)
+  unfolding answer
+  agree-answer c s l x y =
+      let a = pick-related SameAnswers (isRoomy c) (answers-same (c .event)) (refuses-same _) s l in
+      (a .number, a .turn .agreed x y)
