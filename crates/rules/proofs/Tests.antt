@@ -48,13 +48,6 @@ module _ {A : Type 0} where
   pick-second true no-a e = absurd (no-a e)
   pick-second false no-a e = (refl, e)
 
--- what holds between the first two and between the second two holds between choices by one test
-pub pick-related : {A B : Type 0} (R : A → B → Type 0) (t : Bool) {a a′ : A} {b b′ : B} → R a b → R a′ b′ →
-    R (pick t a a′) (pick t b b′)
-unfolding pick
-pick-related R true r r′ = r
-pick-related R false r r′ = r′
-
 -- Both tests.
 pub both : {a b : Bool} → a ≡ true → b ≡ true → a && b ≡ true
 both p q = rw (p, q)

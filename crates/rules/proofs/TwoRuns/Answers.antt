@@ -15,7 +15,7 @@ use Rattle.rules.specs.StartRead.{endOfPrompt}
 use Rattle.rules.specs.StartRead.Acceptance.{termsOf, readingOf, remembersSet, begins, startsRead}
 use Rattle.rules.specs.Host.{initiates, writesOut, reports, setsCharacteristics, obeys}
 use Rattle.rules.specs.Calls.{Event, key, step, tick, message, Call, Answer, refuses, does, considered, isRoomy, hears, answers, answer}
-use Rattle.rules.proofs.Tests.{pick-related}
+use Rattle.rules.proofs.Tests.{pick-both}
 use Rattle.rules.proofs.TwoRuns.Twins.{Twin, both, isBoth, code₁, code₂, first-chars, second-chars, LevelReading, Level}
 use Rattle.rules.proofs.TwoRuns.Twins.{Spared, Agree, Agrees, Parts, Agreeing}
 use Rattle.rules.proofs.TwoRuns.Parts.{agrees-terminal, agrees-host, agrees-then, agrees-still, agrees-writes, agrees-sends, agrees-pick, agrees-only}
@@ -129,5 +129,5 @@ module _ {changed : ℕ → Bool} where
       Agree (answer first-chars c s .turn) (answer second-chars c s .turn)
   unfolding answer
   agree-answer c s l x y =
-      let a = pick-related SameAnswers (isRoomy c) (answers-same (c .event)) (refuses-same _) s l in
+      let a = pick-both SameAnswers (isRoomy c) (answers-same (c .event)) (refuses-same _) s l in
       (a .number, a .turn .agreed x y)

@@ -10,7 +10,7 @@ use Rattle.rules.specs.Messages.Forms.{Message}
 use Rattle.rules.specs.State.{Host, Terminal, Key, Reading, State, withHost, withTerminal, withTyped, withRead}
 use Rattle.rules.specs.Turns.{Turn, Fate, Part, still, writes, sends, tells, changes, behind, _then_, only}
 use Rattle.rules.specs.TwoRuns.{isPrinting}
-use Rattle.rules.proofs.Tests.{pick-related, halves, all-append}
+use Rattle.rules.proofs.Tests.{pick-both, halves, all-append}
 use Rattle.rules.proofs.TwoRuns.Twins.{Twin, both, apart, isBoth, code₁, code₂, Settled, settled-code}
 use Rattle.rules.proofs.TwoRuns.Twins.{LevelRead, Level, spared, Spared, Agrees, Parts, Agreeing}
 
@@ -97,7 +97,7 @@ module _ {changed : ℕ → Bool} where
 
   pub agrees-pick : {t t′ : Bool} {f f′ g g′ : Part (Twin changed)} → t ≡ t′ → Parts f f′ → Parts g g′ →
       Parts (pick t f g) (pick t′ f′ g′)
-  agrees-pick {t} e p q = rw (← e) (pick-related Parts t p q)
+  agrees-pick {t} e p q = rw (← e) (pick-both Parts t p q)
 
   pub agrees-only : {t t′ : Bool} {f f′ : Part (Twin changed)} → t ≡ t′ → Parts f f′ → Parts (only t f) (only t′ f′)
   unfolding only
