@@ -4,7 +4,9 @@ pub mod Twins
 pub mod Parts
 pub mod Fates
 pub mod Reads
+pub mod Bands
 pub mod Arrivals
 pub mod Words
 pub mod Steps
 pub mod Answers
+pub mod Pairing

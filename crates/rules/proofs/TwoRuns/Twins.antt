@@ -6,11 +6,12 @@ use mathlib.Core.List.{List, [], _∷_, map}
 use mathlib.Core.Option.{Option, none, some}
 use lib.Dec.{eqb}
 use Rattle.rules.specs.Choice.{all}
+use Rattle.rules.specs.Messages.Forms.{Message, readData}
 use Rattle.rules.specs.Editing.{isWord}
 use Rattle.rules.specs.State.{Characters, State, Reading, raised}
 use Rattle.rules.specs.Turns.{Turn, Fate, Part}
 use Rattle.rules.specs.TwoRuns.{Placed, typedAt, preloaded, codeIn, raisedIn, isPrinting, sameClass}
-use Rattle.rules.specs.TwoRuns.{unacted, unechoed, untokened, unset, unsetRaised}
+use Rattle.rules.specs.TwoRuns.{unechoed, untokened, unset, unsetRaised}
 use Rattle.rules.proofs.Tests.{all-cons}
 use Rattle.rules.proofs.TwoRuns.Printing.{raised-printing, beq-same, unlike}
 
@@ -115,10 +116,9 @@ module _ {changed : ℕ → Bool} where
     pub token : all isBoth (s .typed .token) ≡ true
     pub read : LevelRead (s .read)
 
-  -- What is supposed of a fate in one run.
+  -- What is supposed of a fate in one run, but for a key's arrival.
   unfoldable pub spared : (Twin changed → ℕ) → Fate (Twin changed) → Bool
   spared code f =
-      unacted code isApart f &&
       unechoed code isApart f &&
       untokened code isApart f &&
       unset code isApart f &&
@@ -127,10 +127,16 @@ module _ {changed : ℕ → Bool} where
   abbrev pub Spared : (Twin changed → ℕ) → List (Fate (Twin changed)) → Type 0
   Spared code fs = all (spared code) fs ≡ true
 
+  -- a changed key is sent nowhere but in the DATA of Read Data
+  unfoldable pub isGuarded : Message (Twin changed) → Bool
+  unfolding all
+  isGuarded m = eqb (m .kind) readData || all isBoth (m .text)
+
   -- Two turns agree but for what they say of keys.
   pub record Agree (t u : Turn (Twin changed)) : Type 0 where
     pub bytes : t .bytes ≡ u .bytes
     pub messages : t .messages ≡ u .messages
+    pub guarded : all isGuarded (t .messages) ≡ true
     pub state : t .state ≡ u .state
     pub level : Level (t .state)
 
@@ -138,9 +144,12 @@ module _ {changed : ℕ → Bool} where
   pub record Agrees (t u : Turn (Twin changed)) : Type 0 where
     pub agreed : Spared code₁ (t .fates) → Spared code₂ (u .fates) → Agree t u
 
-  -- two parts, from any level state
+  -- two parts, from one state, and from any level state
+  abbrev pub PartsAt : State (Twin changed) → Part (Twin changed) → Part (Twin changed) → Type 0
+  PartsAt s f g = Agrees (f s) (g s)
+
   abbrev pub Parts : Part (Twin changed) → Part (Twin changed) → Type 0
-  Parts f g = (s : State (Twin changed)) → Level s → Agrees (f s) (g s)
+  Parts f g = (s : State (Twin changed)) → Level s → PartsAt s f g
 
   -- a rule, by the first codes and by the second
   abbrev pub Agreeing : (Characters (Twin changed) → Part (Twin changed)) → Type 0
