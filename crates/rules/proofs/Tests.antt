@@ -135,9 +135,11 @@ module _ {A : Type 0} where
     unfolding all
     all-snoc xs x p q = all-behind xs (x ∷ []) p (both q refl)
 
+    pub all-halves : (xs ys : List A) → all test (xs ++ ys) ≡ true → (all test xs ≡ true) × (all test ys ≡ true)
+    all-halves xs ys e = halves (all test xs) (all test ys) (rw all-append at e)
+
     pub all-split : (n : ℕ) (xs : List A) → all test xs ≡ true → (all test (take n xs) ≡ true) × (all test (drop n xs) ≡ true)
-    all-split n xs e =
-        halves (all test (take n xs)) (all test (drop n xs)) (rw (← take-append-drop n xs, all-append) at e)
+    all-split n xs e = all-halves (take n xs) (drop n xs) (rw (← take-append-drop n xs) at e)
 
     pub all-joined : (xss : List (List A)) → all test (joined xss) ≡ all (all test) xss
     unfolding all joined
@@ -205,6 +207,12 @@ module _ {A : Type 0} where
   unfolding all
   all-map p q f h [] e = refl
   all-map p q f h (x ∷ xs) e = let t = all-cons p x xs e in both (h x (t .0)) (all-map p q f h xs (t .1))
+
+  pub all-unmap : {B : Type 0} (p : A → Bool) (q : B → Bool) (f : A → B) → ((x : A) → q (f x) ≡ true → p x ≡ true) →
+      (xs : List A) → all q (map f xs) ≡ true → all p xs ≡ true
+  unfolding all
+  all-unmap p q f h [] e = refl
+  all-unmap p q f h (x ∷ xs) e = let t = halves (q (f x)) (all q (map f xs)) e in both (h x (t .0)) (all-unmap p q f h xs (t .1))
 
   pub all-both : (p q : A → Bool) (xs : List A) → all p xs ≡ true → all q xs ≡ true → all (λ x. p x && q x) xs ≡ true
   unfolding all

@@ -10,3 +10,8 @@ pub mod Words
 pub mod Steps
 pub mod Answers
 pub mod Pairing
+pub mod Sides
+pub mod Carried
+pub mod Looks
+pub mod Runs
+pub mod Claim

@@ -10,16 +10,12 @@ use Rattle.rules.specs.Messages.Forms.{Message}
 use Rattle.rules.specs.State.{Host, Terminal, Key, Reading, State, withHost, withTerminal, withTyped, withRead}
 use Rattle.rules.specs.Turns.{Turn, Fate, Part, still, writes, sends, tells, changes, behind, _then_, only}
 use Rattle.rules.specs.TwoRuns.{isPrinting}
-use Rattle.rules.proofs.Tests.{pick-both, halves, all-more, all-append, all-behind}
+use Rattle.rules.proofs.Tests.{pick-both, all-more, all-behind, all-halves}
 use Rattle.rules.proofs.TwoRuns.Twins.{Twin, both, apart, isBoth, code₁, code₂, Settled, settled-code}
 use Rattle.rules.proofs.TwoRuns.Twins.{LevelRead, Level, spared, Spared, isGuarded, Agrees, PartsAt, Parts, Agreeing}
 
 module _ {changed : ℕ → Bool} where
   -- One part after another.
-
-  spared-split : (code : Twin changed → ℕ) (fs gs : List (Fate (Twin changed))) →
-      Spared code (fs ++ gs) → Spared code fs × Spared code gs
-  spared-split code fs gs e = halves (all (spared code) fs) (all (spared code) gs) (rw all-append at e)
 
   -- the second may use that the first one's fates were spared
   then-by : (f f′ g g′ : Part (Twin changed)) (s : State (Twin changed)) → PartsAt s f f′ →
@@ -29,8 +25,8 @@ module _ {changed : ℕ → Bool} where
   then-by f f′ g g′ s p q =
       record {
         agreed = λ x y.
-            let a = spared-split code₁ (f s .fates) (g (f s .state) .fates) x in
-            let b = spared-split code₂ (f′ s .fates) (g′ (f′ s .state) .fates) y in
+            let a = all-halves (spared code₁) (f s .fates) (g (f s .state) .fates) x in
+            let b = all-halves (spared code₂) (f′ s .fates) (g′ (f′ s .state) .fates) y in
             let h = p .agreed (a .0) (b .0) in
             let next = q (a .0) (b .0) (h .level) in
             let k = subst (λ u. Agrees (g (f s .state)) (g′ u)) (h .state) next .agreed (a .1) (b .1) in

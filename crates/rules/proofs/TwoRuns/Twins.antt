@@ -40,13 +40,16 @@ module _ (changed : ℕ → Bool) where
     apart : (place m n : ℕ) → changed place ≡ true → Hidden m n → Twin
 
 module _ {changed : ℕ → Bool} where
+  -- the character of one run, by a choice of one of two codes
+  abbrev pub sideOf : (ℕ → ℕ → ℕ) → Twin changed → Placed
+  sideOf choose (both p) = p
+  sideOf choose (apart place m n c h) = typedAt place (choose m n)
+
   abbrev pub firstOf : Twin changed → Placed
-  firstOf (both p) = p
-  firstOf (apart place m n c h) = typedAt place m
+  firstOf = sideOf (λ m n. m)
 
   abbrev pub secondOf : Twin changed → Placed
-  secondOf (both p) = p
-  secondOf (apart place m n c h) = typedAt place n
+  secondOf = sideOf (λ m n. n)
 
   abbrev pub isBoth : Twin changed → Bool
   isBoth (both p) = true
