@@ -2,7 +2,7 @@
 use mathlib.Core.Path.{_≡_, refl, sym, ap, _∙_}
 use Prim.Native.Nat.{ℕ, zero, suc, _≤_, _<_}
 use mathlib.Core.Bool.{Bool, true, false, not, _&&_, _||_, false≢true, and-assoc, or-assoc, or-true}
-use mathlib.Core.List.{List, [], _∷_, _++_, map}
+use mathlib.Core.List.{List, [], _∷_, _++_, map, List·Memᴰ, List·Memᴰ·head, List·Memᴰ·tail}
 use lib.Dec.{leb, eqb}
 use lib.ListN.{length, getD, set, take, drop, take-append-drop}
 use native.Mathlib.Omega.{arith}
@@ -145,6 +145,10 @@ module _ {A : Type 0} where
     unfolding all joined
     all-joined [] = refl
     all-joined (xs ∷ xss) = all-append xs (joined xss) ∙ ap (λ b. all test xs && b) (all-joined xss)
+
+    pub all-member : {x : A} {xs : List A} → List·Memᴰ x xs → all test xs ≡ true → test x ≡ true
+    all-member (List·Memᴰ·head {x = y} {xs = ys} q) e = ap test q ∙ all-cons y ys e .0
+    all-member (List·Memᴰ·tail {x = y} {xs = ys} m) e = all-member m (all-cons y ys e .1)
 
     -- at any place, and past the end if the default passes
     pub all-at : (xs : List A) (d : A) → all test xs ≡ true → test d ≡ true → (k : ℕ) → test (getD xs k d) ≡ true

@@ -15,3 +15,4 @@ pub mod Carried
 pub mod Looks
 pub mod Runs
 pub mod Claim
+pub mod Shown

@@ -19,7 +19,7 @@ use Rattle.rules.specs.Host.{ourInitiate, initiates, completion, writesO
 use Rattle.rules.specs.Calls.{Event, key, step, tick, message, Call, Answer, refuses, does, considered, isRoomy, hears, answers, answer}
 use Rattle.rules.proofs.Tests.{pick-both}
 use Rattle.rules.proofs.TwoRuns.Twins.{Twin, both, isBoth, code₁, code₂, first-chars, second-chars, LevelReading, Level}
-use Rattle.rules.proofs.TwoRuns.Twins.{Spared, isGuarded, Agree, Agrees, Parts, Agreeing}
+use Rattle.rules.proofs.TwoRuns.Twins.{Spared, isGuarded, Agree, Parts, Agreeing}
 use Rattle.rules.proofs.TwoRuns.Parts.{agrees-terminal, agrees-host, agrees-then, agrees-still, agrees-writes, agrees-sends, agrees-pick, agrees-only}
 use Rattle.rules.proofs.TwoRuns.Reads.{completes-agrees, unreads-agrees, displays-agrees}
 use Rattle.rules.proofs.TwoRuns.Bands.{Passed, Begun}

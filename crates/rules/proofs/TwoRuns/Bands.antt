@@ -1,6 +1,6 @@
 -- Arrival rule 2 passes a changed key over: read off what the call says became of it, in one run.
 use Prim.Native.Nat.{ℕ}
-use mathlib.Core.Path.{_≡_, refl, sym, ap, _∙_}
+use mathlib.Core.Path.{_≡_, refl}
 use mathlib.Core.Bool.{Bool, true, false, _||_, false≢true}
 use lib.ListN.{getD}
 use borrow.Author.Tests.{not-true}
@@ -19,7 +19,7 @@ pub record Passed {C : Type 0} (s : State C) (n : ℕ) : Type 0 where
   pub hello : isHello (attributeAt s n) ≡ false
   pub clear : isImmediateClear (attributeAt s n) ≡ false
 
--- a key to which rules 1 to 3 apply, and rule 1 does not
+-- rule 2 is come to: after Initiate, and the key is not quoted
 abbrev pub Begun : {C : Type 0} → State C → Type 0
 Begun s = (s .host .begun ≡ true) × (s .terminal .quoting ≡ false)
 
@@ -58,14 +58,14 @@ module _ {C : Type 0} (chars : Characters C) (changed : C → Bool) (c : C) (s :
   unacted-passed b e =
       let test = unacted (chars .code) changed in
       let h = rw (pick-false _ _ (b .1)) at (ruled-by test b e) in
-      let no-hello = by-test (isHello (attributeAt s (chars .code c))) (λ q. never-acted (acted test (rw (pick-true _ _ q) at h))) in
+      let no-hello = fails (isHello (attributeAt s (chars .code c))) (λ q. never-acted (acted test (rw (pick-true _ _ q) at h))) in
       record {
         hello = no-hello;
         clear =
-            by-test (isImmediateClear (attributeAt s (chars .code c))) (λ q.
+            fails (isImmediateClear (attributeAt s (chars .code c))) (λ q.
             never-acted (acted-clearing test (rw (pick-false _ _ no-hello, pick-true _ _ q) at h)));
       }
     where
-      by-test : (t : Bool) → (t ≡ true → ⊥) → t ≡ false
-      by-test true no-t = absurd (no-t refl)
-      by-test false no-t = refl
+      fails : (t : Bool) → (t ≡ true → ⊥) → t ≡ false
+      fails true no-t = absurd (no-t refl)
+      fails false no-t = refl

@@ -2,17 +2,18 @@
 use Prim.Native.Nat.{ℕ}
 use mathlib.Core.Path.{_≡_, refl, sym, ap, _∙_}
 use mathlib.Core.Bool.{Bool, true, false, not, _&&_, false≢true}
-use mathlib.Core.List.{List, [], _∷_, _++_, map, map-append}
+use mathlib.Core.List.{List, [], _∷_, map, map-append}
 use Rattle.rules.specs.Choice.{all, joined}
+use Rattle.rules.specs.StartRead.{inSet}
 use Rattle.rules.specs.State.{Terms, raised}
 use Rattle.rules.specs.Turns.{Control, Fate, arrived, control, dropped, taken, tokened, cleared, lost, edited}
 use Rattle.rules.specs.Calls.{Call, Answer, run}
-use Rattle.rules.specs.TwoRuns.{changedAt, Placed, codeIn, placed, history, isChanged}
-use Rattle.rules.specs.TwoRuns.{fateTest, isOutOfBand, inBand, unacted, unechoed, untokened, unset, unsetRaised}
+use Rattle.rules.specs.TwoRuns.{changedAt, Placed, codeIn, history, isChanged}
+use Rattle.rules.specs.TwoRuns.{fateTest, inBand, unacted, unechoed, untokened, unset, unsetRaised}
 use Rattle.rules.proofs.Tests.{both, halves, all-unmap}
-use Rattle.rules.proofs.Erasure.Maps.{mapFate, mapCall, mapAnswer}
+use Rattle.rules.proofs.Erasure.Maps.{mapFate, mapAnswer}
 use Rattle.rules.proofs.TwoRuns.Twins.{Twin, apart, sideOf, isApart}
-use Rattle.rules.proofs.TwoRuns.Sides.{side-chars, side-placed}
+use Rattle.rules.proofs.TwoRuns.Sides.{Side, side-chars, side-placed}
 
 -- all fates of a run
 abbrev pub fatesOf : {C : Type 0} → List (Answer C) → List (Fate C)
@@ -21,6 +22,9 @@ fatesOf answers = joined (map (λ a. a .turn .fates) answers)
 -- a test of fates, over any characters
 abbrev pub Test : Type 1
 Test = (C : Type 0) → (C → ℕ) → (C → Bool) → Fate C → Bool
+
+abbrev pub overTwins : Test → {changed : ℕ → Bool} → (Twin changed → ℕ) → Fate (Twin changed) → Bool
+overTwins test {changed} code = test (Twin changed) code isApart
 
 -- Fewer changed characters: what is asked of them is asked still.
 
@@ -62,7 +66,7 @@ module _ (cs ds : List (Call ℕ)) (choose : ℕ → ℕ → ℕ) where
   abbrev pub Carries : Test → Type 0
   Carries test = (x : Fate (Twin (changedAt cs ds))) →
       test Placed codeIn (isChanged cs ds) (mapFate (sideOf choose) x) ≡ true →
-      test (Twin (changedAt cs ds)) (λ c. codeIn (sideOf choose c)) isApart x ≡ true
+      overTwins test (λ c. codeIn (sideOf choose c)) x ≡ true
 
   spares : (t : Bool) (c : Twin (changedAt cs ds)) → not (isChanged cs ds (sideOf choose c) && t) ≡ true → not (isApart c && t) ≡ true
   spares t c = fewer-where (isApart c) (isChanged cs ds (sideOf choose c)) t (place-changed c)
@@ -75,27 +79,30 @@ module _ (cs ds : List (Call ℕ)) (choose : ℕ → ℕ → ℕ) where
   pub carry-unacted : Carries (λ C. unacted)
   unfolding unacted
   carry-unacted =
-      fate-carried (sideOf choose) _ _ _ _ _ _ _ _ (λ c band e. e) (λ purpose. spares (isOutOfBand purpose)) (λ c terms e. e) (λ c e. e)
-
-  pub carry-unechoed : Carries (λ C. unechoed)
-  unfolding unechoed
-  carry-unechoed =
-      fate-carried (sideOf choose) _ _ _ _ _ _ _ _ (λ c band e. e) (λ purpose c e. e) (λ c terms. spares (terms .echoes) c) (λ c e. e)
+      fate-carried (sideOf choose) _ _ _ _ _ _ _ _ (λ c band e. e) (λ purpose. spares _) (λ c terms e. e) (λ c e. e)
 
   pub carry-untokened : Carries (λ C. untokened)
   unfolding untokened
   carry-untokened =
       fate-carried (sideOf choose) _ _ _ _ _ _ _ _ (λ c band e. e) (λ purpose c e. e) (λ c terms e. e) (λ c. fewer _ _ (place-changed c))
 
+  -- what is asked of a read that takes a changed key
+  carry-taken : (test : ℕ → Terms → Bool) →
+      Carries (λ C code changed. fateTest (λ c band. true) (λ purpose c. true) (λ c terms. not (changed c && test (code c) terms)) (λ c. true))
+  carry-taken test =
+      fate-carried (sideOf choose) _ _ _ _ _ _ _ _ (λ c band e. e) (λ purpose c e. e) (λ c terms. spares _ c) (λ c e. e)
+
+  pub carry-unechoed : Carries (λ C. unechoed)
+  unfolding unechoed
+  carry-unechoed = carry-taken (λ n terms. terms .echoes)
+
   pub carry-unset : Carries (λ C. unset)
   unfolding unset
-  carry-unset =
-      fate-carried (sideOf choose) _ _ _ _ _ _ _ _ (λ c band e. e) (λ purpose c e. e) (λ c terms. spares _ c) (λ c e. e)
+  carry-unset = carry-taken (λ n terms. inSet (terms .set) n)
 
   pub carry-unsetRaised : Carries (λ C. unsetRaised)
   unfolding unsetRaised
-  carry-unsetRaised =
-      fate-carried (sideOf choose) _ _ _ _ _ _ _ _ (λ c band e. e) (λ purpose c e. e) (λ c terms. spares _ c) (λ c e. e)
+  carry-unsetRaised = carry-taken (λ n terms. inSet (terms .set) (raised n))
 
 -- The fates of a run.
 
@@ -105,13 +112,11 @@ unfolding joined
 fates-mapped f [] = refl
 fates-mapped f (a ∷ answers) = rw (fates-mapped f answers, map-append)
 
-module _ (choose : ℕ → ℕ → ℕ) (raises : (m n : ℕ) → choose (raised m) (raised n) ≡ raised (choose m n)) where
+module _ {changed : ℕ → Bool} {choose : ℕ → ℕ → ℕ} {calls : List (Call (Twin changed))} {cs : List (Call ℕ)} (side : Side choose calls cs) where
   -- what holds of the fates of a plain list's history holds of its twins'
-  pub history-carried : {changed : ℕ → Bool} (calls : List (Call (Twin changed))) (cs : List (Call ℕ)) →
-      map (mapCall (sideOf choose)) calls ≡ placed 0 cs →
-      (p : Fate (Twin changed) → Bool) (q : Fate Placed → Bool) → ((x : Fate (Twin changed)) → q (mapFate (sideOf choose) x) ≡ true → p x ≡ true) →
+  pub history-carried : (p : Fate (Twin changed) → Bool) (q : Fate Placed → Bool) →
+      ((x : Fate (Twin changed)) → q (mapFate (sideOf choose) x) ≡ true → p x ≡ true) →
       all q (history cs) ≡ true → all p (fatesOf (run (side-chars choose) calls)) ≡ true
   unfolding history
-  history-carried calls cs is-placed p q carry e =
-      let run-placed = side-placed choose raises calls cs is-placed in
-      all-unmap p q (mapFate (sideOf choose)) carry _ (rw (← run-placed, fates-mapped) at e)
+  history-carried p q carry e =
+      all-unmap p q (mapFate (sideOf choose)) carry _ (rw (← side-placed side, fates-mapped) at e)

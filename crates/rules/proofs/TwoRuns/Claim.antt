@@ -6,20 +6,17 @@ use mathlib.Core.List.{List, map}
 use native.Mathlib.Omega.{arith}
 use lib.ListN.{getD}
 use Rattle.rules.specs.Choice.{all}
-use Rattle.rules.specs.State.{raised}
-use Rattle.rules.specs.Turns.{Fate}
 use Rattle.rules.specs.Calls.{Call, run}
-use Rattle.rules.specs.TwoRuns.{alike, changedAt, eachChanged, bothPrinting, sameClass, Placed, codeIn, placed, history, isChanged}
+use Rattle.rules.specs.TwoRuns.{alike, changedAt, eachChanged, bothPrinting, sameClass, Placed, codeIn, history, isChanged}
 use Rattle.rules.specs.TwoRuns.{inBand, unacted, unechoed, untokened, unset, unsetRaised, Supposition, inBoth, suppositions, supposed}
 use Rattle.rules.specs.TwoRuns.{seen, LooksTheSame, Demand3, Demand3Weak}
 use Rattle.rules.proofs.Tests.{halves, all-at, all-both}
-use Rattle.rules.proofs.Erasure.Maps.{mapCall, mapFate}
 use Rattle.rules.proofs.TwoRuns.Twins.{Twin, sideOf, isApart, spared}
 use Rattle.rules.proofs.TwoRuns.Bands.{inBand-passed, unacted-passed}
 use Rattle.rules.proofs.TwoRuns.Answers.{Heeded, Supposed}
 use Rattle.rules.proofs.TwoRuns.Pairing.{twins}
-use Rattle.rules.proofs.TwoRuns.Sides.{side-chars, side-codes}
-use Rattle.rules.proofs.TwoRuns.Carried.{fatesOf, Test, Carries, history-carried, carry-inBand, carry-unacted}
+use Rattle.rules.proofs.TwoRuns.Sides.{Side, side-chars, side-codes}
+use Rattle.rules.proofs.TwoRuns.Carried.{fatesOf, Test, overTwins, Carries, history-carried, carry-inBand, carry-unacted}
 use Rattle.rules.proofs.TwoRuns.Carried.{carry-unechoed, carry-untokened, carry-unset, carry-unsetRaised}
 use Rattle.rules.proofs.TwoRuns.Runs.{agree-run}
 
@@ -57,16 +54,17 @@ one-by-one arrival cs ds e =
       second = record { arrived = h₃ .1; unechoed = h₄ .1; untokened = h₅ .1; unset = h₆ .1; unsetRaised = h₇ .1 };
     }
 
--- From a supposition of a key's arrival that carries over to twins and that rule 2 heeds.
-module _ (arrival : Test) (carries : (cs ds : List (Call ℕ)) (choose : ℕ → ℕ → ℕ) → Carries cs ds choose arrival) (heeded : (changed : ℕ → Bool) → Heeded (λ code. arrival (Twin changed) code isApart)) where
-  -- one side's fates over twins are as supposed
-  side-supposed : (choose : ℕ → ℕ → ℕ) (raises : (m n : ℕ) → choose (raised m) (raised n) ≡ raised (choose m n))
-      (cs ds one : List (Call ℕ)) (calls : List (Call (Twin (changedAt cs ds)))) → map (mapCall (sideOf choose)) calls ≡ placed 0 one →
-      InOne (arrival Placed) cs ds one →
-      Supposed (λ code. arrival (Twin (changedAt cs ds)) code isApart) (λ c. codeIn (sideOf choose c)) (fatesOf (run (side-chars choose) calls))
+-- From a supposition of a key's arrival that carries over to twins, and that has rule 2 pass a changed key over.
+module _ (arrival : Test)
+    (carries : (cs ds : List (Call ℕ)) (choose : ℕ → ℕ → ℕ) → Carries cs ds choose arrival)
+    (heeded : (changed : ℕ → Bool) → Heeded (overTwins arrival {changed = changed})) where
+  -- the fates of one side of the twins are as supposed
+  side-supposed : (cs ds : List (Call ℕ)) {choose : ℕ → ℕ → ℕ} {calls : List (Call (Twin (changedAt cs ds)))} {one : List (Call ℕ)} →
+      Side choose calls one → InOne (arrival Placed) cs ds one →
+      Supposed (overTwins arrival) (λ c. codeIn (sideOf choose c)) (fatesOf (run (side-chars choose) calls))
   unfolding spared
-  side-supposed choose raises cs ds one calls is-placed h =
-      let carried = history-carried choose raises calls one is-placed in
+  side-supposed cs ds {choose} {calls} side h =
+      let carried = history-carried side in
       let fates = fatesOf (run (side-chars choose) calls) in
       record {
         arrived = carried _ _ (carries cs ds choose) (h .arrived);
@@ -84,14 +82,12 @@ module _ (arrival : Test) (carries : (cs ds : List (Call ℕ)) (choose : ℕ →
   looks-same cs ds e =
       let h = one-by-one (arrival Placed) cs ds e in
       let t = twins (changedAt cs ds) 0 cs ds (λ at k q. let p : k ≡ at = omega arith in ap (changedAt cs ds) p) (h .same) (h .printing) (h .class) in
-      let calls = t .calls in
-      let first = side-codes (λ m n. m) (λ m n. refl) calls cs (t .first) in
-      let second = side-codes (λ m n. n) (λ m n. refl) calls ds (t .second) in
+      let first : Side (λ m n. m) (t .calls) cs = record { raises = λ m n. refl; places = t .first } in
+      let second : Side (λ m n. n) (t .calls) ds = record { raises = λ m n. refl; places = t .second } in
       let agree =
-          agree-run (λ code. arrival (Twin (changedAt cs ds)) code isApart) (heeded (changedAt cs ds)) calls
-          (side-supposed (λ m n. m) (λ m n. refl) cs ds cs calls (t .first) (h .first))
-          (side-supposed (λ m n. n) (λ m n. refl) cs ds ds calls (t .second) (h .second)) in
-      sym (ap (map seen) first) ∙ agree ∙ ap (map seen) second
+      agree-run (overTwins arrival) (heeded (changedAt cs ds)) (t .calls)
+      (side-supposed cs ds first (h .first)) (side-supposed cs ds second (h .second)) in
+      sym (ap (map seen) (side-codes first)) ∙ agree ∙ ap (map seen) (side-codes second)
 
 -- from the weaker supposition: arrival rule 2 does not act on a changed key
 pub demand3-weak : Demand3Weak

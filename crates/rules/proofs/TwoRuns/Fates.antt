@@ -24,8 +24,8 @@ module _ {changed : ℕ → Bool} where
     unfolding spared
     sparing f e =
         let k =
-            quarters (unechoed code isApart f) (untokened code isApart f) (unset code isApart f) (unsetRaised code isApart f)
-            (all-cons (spared code) f [] e .0) in
+        quarters (unechoed code isApart f) (untokened code isApart f) (unset code isApart f) (unsetRaised code isApart f)
+        (all-cons (spared code) f [] e .0) in
         record { unechoed = k .0; untokened = k .1; unset = k .2; unsetRaised = k .3 }
 
     pub tokened-both : (c : Twin changed) → Spared code (tokened c ∷ []) → isBoth c ≡ true

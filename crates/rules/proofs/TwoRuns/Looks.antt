@@ -11,10 +11,10 @@ use Rattle.rules.specs.Messages.Codec.{tailBytes, bytesAs}
 use Rattle.rules.specs.State.{codes}
 use Rattle.rules.specs.Turns.{Turn}
 use Rattle.rules.specs.Calls.{Answer, framed, mapText, sentBytes, messageBytes}
-use Rattle.rules.specs.TwoRuns.{Seen, blanked, seen}
+use Rattle.rules.specs.TwoRuns.{blanked, seen}
 use Rattle.rules.proofs.Tests.{pick-cases, all-cons}
 use Rattle.rules.proofs.Erasure.Maps.{mapTurn, mapAnswer}
-use Rattle.rules.proofs.TwoRuns.Twins.{Twin, isBoth, code₁, code₂, same-codes, isGuarded, Agree}
+use Rattle.rules.proofs.TwoRuns.Twins.{Twin, code₁, code₂, same-codes, isGuarded, Agree}
 
 -- Lengths: a message is as long whatever its characters are.
 module _ {C : Type 0} (f g : C → ℕ) where

@@ -49,8 +49,8 @@ agree-like : (c d : Call ℕ) → agree c d ≡ true → Like c d
 unfolding agree
 agree-like c d e =
     let h =
-        quarters (eqb (c .terminal) (d .terminal)) (eqb (c .messages) (d .messages))
-        (eqb (kindOf (c .event)) (kindOf (d .event))) (same (bytesOf (c .event)) (bytesOf (d .event))) e in
+    quarters (eqb (c .terminal) (d .terminal)) (eqb (c .messages) (d .messages))
+    (eqb (kindOf (c .event)) (kindOf (d .event))) (same (bytesOf (c .event)) (bytesOf (d .event))) e in
     record {
       terminal = eqb-true _ _ (h .0);
       messages = eqb-true _ _ (h .1);
@@ -76,9 +76,9 @@ module _ {C : Type 0} where
   unfolding withCell
   call-placed f x place c d like e =
       let event =
-          map-parts f x (kindOf (c .event)) (bytesOf (c .event)) ∙
-          (λ i. eventOf (e i) (like .kind i) (like .bytes i)) ∙
-          placed-parts place (d .event) in
+      map-parts f x (kindOf (c .event)) (bytesOf (c .event)) ∙
+      (λ i. eventOf (e i) (like .kind i) (like .bytes i)) ∙
+      placed-parts place (d .event) in
       λ i. record { terminal = like .terminal i; messages = like .messages i; event = event i }
 
 module _ (changed : ℕ → Bool) where
@@ -105,7 +105,7 @@ module _ (changed : ℕ → Bool) where
       by-codes false e =
           let h = halves (isPrinting m) (isPrinting n) (sym (pick-false _ _ e) ∙ t .printing) in
           let hidden : Hidden m n =
-              record { first = h .0; second = h .1; class = sym (pick-false _ _ e) ∙ t .class } in
+          record { first = h .0; second = h .1; class = sym (pick-false _ _ e) ∙ t .class } in
           record { cell = apart place m n (sym (t .changes) ∙ ap not e) hidden; first = refl; second = refl }
 
   -- Two lists, from a place on.

@@ -36,13 +36,13 @@ module _ {changed : ℕ → Bool} (arrival : (Twin changed → ℕ) → Fate (Tw
       let q = supposed-split code₂ (b .turn .fates) (fatesOf (runFrom second-chars (b .turn .state) calls)) y in
       let h = agree-answer arrival heeded c s l (p .0) (q .0) in
       let rest =
-          subst
-          (λ t.
-          Supposed arrival code₂ (fatesOf (runFrom second-chars t calls)) →
-          map seen (map (mapAnswer code₁) (runFrom first-chars (a .turn .state) calls)) ≡
-          map seen (map (mapAnswer code₂) (runFrom second-chars t calls)))
-          (h .1 .state)
-          (agree-runFrom calls (a .turn .state) (h .1 .level) (p .1)) in
+      subst
+      (λ t.
+      Supposed arrival code₂ (fatesOf (runFrom second-chars t calls)) →
+      map seen (map (mapAnswer code₁) (runFrom first-chars (a .turn .state) calls)) ≡
+      map seen (map (mapAnswer code₂) (runFrom second-chars t calls)))
+      (h .1 .state)
+      (agree-runFrom calls (a .turn .state) (h .1 .level) (p .1)) in
       λ i. seen-same (h .0) (h .1) i ∷ rest (q .1) i
 
   pub agree-run : (calls : List (Call (Twin changed))) → Supposed arrival code₁ (fatesOf (run first-chars calls)) →

@@ -44,34 +44,36 @@ module _ {C : Type 0} (f : C → Placed) where
   calls-twice (c ∷ calls) = λ i.
       record { terminal = c .terminal; messages = c .messages; event = event-twice (c .event) i } ∷ calls-twice calls i
 
--- a side is a choice of one of two codes
-module _ {changed : ℕ → Bool} (choose : ℕ → ℕ → ℕ) where
-  -- the twins read by it
-  abbrev pub side-chars : Characters (Twin changed)
-  side-chars = record { code = λ c. codeIn (sideOf choose c); raise = raise; given = λ n. both (preloaded n) }
+module _ {changed : ℕ → Bool} where
+  -- a side of calls over twins: by a choice of one of two codes they are a plain list
+  pub record Side (choose : ℕ → ℕ → ℕ) (calls : List (Call (Twin changed))) (cs : List (Call ℕ)) : Type 0 where
+    pub raises : (m n : ℕ) → choose (raised m) (raised n) ≡ raised (choose m n)
+    pub places : map (mapCall (sideOf choose)) calls ≡ placed 0 cs
 
-  module _ (raises : (m n : ℕ) → choose (raised m) (raised n) ≡ raised (choose m n)) where
+  -- the twins read by it
+  abbrev pub side-chars : (ℕ → ℕ → ℕ) → Characters (Twin changed)
+  side-chars choose = record { code = λ c. codeIn (sideOf choose c); raise = raise; given = λ n. both (preloaded n) }
+
+  module _ {choose : ℕ → ℕ → ℕ} {calls : List (Call (Twin changed))} {cs : List (Call ℕ)} (side : Side choose calls cs) where
     side-raised : (c : Twin changed) → sideOf choose (raise c) ≡ raisedIn (sideOf choose c)
     unfolding raisedIn
     side-raised (both p) = refl
-    side-raised (apart place m n c h) = ap (typedAt place) (raises m n)
+    side-raised (apart place m n c h) = ap (typedAt place) (side .raises m n)
 
-    -- calls over twins whose side is a plain list, and what is known of their run
-    module _ (calls : List (Call (Twin changed))) (cs : List (Call ℕ)) (is-placed : map (mapCall (sideOf choose)) calls ≡ placed 0 cs) where
-      pub side-placed : map (mapAnswer (sideOf choose)) (run side-chars calls) ≡ run placedCodes (placed 0 cs)
-      side-placed =
-          let maps : Maps (sideOf choose) side-chars placedCodes =
-              record { code = λ c. refl; raise = side-raised; given = λ n. refl } in
-          erase-run maps calls ∙ ap (run placedCodes) is-placed
+    pub side-placed : map (mapAnswer (sideOf choose)) (run (side-chars choose) calls) ≡ run placedCodes (placed 0 cs)
+    side-placed =
+        let maps : Maps (sideOf choose) (side-chars choose) placedCodes =
+        record { code = λ c. refl; raise = side-raised; given = λ n. refl } in
+        erase-run maps calls ∙ ap (run placedCodes) (side .places)
 
-      pub side-codes : map (mapAnswer (λ c. codeIn (sideOf choose c))) (run side-chars calls) ≡ run codes cs
-      unfolding codeIn
-      side-codes =
-          let maps : Maps (λ c. codeIn (sideOf choose c)) side-chars codes =
-              record {
-                code = λ c. refl;
-                raise = λ c. ap codeIn (side-raised c) ∙ code-raised (sideOf choose c);
-                given = λ n. refl;
-              } in
-          let plain = sym (calls-twice (sideOf choose) calls) ∙ ap (map (mapCall codeIn)) is-placed ∙ unplaced 0 cs in
-          erase-run maps calls ∙ ap (run codes) plain
+    pub side-codes : map (mapAnswer (λ c. codeIn (sideOf choose c))) (run (side-chars choose) calls) ≡ run codes cs
+    unfolding codeIn
+    side-codes =
+        let maps : Maps (λ c. codeIn (sideOf choose c)) (side-chars choose) codes =
+        record {
+          code = λ c. refl;
+          raise = λ c. ap codeIn (side-raised c) ∙ code-raised (sideOf choose c);
+          given = λ n. refl;
+        } in
+        let plain = sym (calls-twice (sideOf choose) calls) ∙ ap (map (mapCall codeIn)) (side .places) ∙ unplaced 0 cs in
+        erase-run maps calls ∙ ap (run codes) plain
