@@ -23,10 +23,11 @@ pub record Passed {C : Type 0} (s : State C) (n : ℕ) : Type 0 where
 abbrev pub Begun : {C : Type 0} → State C → Type 0
 Begun s = (s .host .begun ≡ true) × (s .terminal .quoting ≡ false)
 
-module _ {C : Type 0} (chars : Characters C) (changed : C → Bool) (c : C) (s : State C) (is-changed : changed c ≡ true) where
-  abbrev passes : (Fate C → Bool) → Turn C → Type 0
-  passes test t = all test (t .fates) ≡ true
+-- all that a turn says became of keys passes a test
+abbrev passes : {C : Type 0} → (Fate C → Bool) → Turn C → Type 0
+passes test t = all test (t .fates) ≡ true
 
+module _ {C : Type 0} (chars : Characters C) (changed : C → Bool) (c : C) (s : State C) (is-changed : changed c ≡ true) where
   -- its attribute is told with its arrival
   pub inBand-passed : passes (inBand (chars .code) changed) (arrives chars c s) → Passed s (chars .code c)
   unfolding arrives _then_ behind tells inBand fateTest

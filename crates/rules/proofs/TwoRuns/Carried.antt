@@ -12,8 +12,8 @@ use Rattle.rules.specs.TwoRuns.{changedAt, Placed, codeIn, history, isCh
 use Rattle.rules.specs.TwoRuns.{fateTest, inBand, unacted, unechoed, untokened, unset, unsetRaised}
 use Rattle.rules.proofs.Tests.{both, halves, all-unmap}
 use Rattle.rules.proofs.Erasure.Maps.{mapFate, mapAnswer}
-use Rattle.rules.proofs.TwoRuns.Twins.{Twin, apart, sideOf, isApart}
-use Rattle.rules.proofs.TwoRuns.Sides.{Side, side-chars, side-placed}
+use Rattle.rules.proofs.TwoRuns.Twins.{Twin, apart, sideOf, isApart, side-chars}
+use Rattle.rules.proofs.TwoRuns.Sides.{Side, side-placed}
 
 -- all fates of a run
 abbrev pub fatesOf : {C : Type 0} → List (Answer C) → List (Fate C)

@@ -11,11 +11,11 @@ use Rattle.rules.specs.TwoRuns.{alike, changedAt, eachChanged, bothPrint
 use Rattle.rules.specs.TwoRuns.{inBand, unacted, unechoed, untokened, unset, unsetRaised, Supposition, inBoth, suppositions, supposed}
 use Rattle.rules.specs.TwoRuns.{seen, LooksTheSame, Demand3, Demand3Weak}
 use Rattle.rules.proofs.Tests.{halves, all-at, all-both}
-use Rattle.rules.proofs.TwoRuns.Twins.{Twin, sideOf, isApart, spared}
+use Rattle.rules.proofs.TwoRuns.Twins.{Twin, sideOf, isApart, side-chars, spared}
 use Rattle.rules.proofs.TwoRuns.Bands.{inBand-passed, unacted-passed}
 use Rattle.rules.proofs.TwoRuns.Answers.{Heeded, Supposed}
 use Rattle.rules.proofs.TwoRuns.Pairing.{twins}
-use Rattle.rules.proofs.TwoRuns.Sides.{Side, side-chars, side-codes}
+use Rattle.rules.proofs.TwoRuns.Sides.{Side, side-codes}
 use Rattle.rules.proofs.TwoRuns.Carried.{fatesOf, Test, overTwins, Carries, history-carried, carry-inBand, carry-unacted}
 use Rattle.rules.proofs.TwoRuns.Carried.{carry-unechoed, carry-untokened, carry-unset, carry-unsetRaised}
 use Rattle.rules.proofs.TwoRuns.Runs.{agree-run}
@@ -81,7 +81,9 @@ module _ (arrival : Test)
   looks-same : (cs ds : List (Call ℕ)) → supposed (arrival Placed) cs ds ≡ true → LooksTheSame cs ds
   looks-same cs ds e =
       let h = one-by-one (arrival Placed) cs ds e in
-      let t = twins (changedAt cs ds) 0 cs ds (λ at k q. let p : k ≡ at = omega arith in ap (changedAt cs ds) p) (h .same) (h .printing) (h .class) in
+      let t =
+      twins (changedAt cs ds) 0 cs ds (λ at k q. let p : k ≡ at = omega arith in ap (changedAt cs ds) p)
+      (h .same) (h .printing) (h .class) in
       let first : Side (λ m n. m) (t .calls) cs = record { raises = λ m n. refl; places = t .first } in
       let second : Side (λ m n. n) (t .calls) ds = record { raises = λ m n. refl; places = t .second } in
       let agree =

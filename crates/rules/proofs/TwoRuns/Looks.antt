@@ -2,7 +2,7 @@
 use Prim.Native.Nat.{ℕ}
 use mathlib.Core.Path.{_≡_, refl, ap, _∙_}
 use mathlib.Core.Bool.{Bool, true}
-use mathlib.Core.List.{List, [], _∷_, map, map-map}
+use mathlib.Core.List.{List, [], _∷_, _++_, map, map-map}
 use lib.Dec.{eqb}
 use lib.ListN.{length, length-append, length-map}
 use Rattle.rules.specs.Choice.{all, joined}
@@ -15,6 +15,13 @@ use Rattle.rules.specs.TwoRuns.{blanked, seen}
 use Rattle.rules.proofs.Tests.{pick-cases, all-cons}
 use Rattle.rules.proofs.Erasure.Maps.{mapTurn, mapAnswer}
 use Rattle.rules.proofs.TwoRuns.Twins.{Twin, code₁, code₂, same-codes, isGuarded, Agree}
+
+-- the message area of these messages, and what is seen of it
+abbrev sent : {C : Type 0} → (C → ℕ) → List (Message C) → List ℕ
+sent f ms = joined (map (λ m. framed (sentBytes (mapText f m))) ms)
+
+abbrev shown : List (Message ℕ) → List ℕ
+shown ms = joined (map (λ m. framed (sentBytes (blanked m))) ms)
 
 -- Lengths: a message is as long whatever its characters are.
 module _ {C : Type 0} (f g : C → ℕ) where
@@ -33,9 +40,7 @@ module _ {C : Type 0} (f g : C → ℕ) where
   unfolding framed
   framed-length m = simp (length-append, sent-length m)
 
-  all-length : (ms : List (Message C)) →
-      length (joined (map (λ m. framed (sentBytes (mapText f m))) ms)) ≡
-      length (joined (map (λ m. framed (sentBytes (mapText g m))) ms))
+  all-length : (ms : List (Message C)) → length (sent f ms) ≡ length (sent g ms)
   unfolding joined
   all-length [] = refl
   all-length (m ∷ ms) = simp (length-append, framed-length m, all-length ms)
@@ -51,11 +56,12 @@ module _ {changed : ℕ → Bool} where
       (λ q. rw (same-codes (m .text) (rw q at e)))
 
   shown-same : (ms : List (Message (Twin changed))) → all isGuarded ms ≡ true →
-      map (λ m. framed (sentBytes (blanked m))) (map (mapText code₁) ms) ≡ map (λ m. framed (sentBytes (blanked m))) (map (mapText code₂) ms)
+      shown (map (mapText code₁) ms) ≡ shown (map (mapText code₂) ms)
+  unfolding joined
   shown-same [] e = refl
   shown-same (m ∷ ms) e =
       let h = all-cons isGuarded m ms e in
-      λ i. framed (sentBytes (blanked-same m (h .0) i)) ∷ shown-same ms (h .1) i
+      λ i. framed (sentBytes (blanked-same m (h .0) i)) ++ shown-same ms (h .1) i
 
   text-twice : (f : Twin changed → ℕ) (m : Message (Twin changed)) → mapText (λ n. n) (mapText f m) ≡ mapText f m
   unfolding mapText
@@ -65,15 +71,13 @@ module _ {changed : ℕ → Bool} where
       length (messageBytes codes (mapTurn code₁ t)) ≡ length (messageBytes codes (mapTurn code₂ u))
   unfolding messageBytes
   count-same t u e =
-      simp (map-map, text-twice)
-      (all-length code₁ code₂ (t .messages) ∙ ap (λ ms. length (joined (map (λ m. framed (sentBytes (mapText code₂ m))) ms))) e)
+      simp (map-map, text-twice) (all-length code₁ code₂ (t .messages) ∙ ap (λ ms. length (sent code₂ ms)) e)
 
   pub seen-same : {a b : Answer (Twin changed)} → a .number ≡ b .number → Agree (a .turn) (b .turn) →
       seen (mapAnswer code₁ a) ≡ seen (mapAnswer code₂ b)
   unfolding seen
   seen-same {a} {b} n h =
-      let shown : List (Message ℕ) → List ℕ = λ ms. joined (map (λ m. framed (sentBytes (blanked m))) ms) in
-      let messages = ap joined (shown-same (a .turn .messages) (h .guarded)) ∙ ap (λ ms. shown (map (mapText code₂) ms)) (h .messages) in
+      let messages = shown-same (a .turn .messages) (h .guarded) ∙ ap (λ ms. shown (map (mapText code₂) ms)) (h .messages) in
       let count = count-same (a .turn) (b .turn) (h .messages) in
       λ i.
       record {

@@ -3,12 +3,12 @@ use Prim.Native.Nat.{ℕ, suc}
 use mathlib.Core.Path.{_≡_, refl, sym, ap, _∙_}
 use mathlib.Core.Bool.{Bool}
 use mathlib.Core.List.{List, [], _∷_, map}
-use Rattle.rules.specs.State.{Characters, raised, codes}
+use Rattle.rules.specs.State.{raised, codes}
 use Rattle.rules.specs.Calls.{Event, key, step, tick, message, Call, run}
 use Rattle.rules.specs.TwoRuns.{Placed, typedAt, preloaded, codeIn, raisedIn, placedCodes, placedEvent, placed}
 use Rattle.rules.proofs.Erasure.Maps.{Maps, mapEvent, mapCall, mapAnswer}
 use Rattle.rules.proofs.Erasure.Calls.{erase-run}
-use Rattle.rules.proofs.TwoRuns.Twins.{Twin, both, apart, sideOf, raise}
+use Rattle.rules.proofs.TwoRuns.Twins.{Twin, both, apart, sideOf, raise, side-chars}
 
 -- Calls that know their places are the plain calls.
 
@@ -49,10 +49,6 @@ module _ {changed : ℕ → Bool} where
   pub record Side (choose : ℕ → ℕ → ℕ) (calls : List (Call (Twin changed))) (cs : List (Call ℕ)) : Type 0 where
     pub raises : (m n : ℕ) → choose (raised m) (raised n) ≡ raised (choose m n)
     pub places : map (mapCall (sideOf choose)) calls ≡ placed 0 cs
-
-  -- the twins read by it
-  abbrev pub side-chars : (ℕ → ℕ → ℕ) → Characters (Twin changed)
-  side-chars choose = record { code = λ c. codeIn (sideOf choose c); raise = raise; given = λ n. both (preloaded n) }
 
   module _ {choose : ℕ → ℕ → ℕ} {calls : List (Call (Twin changed))} {cs : List (Call ℕ)} (side : Side choose calls cs) where
     side-raised : (c : Twin changed) → sideOf choose (raise c) ≡ raisedIn (sideOf choose c)

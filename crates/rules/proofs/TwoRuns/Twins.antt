@@ -68,11 +68,15 @@ module _ {changed : ℕ → Bool} where
   abbrev pub code₂ : Twin changed → ℕ
   code₂ c = codeIn (secondOf c)
 
+  -- the twins read by one of their codes
+  abbrev pub side-chars : (ℕ → ℕ → ℕ) → Characters (Twin changed)
+  side-chars choose = record { code = λ c. codeIn (sideOf choose c); raise = raise; given = λ n. both (preloaded n) }
+
   abbrev pub first-chars : Characters (Twin changed)
-  first-chars = record { code = code₁; raise = raise; given = λ n. both (preloaded n) }
+  first-chars = side-chars (λ m n. m)
 
   abbrev pub second-chars : Characters (Twin changed)
-  second-chars = record { code = code₂; raise = raise; given = λ n. both (preloaded n) }
+  second-chars = side-chars (λ m n. n)
 
   -- What the codes of a cell have in common.
   pub same-code : (c : Twin changed) → isBoth c ≡ true → code₁ c ≡ code₂ c
