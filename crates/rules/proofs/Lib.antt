@@ -7,4 +7,6 @@ pub mod Tails
 pub mod Outcomes
 pub mod RoundTrip
 pub mod Bench
+pub mod Sizes
+pub mod Bounds
 pub mod Erasure

@@ -14,10 +14,10 @@ use Rattle.rules.specs.Messages.Codec.{Held, kindOf, bytesOf, fitsHeld, 
 use Rattle.rules.proofs.Tests.{pick-true, pick-false, pick-first, pick-second}
 
 module _ {A : Type 0} where
-  refused-sound : {k : ℕ} {x : A} → refused k ≡ sound x → ⊥
+  pub refused-sound : {k : ℕ} {x : A} → refused k ≡ sound x → ⊥
   refused-sound e = let z : _≡_ {A = ℕ} 0 1 = cc in omega arith
 
-  sound-same : {x y : A} → sound x ≡ sound y → x ≡ y
+  pub sound-same : {x y : A} → sound x ≡ sound y → x ≡ y
   sound-same e = cc
 
 -- reading: its tests, and the fields

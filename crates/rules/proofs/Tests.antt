@@ -1,10 +1,10 @@
 -- Laws of the tests and of the choice by a test: from a test's value to what it says, and back.
 use mathlib.Core.Path.{_≡_, refl, sym, ap, _∙_}
 use Prim.Native.Nat.{ℕ, zero, suc, _≤_, _<_}
-use mathlib.Core.Bool.{Bool, true, false, _&&_, _||_, false≢true, and-assoc, or-assoc, or-true}
+use mathlib.Core.Bool.{Bool, true, false, not, _&&_, _||_, false≢true, and-assoc, or-assoc, or-true}
 use mathlib.Core.List.{List, [], _∷_, _++_, map}
 use lib.Dec.{leb}
-use lib.ListN.{length, getD, take, drop, take-append-drop}
+use lib.ListN.{length, getD, set, take, drop, take-append-drop}
 use native.Mathlib.Omega.{arith}
 use borrow.Author.Tests.{leb-true, le-leb}
 use Rattle.rules.specs.Choice.{pick, within, isEmpty, all, any, joined}
@@ -62,6 +62,11 @@ quarters a b c d e =
     let k = thirds a b c (h .0) in
     (k .0, k .1, k .2, h .1)
 
+-- One of two tests.
+pub or-case : (P : Type 0) (a b : Bool) → (a ≡ true → P) → (b ≡ true → P) → a || b ≡ true → P
+or-case P true b f g e = f refl
+or-case P false b f g e = g e
+
 -- Low to high.
 pub within-bounds : (low high n : ℕ) → within low high n ≡ true → (low ≤ n) × (n ≤ high)
 unfolding within
@@ -109,6 +114,12 @@ module _ {A : Type 0} where
     all-at (x ∷ xs) d e p zero = all-cons x xs e .0
     all-at (x ∷ xs) d e p (suc k) = all-at xs d (all-cons x xs e .1) p k
 
+    pub all-set : (xs : List A) (k : ℕ) (v : A) → test v ≡ true → all test xs ≡ true → all test (set xs k v) ≡ true
+    unfolding all
+    all-set [] k v p e = refl
+    all-set (x ∷ xs) zero v p e = both p (all-cons x xs e .1)
+    all-set (x ∷ xs) (suc k) v p e = let h = all-cons x xs e in both (h .0) (all-set xs k v p (h .1))
+
     pub any-here : (x : A) (xs : List A) → test x ≡ true → any test (x ∷ xs) ≡ true
     unfolding any
     any-here x xs p = rw p
@@ -134,6 +145,23 @@ module _ {A : Type 0} where
         by-head : (t : Bool) → test x ≡ t → (any test xs ≡ true → Passed xs d) → t || any test xs ≡ true → Passed (x ∷ xs) d
         by-head true p later e = (zero, omega arith, p)
         by-head false p later e = let r = later e in (suc (r .0), omega arith, r .2)
+
+    -- none passes: each fails
+    pub any-none : (xs : List A) → not (any test xs) ≡ true → all (λ x. not (test x)) xs ≡ true
+    unfolding any all
+    any-none [] e = refl
+    any-none (x ∷ xs) e = by-head (test x) (any-none xs) e
+      where
+        by-head : (t : Bool) → (not (any test xs) ≡ true → all (λ x. not (test x)) xs ≡ true) → not (t || any test xs) ≡ true →
+            not t && all (λ x. not (test x)) xs ≡ true
+        by-head true rest e = absurd (false≢true e)
+        by-head false rest e = rest e
+
+  -- each element that passes one test passes another
+  pub all-weaken : (p q : A → Bool) → ((x : A) → p x ≡ true → q x ≡ true) → (xs : List A) → all p xs ≡ true → all q xs ≡ true
+  unfolding all
+  all-weaken p q h [] e = refl
+  all-weaken p q h (x ∷ xs) e = let t = all-cons p x xs e in both (h x (t .0)) (all-weaken p q h xs (t .1))
 
   -- each element that passes one test passes another, after a step
   pub all-map : {B : Type 0} (p : A → Bool) (q : B → Bool) (f : A → B) → ((x : A) → p x ≡ true → q (f x) ≡ true) →

@@ -10,7 +10,7 @@ use Rattle.rules.specs.Choice.{all}
 use Rattle.rules.specs.Numbers.{inputSize, typeAheadSize, tokenSize, terminalArea, messageArea, topColumn, topDropped}
 use Rattle.rules.specs.Messages.Forms.{Message}
 use Rattle.rules.specs.Messages.Codec.{sound, allBytes, read}
-use Rattle.rules.specs.State.{Host, Terminal, Typed, Reading, State, codes}
+use Rattle.rules.specs.State.{Host, Terminal, Typed, Terms, Reading, State, codes}
 use Rattle.rules.specs.Editing.{endOf}
 use Rattle.rules.specs.Characteristics.{isDeferredClear}
 use Rattle.rules.specs.Calls.{Event, key, step, tick, message, Answer, sentBytes, messageBytes}
@@ -36,23 +36,26 @@ pub record BoundedTyped (t : Typed ℕ) : Type 0 where
   pub keyBytes : allBytes (map (λ k. k .char) (t .typeAhead)) ≡ true
   pub tokenBytes : allBytes (t .token) ≡ true
 
+pub record BoundedTerms (t : Terms) : Type 0 where
+  pub largest : t .maxLength ≤ inputSize
+  pub prompt : length (t .prompt) ≤ t .endOfPrompt
+  pub promptBytes : allBytes (t .prompt) ≡ true
+  pub setLength : length (t .set) ≤ 32
+  pub setBytes : allBytes (t .set) ≡ true
+  pub underflow : t .underflow ≤ 2
+  pub disables : t .disables ≤ 3
+  pub timeout : t .timeout < 65536
+  pub noteColumn : t .column ≤ topColumn
+  pub noteLine : t .line < 256
+
 -- a pending read has room for one character more, and is not yet due
 pub record BoundedReading (r : Reading ℕ) : Type 0 where
-  pub largest : r .terms .maxLength ≤ inputSize
+  pub terms : BoundedTerms (r .terms)
   pub room : endOf r < r .terms .maxLength
   pub lowWater : r .lowWater ≤ endOf r
-  pub prompt : length (r .terms .prompt) ≤ r .terms .endOfPrompt
-  pub promptBytes : allBytes (r .terms .prompt) ≡ true
   pub inputBytes : allBytes (r .input) ≡ true
-  pub setLength : length (r .terms .set) ≤ 32
-  pub setBytes : allBytes (r .terms .set) ≡ true
-  pub underflow : r .terms .underflow ≤ 2
-  pub disables : r .terms .disables ≤ 3
-  pub timeout : r .terms .timeout < 65536
   pub idle : r .terms .timed ≡ true → 0 < r .terms .timeout → r .idle < r .terms .timeout
   pub from : r .from ≤ topColumn
-  pub noteColumn : r .terms .column ≤ topColumn
-  pub noteLine : r .terms .line < 256
 
 abbrev pub BoundedRead : Option (Reading ℕ) → Type 0
 BoundedRead none = Unit {0}

@@ -1,0 +1,144 @@
+-- A key that arrives, and the clear rule, within bounds.
+use mathlib.Core.Path.{_≡_}
+use Prim.Native.Nat.{ℕ, _+_, _*_, _<_}
+use native.Mathlib.Omega.{arith}
+use mathlib.Core.Bool.{Bool, true, false, not}
+use mathlib.Core.List.{[], _∷_, map-append}
+use mathlib.Core.Option.{Option, none, some}
+use lib.ListN.{length, length-append}
+use borrow.Author.Tests.{ltb-true}
+use Rattle.rules.specs.Numbers.{inputSize, typeAheadSize}
+use Rattle.rules.specs.State.{Reading, State, codes, withTerminal, withDiscarding, withQuoting, withIdle}
+use Rattle.rules.specs.Turns.{cleared}
+use Rattle.rules.specs.Editing.{endOf}
+use Rattle.rules.specs.ReadData.{byOutOfBand}
+use Rattle.rules.specs.Arrival.{idleAgain, keeps, drops, stores, storesQuoted, quotes, flipsDiscard, emptiesTyped, clearsUnseen}
+use Rattle.rules.specs.Arrival.{clearsSeen, clears, clearsBy, sendsOutOfBand, endsOutOfBand, clearsAtOnce, controlled, ruled, arrives}
+use Rattle.rules.specs.Bounds.{BoundedReading, BoundedRead}
+use Rattle.rules.proofs.Bounds.Bytes.{no-bytes, one-byte, bytes-append}
+use Rattle.rules.proofs.Bounds.Turns.{OfRead, Steady, Good, Fine, fine, reset, retyped, reread}
+use Rattle.rules.proofs.Bounds.Turns.{still-good, changes-good, writes-good, sends-good, tells-then, changes-then, then-good, quiet-then, pick-good}
+use Rattle.rules.proofs.Bounds.Messages.{discardState-sent, outOfBand-sent}
+use Rattle.rules.proofs.Bounds.Reads.{bounded-answerable, completes-good, deletesUnseen-good, deletes-good}
+
+pub idle-bounded : (n : ℕ) (r : Reading ℕ) → (r .terms .timed ≡ true → 0 < r .terms .timeout → n < r .terms .timeout) →
+    BoundedReading r → BoundedReading (withIdle n r)
+unfolding endOf
+idle-bounded n r due b =
+    record { terms = b .terms; room = b .room; lowWater = b .lowWater; inputBytes = b .inputBytes; idle = due; from = b .from }
+
+idleAgain-bounded : (o : Option (Reading ℕ)) → BoundedRead o → BoundedRead (idleAgain o)
+unfolding idleAgain
+idleAgain-bounded none b = tt
+idleAgain-bounded (some r) b = idle-bounded 0 r (λ timed due. due) b
+
+module _ {area : ℕ} {s : State ℕ} (c : ℕ) (byte : c < 256) (h : Steady BoundedRead s) where
+  keeps-good : {bytes : ℕ} (quoted : Bool) → length (s .typed .typeAhead) < typeAheadSize → Good BoundedRead bytes area (keeps quoted c s)
+  unfolding keeps
+  keeps-good quoted room =
+      let n = length-append (s .typed .typeAhead) (record { char = c; quoted = quoted } ∷ []) in
+      changes-good _
+      (reread
+      (retyped h (record {
+        typeAhead = omega arith;
+        token = h .typed .token;
+        keyBytes = rw map-append (bytes-append _ (c ∷ []) (h .typed .keyBytes) (one-byte c byte));
+        tokenBytes = h .typed .tokenBytes;
+      }))
+      (idleAgain (s .read)) (idleAgain-bounded (s .read) (h .read)))
+
+  drops-good : Good BoundedRead 1 area (drops c s)
+  unfolding drops
+  drops-good =
+      tells-then _ _
+      (then-good _ _ 1 0 0 area (omega arith) (omega arith) (writes-good _ (omega arith) h) λ s₁ h₁.
+      changes-good _ (reset h₁ (record { column = h₁ .terminal .column; line = h₁ .terminal .line; dropped = omega arith })))
+
+  stores-good : (quoted : Bool) → Good BoundedRead 1 area (stores typeAheadSize quoted c s)
+  unfolding stores
+  stores-good quoted =
+      pick-good _ _ _ (λ y. keeps-good quoted (ltb-true (length (s .typed .typeAhead)) typeAheadSize y)) (λ n. drops-good)
+
+-- quoting and discarding may be anything
+pub terminal-same : {R : OfRead} {s : State ℕ} (discarding quoting : Bool) → Steady R s →
+    Steady R (withTerminal (withDiscarding discarding (withQuoting quoting (s .terminal))) s)
+terminal-same discarding quoting h = reset h (record { column = h .terminal .column; line = h .terminal .line; dropped = h .terminal .dropped })
+
+module _ {s : State ℕ} (c : ℕ) (h : Steady BoundedRead s) where
+  quotes-good : {bytes area : ℕ} → Good BoundedRead bytes area (quotes c s)
+  unfolding quotes
+  quotes-good = tells-then _ _ (changes-good _ (terminal-same (s .terminal .discarding) true h))
+
+  flipsDiscard-good : {bytes : ℕ} → Good BoundedRead bytes 4 (flipsDiscard c s)
+  unfolding flipsDiscard
+  flipsDiscard-good =
+      tells-then _ _ (changes-then _ _
+      (sends-good _ (discardState-sent _) (omega arith) (terminal-same (not (s .terminal .discarding)) (s .terminal .quoting) h)))
+
+-- The clear rule.
+pub emptiesTyped-good : {R : OfRead} {bytes area : ℕ} {s : State ℕ} → Steady R s → Good R bytes area (emptiesTyped s)
+unfolding emptiesTyped
+emptiesTyped-good h =
+    tells-then _ _ (changes-good _ (retyped h (record { typeAhead = omega arith; token = omega arith; keyBytes = no-bytes; tokenBytes = no-bytes })))
+
+module _ {s : State ℕ} (h : Steady BoundedRead s) where
+  clearsUnseen-good : {bytes area : ℕ} (o : Option (Reading ℕ)) → BoundedRead o → Good BoundedRead bytes area (clearsUnseen o s)
+  unfolding clearsUnseen
+  clearsUnseen-good none b = still-good h
+  clearsUnseen-good (some r) b = deletesUnseen-good cleared 0 r b h
+
+  clearsSeen-good : {area : ℕ} (o : Option (Reading ℕ)) → BoundedRead o → Good BoundedRead (24 * inputSize) area (clearsSeen codes o s)
+  unfolding clearsSeen
+  clearsSeen-good none b = still-good h
+  clearsSeen-good (some r) b = deletes-good cleared 0 r b h
+
+  endsOutOfBand-good : {bytes : ℕ} (o : Option (Reading ℕ)) → BoundedRead o → Good BoundedRead bytes (10 + inputSize) (endsOutOfBand codes o s)
+  unfolding endsOutOfBand
+  endsOutOfBand-good none b = still-good h
+  endsOutOfBand-good (some r) b = completes-good byOutOfBand 0 r (omega arith) (bounded-answerable r b) h
+
+module _ {s : State ℕ} (h : Steady BoundedRead s) where
+  pub clears-fine : Fine (clears codes s)
+  unfolding clears
+  clears-fine =
+      fine (24 * inputSize) 0 (omega arith) (omega arith)
+      (quiet-then _ _ (emptiesTyped-good h) λ s₁ h₁. clearsSeen-good h₁ (s .read) (h .read))
+
+  module _ (c : ℕ) (byte : c < 256) where
+    sendsOutOfBand-good : {bytes : ℕ} → Good BoundedRead bytes 5 (sendsOutOfBand codes c s)
+    unfolding sendsOutOfBand
+    sendsOutOfBand-good = tells-then _ _ (sends-good _ (outOfBand-sent c byte) (omega arith) h)
+
+    clearsAtOnce-fine : Fine (clearsAtOnce codes c s)
+    unfolding clearsAtOnce
+    clearsAtOnce-fine =
+        fine 0 (inputSize + 15) (omega arith) (omega arith)
+        (then-good _ _ 0 0 5 (10 + inputSize) (omega arith) (omega arith) sendsOutOfBand-good λ s₁ h₁.
+        quiet-then _ _ (emptiesTyped-good h₁) λ s₂ h₂.
+        quiet-then _ _ (clearsUnseen-good h₂ (s₂ .read) (h₂ .read)) λ s₃ h₃.
+        endsOutOfBand-good h₃ (s₃ .read) (h₃ .read))
+
+    stores-fine : (quoted : Bool) → Fine (stores typeAheadSize quoted c s)
+    stores-fine quoted = fine 1 0 (omega arith) (omega arith) (stores-good c byte h quoted)
+
+    controlled-fine : Fine (controlled codes c s)
+    unfolding controlled clearsBy
+    controlled-fine =
+        pick-good _ _ _ (λ y. quotes-good c h) λ n.
+        pick-good _ _ _ (λ y. tells-then _ _ clears-fine) λ n.
+        pick-good _ _ _ (λ y. fine 0 4 (omega arith) (omega arith) (flipsDiscard-good c h)) λ n.
+        stores-fine false
+
+    ruled-fine : Fine (ruled codes c s)
+    unfolding ruled storesQuoted
+    ruled-fine =
+        pick-good _ _ _
+        (λ y. changes-then _ _ (fine 1 0 (omega arith) (omega arith) (stores-good c byte (terminal-same (s .terminal .discarding) false h) true))) λ n.
+        pick-good _ _ _ (λ y. fine 0 5 (omega arith) (omega arith) sendsOutOfBand-good) λ n.
+        pick-good _ _ _ (λ y. clearsAtOnce-fine) λ n.
+        pick-good _ _ _ (λ y. stores-fine false) λ n.
+        controlled-fine
+
+    pub arrives-fine : Fine (arrives codes c s)
+    unfolding arrives
+    arrives-fine = tells-then _ _ (pick-good _ _ _ (λ y. ruled-fine) (λ n. stores-fine false))

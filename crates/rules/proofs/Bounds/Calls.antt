@@ -1,0 +1,104 @@
+-- Every call from a bounded line, and every list of calls from a fresh one.
+use mathlib.Core.Path.{_≡_, refl, subst}
+use Prim.Native.Nat.{ℕ}
+use native.Mathlib.Omega.{arith}
+use mathlib.Core.Bool.{true}
+use mathlib.Core.List.{List, [], _∷_}
+use lib.ListN.{length}
+use borrow.Author.Tests.{ltb-true}
+use Rattle.rules.specs.Choice.{all}
+use Rattle.rules.specs.Messages.Forms.{Message}
+use Rattle.rules.specs.Messages.Codec.{Outcome, refused, sound, read, allBytes}
+use Rattle.rules.specs.State.{State, codes, freshHost, freshTerminal, fresh}
+use Rattle.rules.specs.StartRead.{universal}
+use Rattle.rules.specs.Characteristics.{isDeferredClear}
+use Rattle.rules.specs.Calls.{Event, key, step, tick, message, Call, Answer, isCarriedBy, judged, considered}
+use Rattle.rules.specs.Calls.{refuses, does, isRoomy, hears, answers, answer, messageBytes, runFrom, run}
+use Rattle.rules.specs.Bounds.{isAttribute, BoundedRead, Bounded, isByteEvent, Within, AllWithin}
+use Rattle.rules.proofs.Tests.{pick-case, pick-first, all-cons}
+use Rattle.rules.proofs.Outcomes.{refused-sound, sound-same}
+use Rattle.rules.proofs.Bounds.Sent.{area-meant, read-sent}
+use Rattle.rules.proofs.Bounds.Turns.{Steady, Fine, still-good}
+use Rattle.rules.proofs.Bounds.Arrivals.{arrives-fine}
+use Rattle.rules.proofs.Bounds.Steps.{steps-fine, ticks-fine}
+use Rattle.rules.proofs.Bounds.Hosts.{obeys-fine}
+
+pub fresh-bounded : Bounded fresh
+unfolding fresh freshHost freshTerminal universal allBytes all isAttribute isDeferredClear
+fresh-bounded =
+    record {
+      host = record { table = refl; attributes = refl; setLength = omega arith; setBytes = refl };
+      terminal = record { column = omega arith; line = omega arith; dropped = omega arith };
+      typed = record { typeAhead = omega arith; token = omega arith; keyBytes = refl; tokenBytes = refl };
+      read = tt;
+    }
+
+steady : {s : State ℕ} → Bounded s → Steady BoundedRead s
+steady b = record { host = b .host; terminal = b .terminal; typed = b .typed; read = b .read }
+
+-- a fine turn is what a call may leave and write
+fine-within : (a : Answer ℕ) → Fine (a .turn) → Within a
+unfolding messageBytes
+fine-within a g =
+    let h = g .state in
+    record {
+      state = record { host = h .host; terminal = h .terminal; typed = h .typed; read = h .read };
+      terminal = g .terminal;
+      messages = g .messages;
+      meant = area-meant (a .turn .messages) (g .fit) (g .messages);
+    }
+
+-- A message that is obeyed was read, and is carried.
+module _ (s : State ℕ) where
+  judged-sound : (o : Outcome (Message ℕ)) (m : Message ℕ) → judged s o ≡ sound m → (o ≡ sound m) × (isCarriedBy s m ≡ true)
+  unfolding judged
+  judged-sound (refused n) m e = absurd (refused-sound e)
+  judged-sound (sound k) m e =
+      let h = pick-first _ refused-sound e in
+      (h .1, subst (λ x. isCarriedBy s x ≡ true) (sound-same (h .1)) (h .0))
+
+  considered-sound : (bytes : List ℕ) (m : Message ℕ) → considered s bytes ≡ sound m → (read bytes ≡ sound m) × (isCarriedBy s m ≡ true)
+  unfolding considered
+  considered-sound bytes m e =
+      let length = pick-first _ refused-sound e in
+      let kind = pick-first _ refused-sound (length .1) in
+      let time = pick-first _ refused-sound (kind .1) in
+      judged-sound (read bytes) m (time .1)
+
+module _ {s : State ℕ} (h : Steady BoundedRead s) where
+  refuses-within : (n : ℕ) → Within (refuses n s)
+  unfolding refuses
+  refuses-within n = fine-within _ (still-good h)
+
+  hears-within : (bytes : List ℕ) → allBytes bytes ≡ true → (o : Outcome (Message ℕ)) → considered s bytes ≡ o → Within (hears codes o s)
+  unfolding hears does
+  hears-within bytes small (refused n) e = refuses-within n
+  hears-within bytes small (sound m) e =
+      let c = considered-sound s bytes m e in
+      fine-within _ (obeys-fine h m (read-sent bytes m small (c .0)) (c .1))
+
+  answers-within : (e : Event ℕ) → isByteEvent e ≡ true → Within (answers codes e s)
+  unfolding answers does isByteEvent
+  answers-within (key c) byte = fine-within _ (arrives-fine h c (ltb-true c 256 byte))
+  answers-within step byte = fine-within _ (steps-fine h)
+  answers-within tick byte = fine-within _ (ticks-fine h)
+  answers-within (message bytes) small = hears-within bytes small (considered s bytes) refl
+
+pub call-within : (c : Call ℕ) (s : State ℕ) → isByteEvent (c .event) ≡ true → Bounded s → Within (answer codes c s)
+unfolding answer
+call-within c s byte b =
+    pick-case (λ (f : State ℕ → Answer ℕ). Within (f s)) (isRoomy c)
+    (λ y. answers-within (steady b) (c .event) byte)
+    (λ n. refuses-within (steady b) _)
+
+runFrom-within : (cs : List (Call ℕ)) (s : State ℕ) → all (λ c. isByteEvent (c .event)) cs ≡ true → Bounded s → AllWithin (runFrom codes s cs)
+unfolding runFrom
+runFrom-within [] s bytes b = tt
+runFrom-within (c ∷ cs) s bytes b =
+    let h = all-cons (λ c. isByteEvent (c .event)) c cs bytes in
+    let w = call-within c s (h .0) b in
+    (w, runFrom-within cs (answer codes c s .turn .state) (h .1) (w .state))
+
+pub run-within : (cs : List (Call ℕ)) → all (λ c. isByteEvent (c .event)) cs ≡ true → AllWithin (run codes cs)
+unfolding run
+run-within cs bytes = runFrom-within cs fresh bytes fresh-bounded

@@ -1,0 +1,137 @@
+-- What a part does within bounds: it leaves a bounded line, writes so many terminal bytes and so many bytes of messages, and
+-- every message fits. One law for each way that parts are put together.
+use mathlib.Core.Path.{_≡_}
+use Prim.Native.Nat.{ℕ, _+_, _*_, _≤_}
+use native.Mathlib.Omega.{arith}
+use mathlib.Core.Bool.{Bool, true, false}
+use mathlib.Core.List.{List}
+use mathlib.Core.Option.{Option}
+use lib.ListN.{length, length-append}
+use Rattle.rules.specs.Choice.{pick, joined}
+use Rattle.rules.specs.Numbers.{inputSize, terminalArea, messageArea}
+use Rattle.rules.specs.Messages.Forms.{Message}
+use Rattle.rules.specs.State.{Host, Terminal, Key, Reading, State, withHost, withTerminal, withTyped, withRead}
+use Rattle.rules.specs.Turns.{Fate, Turn, Part, still, writes, sends, tells, changes, behind, _then_, only}
+use Rattle.rules.specs.Bounds.{BoundedHost, BoundedTerminal, BoundedTyped, BoundedRead}
+use Rattle.rules.proofs.Tests.{pick-case}
+use Rattle.rules.proofs.Sizes.{rubbing-room, answer-room}
+use Rattle.rules.proofs.Bounds.Screens.{shownAll-bounded}
+use Rattle.rules.proofs.Bounds.Sent.{Sent, AllFit, allFit-append, areaOf, area-append, area-one}
+
+-- what is asked of the pending read
+abbrev pub OfRead : Type 1
+OfRead = Option (Reading ℕ) → Type 0
+
+-- the invariant, with another demand on the pending read: inside a call it may be full for a moment
+pub record Steady (R : OfRead) (s : State ℕ) : Type 0 where
+  pub host : BoundedHost (s .host)
+  pub terminal : BoundedTerminal (s .terminal)
+  pub typed : BoundedTyped (s .typed)
+  pub read : R (s .read)
+
+pub record Good (R : OfRead) (bytes area : ℕ) (t : Turn ℕ) : Type 0 where
+  pub state : Steady R (t .state)
+  pub terminal : length (t .bytes) ≤ bytes
+  pub messages : areaOf (t .messages) ≤ area
+  pub fit : AllFit (t .messages)
+
+-- One part of the state changed.
+module _ {R : OfRead} {s : State ℕ} (h : Steady R s) where
+  pub rehosted : {x : Host} → BoundedHost x → Steady R (withHost x s)
+  rehosted b = record { host = b; terminal = h .terminal; typed = h .typed; read = h .read }
+
+  pub reset : {x : Terminal} → BoundedTerminal x → Steady R (withTerminal x s)
+  reset b = record { host = h .host; terminal = b; typed = h .typed; read = h .read }
+
+  pub retyped : {keys : List (Key ℕ)} {token : List ℕ} → BoundedTyped (record { typeAhead = keys; token = token }) → Steady R (withTyped keys token s)
+  retyped b = record { host = h .host; terminal = h .terminal; typed = b; read = h .read }
+
+  pub reread : {P : OfRead} (o : Option (Reading ℕ)) → P o → Steady P (withRead o s)
+  reread o b = record { host = h .host; terminal = h .terminal; typed = h .typed; read = b }
+
+-- One part alone.
+module _ {R : OfRead} {bytes area : ℕ} {s : State ℕ} where
+  pub still-good : Steady R s → Good R bytes area (still s)
+  unfolding still joined
+  still-good h = record { state = h; terminal = omega arith; messages = omega arith; fit = tt }
+
+  pub changes-good : (f : State ℕ → State ℕ) → Steady R (f s) → Good R bytes area (changes f s)
+  unfolding changes joined
+  changes-good f h = record { state = h; terminal = omega arith; messages = omega arith; fit = tt }
+
+  pub writes-good : (bs : List ℕ) → length bs ≤ bytes → Steady R s → Good R bytes area (writes bs s)
+  unfolding writes joined
+  writes-good bs room h =
+      let b = shownAll-bounded bs (s .terminal .screen) (record { column = h .terminal .column; line = h .terminal .line }) in
+      record {
+        state = reset h (record { column = b .column; line = b .line; dropped = h .terminal .dropped });
+        terminal = room;
+        messages = omega arith;
+        fit = tt;
+      }
+
+  pub sends-good : {most : ℕ} (m : Message ℕ) → Sent most m → 2 + most ≤ area → Steady R s → Good R bytes area (sends m s)
+  unfolding sends
+  sends-good m sent room h =
+      let n = area-one m in
+      record { state = h; terminal = omega arith; messages = omega arith; fit = (sent .fit, tt) }
+
+  -- a part that writes and sends nothing, then another
+  pub tells-then : (fs : List (Fate ℕ)) (g : Part ℕ) → Good R bytes area (g s) → Good R bytes area ((tells fs then g) s)
+  unfolding _then_ behind tells
+  tells-then fs g h = record { state = h .state; terminal = h .terminal; messages = h .messages; fit = h .fit }
+
+  pub changes-then : (f : State ℕ → State ℕ) (g : Part ℕ) → Good R bytes area (g (f s)) → Good R bytes area ((changes f then g) s)
+  unfolding _then_ behind changes
+  changes-then f g h = record { state = h .state; terminal = h .terminal; messages = h .messages; fit = h .fit }
+
+-- A part, then another from any state that it may leave: what they write adds up.
+module _ {P R : OfRead} {bytes area : ℕ} {s : State ℕ} (f g : Part ℕ) where
+  pub then-good : (b₁ b₂ a₁ a₂ : ℕ) → b₁ + b₂ ≤ bytes → a₁ + a₂ ≤ area →
+      Good P b₁ a₁ (f s) → ((s′ : State ℕ) → Steady P s′ → Good R b₂ a₂ (g s′)) → Good R bytes area ((f then g) s)
+  unfolding _then_ behind
+  then-good b₁ b₂ a₁ a₂ inBytes inArea h k =
+      let t = f s in
+      let u = g (t .state) in
+      let l = k (t .state) (h .state) in
+      let n = length-append (t .bytes) (u .bytes) in
+      let a = area-append (t .messages) (u .messages) in
+      record {
+        state = l .state;
+        terminal = omega arith;
+        messages = omega arith;
+        fit = allFit-append (t .messages) (u .messages) (h .fit) (l .fit);
+      }
+
+  -- the first writes and sends nothing, or the second
+  pub quiet-then : Good P 0 0 (f s) → ((s′ : State ℕ) → Steady P s′ → Good R bytes area (g s′)) → Good R bytes area ((f then g) s)
+  quiet-then h k = then-good 0 bytes 0 area (omega arith) (omega arith) h k
+
+  pub then-quiet : Good P bytes area (f s) → ((s′ : State ℕ) → Steady P s′ → Good R 0 0 (g s′)) → Good R bytes area ((f then g) s)
+  then-quiet h k = then-good bytes 0 area 0 (omega arith) (omega arith) h k
+
+  -- the first only writes, and the second only sends
+  pub writes-sends : Good P bytes 0 (f s) → ((s′ : State ℕ) → Steady P s′ → Good R 0 area (g s′)) → Good R bytes area ((f then g) s)
+  writes-sends h k = then-good bytes 0 0 area (omega arith) (omega arith) h k
+
+-- more room
+pub roomier : {R : OfRead} {t : Turn ℕ} (b a : ℕ) {bytes area : ℕ} → b ≤ bytes → a ≤ area → Good R b a t → Good R bytes area t
+roomier b a p q h = record { state = h .state; terminal = omega arith; messages = omega arith; fit = h .fit }
+
+-- A choice of parts, and a part under a test.
+module _ {R : OfRead} {bytes area : ℕ} {s : State ℕ} (t : Bool) where
+  pub pick-good : (f g : Part ℕ) → (t ≡ true → Good R bytes area (f s)) → (t ≡ false → Good R bytes area (g s)) →
+      Good R bytes area (pick t f g s)
+  pick-good f g h k = pick-case (λ (part : Part ℕ). Good R bytes area (part s)) t h k
+
+  pub only-good : (f : Part ℕ) → (t ≡ true → Good R bytes area (f s)) → (t ≡ false → Steady R s) → Good R bytes area (only t f s)
+  unfolding only
+  only-good f h k = pick-good f still h (λ e. still-good (k e))
+
+-- What a call asks of its rule.
+abbrev pub Fine : Turn ℕ → Type 0
+Fine t = Good BoundedRead terminalArea messageArea t
+
+-- most rules rub out a buffer or echo, and answer behind an Out-of-Band
+pub fine : {t : Turn ℕ} (b a : ℕ) → b ≤ 24 * inputSize + 8 → a ≤ inputSize + 15 → Good BoundedRead b a t → Fine t
+fine b a p q h = let w = rubbing-room in let v = answer-room in roomier b a (omega arith) (omega arith) h
