@@ -3,3 +3,4 @@ pub mod Tops
 pub mod Areas
 pub mod Echoes
 pub mod Written
+pub mod Marks

@@ -1,7 +1,7 @@
 // What the terminal gets: bytes into its area, and where the cursor stands then.
-mod columns;
-pub mod put;
+pub mod columns;
 pub mod echo;
+pub mod put;
 pub mod rub;
 
 pub struct Screen {
