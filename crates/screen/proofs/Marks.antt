@@ -1,20 +1,21 @@
 -- Marks and spaces: what they do to the column, and how many of them stand behind a text's first characters.
 use mathlib.Core.Path.{_≡_, refl, sym, ap, _∙_}
-use Prim.Native.Nat.{ℕ, zero, suc, _+_, _*_, _^_, min, _≤_, _<_}
+use Prim.Native.Nat.{ℕ, zero, suc, _+_, _^_, min, _≤_, _<_}
 use native.Mathlib.Omega.{arith}
-use mathlib.Core.Bool.{true, false}
-use mathlib.Core.List.{List, [], _∷_, _++_}
+use mathlib.Core.Bool.{true}
+use mathlib.Core.List.{List, [], _∷_}
 use lib.Dec.{eqb, eqb·suc-zero}
 use lib.ListN.{length, getD, take, drop, replicate}
 use lib.ListN.{length-append, length-take, length-drop, take-append-drop, drop-of-length-le}
 use lib.Seq.{take-take}
 use borrow.Author.Tests.{leb-true}
-use Rattle.rules.specs.Choice.{pick, within, all}
+use Rattle.rules.specs.Choice.{pick, all}
 use Rattle.rules.specs.Numbers.{topColumn}
 use Rattle.rules.specs.Screen.{SP, isMark, toTab, columnAfter, columnAfterAll, echo, echoAll, marksBehind}
 use Rattle.rules.proofs.Tests.{pick-true, pick-false, pick-case, within-true, both, all-cons}
 use Rattle.rules.proofs.Bounds.Screens.{echoAll-length}
 use Rattle.screen.specs.View.{counted}
+use Rattle.screen.proofs.Cases.{column-mark}
 use Rattle.screen.proofs.Echoes.{columnAfterAll-append, echoAll-append, echoAll-more}
 
 -- An echo is marks and spaces.
@@ -34,25 +35,21 @@ echo-marks column n =
     pick-case P _ (λ _. spaces-marks (toTab column)) λ _.
     pick-case P _
     (λ k.
-      let low = leb-true n 31 k in
-      both (low-mark 0x5E (omega arith) (omega arith)) (both (low-mark (n + 64) (omega arith) (omega arith)) refl)) λ _.
+    let low = leb-true n 31 k in
+    both (low-mark 0x5E (omega arith) (omega arith)) (both (low-mark (n + 64) (omega arith) (omega arith)) refl)) λ _.
     pick-case P _
     (λ _. both (low-mark 0x5E (omega arith) (omega arith)) (both (low-mark 0x3F (omega arith) (omega arith)) refl)) λ _. refl
   where
     P : List ℕ → Type 0
     P bs = all isMark bs ≡ true
 
-mark-column : (column b : ℕ) → isMark b ≡ true → columnAfter column b ≡ min topColumn (column + 1)
-unfolding columnAfter
-mark-column column b m = pick-true _ _ m
-
 marks-column : (b : ℕ) (bs : List ℕ) (column : ℕ) → all isMark (b ∷ bs) ≡ true →
     columnAfterAll column (b ∷ bs) ≡ min topColumn (column + length (b ∷ bs))
 unfolding columnAfterAll
-marks-column b [] column m = mark-column column b (all-cons isMark b [] m .0)
+marks-column b [] column m = column-mark column b (all-cons isMark b [] m .0)
 marks-column b (d ∷ bs) column m =
     let h = all-cons isMark b (d ∷ bs) m in
-    let first = mark-column column b (h .0) in
+    let first = column-mark column b (h .0) in
     let rest = marks-column d bs (columnAfter column b) (h .1) in
     omega arith
 
@@ -89,10 +86,6 @@ marks-none kept column text i h =
     let short : length (take i text) ≤ kept = omega (arith, length-take i text) in
     rw (drop-of-length-le (take i text) short)
 
-pub reached-none : (column : ℕ) → reached column [] ≡ column
-unfolding columnAfterAll echoAll
-reached-none column = refl
-
 -- A turn of the count, over one more character: the column behind it, and the marks where it is not kept and where it is.
 module _ (column : ℕ) (text : List ℕ) (i : ℕ) (inside : i < length text) where
   abbrev here : ℕ
@@ -117,7 +110,7 @@ module _ (column : ℕ) (text : List ℕ) (i : ℕ) (inside : i < length text) w
         let before = marks-split kept column (take i text) in
         let behind = marks-split kept column (take (i + 1) text) in
         let front : take kept (take (i + 1) text) ≡ take kept (take i text) =
-            take-take kept (i + 1) text (omega arith) ∙ sym (take-take kept i text k) in
+        take-take kept (i + 1) text (omega arith) ∙ sym (take-take kept i text k) in
         let fronts = ap (λ l. length (echoAll column l)) front in
         let whole = ap length (echoAll-more column text i inside) in
         let parts = length-append (echoAll column (take i text)) (echo here next) in

@@ -1,6 +1,6 @@
 use mathlib.Core.Path.{refl}
-use Rattle.rules.specs.Screen.{change}
 use borrow.Author.Needs.{needs}
+use Rattle.rules.specs.Screen.{change}
 use Rattle.screen.proofs.columns.change.Statement.{statement}
 use Rattle.screen.proofs.columns.change.Tie as tie
 

@@ -1,13 +1,12 @@
-use mathlib.Core.Path.{_≡_, sym, ap, _∙_}
-use mathlib.Core.Logic.{⊎-elim}
+use mathlib.Core.Path.{_≡_, refl, ap, _∙_}
 use Prim.Native.Nat.{_≤_, _-_}
 use native.Mathlib.Omega.{arith}
-use borrow.Author.Needs.{needs}
+use mathlib.Core.Logic.{⊎-elim}
 use lib.ListN.{length, take}
 use lib.Seq.{take-all}
-use Rattle.rules.specs.Screen.{marksBehind}
+use Rattle.rules.specs.Screen.{columnAfterAll, echoAll, marksBehind}
 use Rattle.screen.specs.View.{counted}
-use Rattle.screen.proofs.Marks.{reached, reached-none, marks-none, column-turn, marks-turn, kept-turn}
+use Rattle.screen.proofs.Marks.{reached, marks-none, column-turn, marks-turn, kept-turn}
 use Rattle.screen.proofs.rub.marks_behind.Statement.{statement}
 use Rattle.screen.proofs.rub.marks_behind.Tie as tie
 
@@ -19,22 +18,23 @@ abbrev μ-loop : tie.MeasureT-loop
 μ-loop kept column text now₀ marks₀ i₀ now marks i = length text - i
 
 loop-holds : tie.Need-loop-holds Inv-loop μ-loop
+unfolding columnAfterAll echoAll
 loop-holds c =
     let args = c .before .args in
     let none = marks-none (args .kept) (args .column) (args .text .now) 0 (omega arith) in
-    (omega arith, sym (reached-none (args .column)), omega arith)
+    (omega arith, refl, omega arith)
 
 shared-slice-read-width : tie.Need-shared-slice-read-width Inv-loop μ-loop
 shared-slice-read-width c = omega arith
 
 width-requires : tie.Need-width-requires Inv-loop μ-loop
-width-requires c κs = search needs
+width-requires c κs = tt
 
 count-requires : tie.Need-count-requires Inv-loop μ-loop
-count-requires c κs = search needs
+count-requires c κs = tt
 
 column-behind-requires : tie.Need-column-behind-requires Inv-loop μ-loop
-column-behind-requires c κs = search needs
+column-behind-requires c κs = tt
 
 add-i : tie.Need-add-i Inv-loop μ-loop
 add-i c = omega arith
@@ -52,12 +52,11 @@ loop-again c =
     let i = a .loop .i in
     let inv = a .loop .inv in
     let inside = c .before .before .before .before .loop-test .taken in
-    let more = c .before .before .width .ensures in
-    (
+    let more = c .before .before .width .ensures in (
       omega arith,
       column-turn column text i inside (inv .1) more (c .column-behind .ensures),
       ⊎-elim (λ w. marks-turn column text i inside (inv .1) more kept (w .0 .taken) (inv .2) (w .2 ∙ w .1 .ensures))
-      (λ w. kept-turn kept column text i (w .0 .left) (inv .2) (w .1)) (c .before .if1 .came),
+          (λ w. kept-turn kept column text i (w .0 .left) (inv .2) (w .1)) (c .before .if1 .came),
     )
 
 returns : tie.Need-returns Inv-loop μ-loop
