@@ -28,17 +28,17 @@ unfolding all
 spaces-marks zero = refl
 spaces-marks (suc k) = both (low-mark SP (omega arith) (omega arith)) (spaces-marks k)
 
+caret-marks : (b : ℕ) → 32 ≤ b → b ≤ 126 → all isMark (0x5E ∷ b ∷ []) ≡ true
+unfolding all
+caret-marks b p q = both (low-mark 0x5E (omega arith) (omega arith)) (both (low-mark b p q) refl)
+
 echo-marks : (column n : ℕ) → all isMark (echo column n) ≡ true
 unfolding echo all
 echo-marks column n =
     pick-case P _ (λ m. both m refl) λ _.
     pick-case P _ (λ _. spaces-marks (toTab column)) λ _.
-    pick-case P _
-    (λ k.
-    let low = leb-true n 31 k in
-    both (low-mark 0x5E (omega arith) (omega arith)) (both (low-mark (n + 64) (omega arith) (omega arith)) refl)) λ _.
-    pick-case P _
-    (λ _. both (low-mark 0x5E (omega arith) (omega arith)) (both (low-mark 0x3F (omega arith) (omega arith)) refl)) λ _. refl
+    pick-case P _ (λ k. let low = leb-true n 31 k in caret-marks (n + 64) (omega arith) (omega arith)) λ _.
+    pick-case P _ (λ _. caret-marks 0x3F (omega arith) (omega arith)) λ _. refl
   where
     P : List ℕ → Type 0
     P bs = all isMark bs ≡ true
@@ -109,8 +109,7 @@ module _ (column : ℕ) (text : List ℕ) (i : ℕ) (inside : i < length text) w
     marks-turn kept k m e =
         let before = marks-split kept column (take i text) in
         let behind = marks-split kept column (take (i + 1) text) in
-        let front : take kept (take (i + 1) text) ≡ take kept (take i text) =
-        take-take kept (i + 1) text (omega arith) ∙ sym (take-take kept i text k) in
+        let front = take-take kept (i + 1) text (omega arith) ∙ sym (take-take kept i text k) in
         let fronts = ap (λ l. length (echoAll column l)) front in
         let whole = ap length (echoAll-more column text i inside) in
         let parts = length-append (echoAll column (take i text)) (echo here next) in

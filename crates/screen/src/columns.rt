@@ -35,6 +35,7 @@ pub(crate) fn further(column: u16, by: u16) -> u16
     TOP_COLUMN as u16
 }
 
+// The column after a byte.
 pub(crate) fn column_after(column: u16, b: u8) -> u16
     ensures { λ r. ⌜ r ≡ rules.columnAfter column b ⌝ }
 {

@@ -45,11 +45,11 @@ pub(crate) fn repeat(s: Screen, area: &mut [u8], at: usize, times: u16, b: u8) -
     ensures { λ r. ⌜ Writes (replicate times b) (now (area .entry)) at s r (now (area .exit)) ⌝ }
 {
     let mut done = Shown { screen: s, at };
-    let mut i = 0;
-    while i < times {
+    let mut n = 0;
+    while n < times {
         let screen = done.screen;
         done = put(screen, area, done.at, b);
-        i += 1;
+        n += 1;
     }
     done
 }

@@ -4,9 +4,9 @@ ghost use Prim.Native.Nat.{_+_, min};
 ghost use lib.Dec.{eqb};
 ghost use lib.ListN.{length};
 ghost use mathlib.Core.List.{[], _∷_};
-ghost use Rattle.rules.specs.Screen as rules;
 ghost use Rattle.rules.specs.Choice.{pick};
 ghost use Rattle.rules.specs.Numbers.{topColumn};
+ghost use Rattle.rules.specs.Screen as rules;
 ghost use Rattle.screen.specs.View.{Writes, counted};
 use crate::Screen;
 use crate::Shown;
@@ -48,6 +48,7 @@ fn column_behind(column: u16, marks: u16) -> u16
     further(column, marks)
 }
 
+// So many marks and more of them.
 fn count(marks: usize, more: u16) -> usize
     ensures { λ r. ⌜ r ≡ counted (marks + more) ⌝ }
 {
@@ -59,19 +60,20 @@ fn count(marks: usize, more: u16) -> usize
     MOST
 }
 
-// The marks and spaces that stand on the screen for a text behind its first characters, shown from a column on.
+// The marks and spaces that stand on the screen for a text behind its first characters, shown from a column on. One pass:
+// a tab's width goes by what stands before it.
 pub fn marks_behind(kept: usize, column: u16, text: &[u8]) -> usize
     ensures { λ r. ⌜ r ≡ counted (rules.marksBehind kept column (now (text .entry))) ⌝ }
 {
-    let mut now = column;
+    let mut cursor = column;
     let mut marks = 0;
     let mut i = 0;
     while i < text.len() {
-        let more = width(now, text[i]);
+        let more = width(cursor, text[i]);
         if kept <= i {
             marks = count(marks, more);
         }
-        now = column_behind(now, more);
+        cursor = column_behind(cursor, more);
         i += 1;
     }
     marks
@@ -86,15 +88,16 @@ fn rub_one(s: Screen, area: &mut [u8], at: usize) -> Shown
     put(screen, area, blank.at, 8)
 }
 
+// A mark at a time, the last one first.
 pub fn rub_out(s: Screen, area: &mut [u8], at: usize, marks: usize) -> Shown
     ensures { λ r. ⌜ Writes (rules.rubOut marks) (now (area .entry)) at s r (now (area .exit)) ⌝ }
 {
     let mut done = Shown { screen: s, at };
-    let mut i = 0;
-    while i < marks {
+    let mut n = 0;
+    while n < marks {
         let screen = done.screen;
         done = rub_one(screen, area, done.at);
-        i += 1;
+        n += 1;
     }
     done
 }

@@ -10,11 +10,11 @@ use Rattle.screen.proofs.put.repeat.Statement.{statement}
 use Rattle.screen.proofs.put.repeat.Tie as tie
 
 abbrev Inv-loop : tie.InvT-loop
-Inv-loop area₀ at times b done₀ i₀ area done i =
-    (i ≤ times) × Writes (replicate i b) area₀ (done₀ .at) (done₀ .screen) done area
+Inv-loop area₀ at times b done₀ n₀ area done n =
+    (n ≤ times) × Writes (replicate n b) area₀ (done₀ .at) (done₀ .screen) done area
 
 abbrev μ-loop : tie.MeasureT-loop
-μ-loop area₀ at times b done₀ i₀ area done i = times - i
+μ-loop area₀ at times b done₀ n₀ area done n = times - n
 
 loop-holds : tie.Need-loop-holds Inv-loop μ-loop
 loop-holds c = (omega arith, nothing)
@@ -22,8 +22,8 @@ loop-holds c = (omega arith, nothing)
 put-requires : tie.Need-put-requires Inv-loop μ-loop
 put-requires c κs = tt
 
-add-i : tie.Need-add-i Inv-loop μ-loop
-add-i c = omega arith
+add-n : tie.Need-add-n Inv-loop μ-loop
+add-n c = omega arith
 
 loop-less : tie.Need-loop-less Inv-loop μ-loop
 loop-less c = omega arith
@@ -31,7 +31,7 @@ loop-less c = omega arith
 loop-again : tie.Need-loop-again Inv-loop μ-loop
 loop-again c =
     let a = c .before .before .before .before .before .before in
-    let more = replicate-more (a .loop .i) (a .before .before .args .b) in
+    let more = replicate-more (a .loop .n) (a .before .before .args .b) in
     (omega arith, adds more (a .loop .inv .1) (c .before .before .put .ensures))
 
 same-length : tie.Need-same-length Inv-loop μ-loop
@@ -41,7 +41,7 @@ returns : tie.Need-returns Inv-loop μ-loop
 returns c =
     let a = c .before in
     let all = le-antisymm (a .loop .inv .0) (c .loop-test .left) in
-    equals (ap (λ n. replicate n (a .before .before .args .b)) all) (a .loop .inv .1)
+    equals (ap (λ k. replicate k (a .before .before .args .b)) all) (a .loop .inv .1)
 
 pub repeat-spec : {M : Type 1} → statement M
 repeat-spec =
@@ -51,7 +51,7 @@ repeat-spec =
     μ-loop
     loop-holds
     put-requires
-    add-i
+    add-n
     loop-less
     loop-again
     same-length

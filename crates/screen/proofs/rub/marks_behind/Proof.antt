@@ -11,11 +11,11 @@ use Rattle.screen.proofs.rub.marks_behind.Statement.{statement}
 use Rattle.screen.proofs.rub.marks_behind.Tie as tie
 
 abbrev Inv-loop : tie.InvT-loop
-Inv-loop kept column text now₀ marks₀ i₀ now marks i =
-    (i ≤ length text) × (now ≡ reached column (take i text)) × (marks ≡ counted (marksBehind kept column (take i text)))
+Inv-loop kept column text cursor₀ marks₀ i₀ cursor marks i =
+    (i ≤ length text) × (cursor ≡ reached column (take i text)) × (marks ≡ counted (marksBehind kept column (take i text)))
 
 abbrev μ-loop : tie.MeasureT-loop
-μ-loop kept column text now₀ marks₀ i₀ now marks i = length text - i
+μ-loop kept column text cursor₀ marks₀ i₀ cursor marks i = length text - i
 
 loop-holds : tie.Need-loop-holds Inv-loop μ-loop
 unfolding columnAfterAll echoAll
