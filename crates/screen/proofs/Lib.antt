@@ -1,6 +1,6 @@
--- Laws of areas, screens and echoes. Crates above cite Areas, Echoes, Written and Marks.
-pub mod Tops
-pub mod Cases
+-- Laws of areas, screens and echoes. Crates above cite the public ones.
+mod Tops
+mod Cases
 pub mod Areas
 pub mod Echoes
 pub mod Written

@@ -18,6 +18,6 @@ pub record Writes (bytes : List ℕ) (before : List ℕ) (at : ℕ) (s : Screen)
   pub screen : view (r .screen) ≡ shownAll (view s) bytes
   pub same : length after ≡ length before
 
--- as far as a usize counts
+-- a count, as far as a usize goes
 abbrev pub counted : ℕ → ℕ
 counted n = min n 0xFFFF_FFFF_FFFF_FFFF
