@@ -1,0 +1,90 @@
+// Columns and lines.
+ghost use mathlib.Core.Path.{_≡_};
+ghost use Prim.Native.Nat.{_+_, _-_, _%_, min};
+ghost use lib.Dec.{eqb};
+ghost use Rattle.rules.specs.Choice.{pick};
+ghost use Rattle.rules.specs.Numbers.{topColumn};
+ghost use Rattle.rules.specs.Screen as rules;
+ghost use Rattle.screen.specs.View.{view};
+use crate::Screen;
+
+const TOP_COLUMN: u32 = 999;
+
+// A mark or a space: what takes a column.
+pub(crate) fn is_mark(b: u8) -> bool
+    ensures { λ r. ⌜ r ≡ rules.isMark b ⌝ }
+{
+    (32 <= b) & (b <= 126) | (160 <= b) & (b <= 254)
+}
+
+// Spaces from a column to the next multiple of 8.
+pub(crate) fn to_tab(column: u16) -> u16
+    ensures { λ r. ⌜ r ≡ rules.toTab column ⌝ }
+{
+    8 - column % 8
+}
+
+// A column so much further, up to the top.
+pub(crate) fn further(column: u16, by: u16) -> u16
+    ensures { λ r. ⌜ r ≡ min topColumn (column + by) ⌝ }
+{
+    let sum = column as u32 + by as u32;
+    if sum < TOP_COLUMN {
+        return sum as u16;
+    }
+    TOP_COLUMN as u16
+}
+
+// The column after a byte.
+pub(crate) fn column_after(column: u16, b: u8) -> u16
+    ensures { λ r. ⌜ r ≡ rules.columnAfter column b ⌝ }
+{
+    if is_mark(b) {
+        return further(column, 1);
+    }
+    if b == 13 {
+        return 0;
+    }
+    if b == 8 {
+        return column_before(column);
+    }
+    if b == 9 {
+        return further(column, to_tab(column));
+    }
+    column
+}
+
+// One column back, not below 0.
+fn column_before(column: u16) -> u16
+    ensures { λ r. ⌜ r ≡ column - 1 ⌝ }
+{
+    if 0 < column { column - 1 } else { 0 }
+}
+
+// Lines count modulo 256.
+fn line_after(line: u8, b: u8) -> u8
+    ensures { λ r. ⌜ r ≡ pick (eqb b rules.LF) ((line + 1) % 256) line ⌝ }
+{
+    if b == 10 {
+        return ((line as u16 + 1) % 256) as u8;
+    }
+    line
+}
+
+// The screen after a byte.
+pub(crate) fn shown(s: Screen, b: u8) -> Screen
+    ensures { λ r. ⌜ view r ≡ rules.shown (view s) b ⌝ }
+{
+    Screen {
+        column: column_after(s.column, b),
+        line: line_after(s.line, b),
+        after_cr: b == 13,
+    }
+}
+
+// How far a position moved, modulo 256: 255 times a number is minus that number.
+pub fn change(now: u16, before: u16) -> u8
+    ensures { λ r. ⌜ r ≡ rules.change now before ⌝ }
+{
+    ((now as u32 + 255 * (before as u32)) % 256) as u8
+}

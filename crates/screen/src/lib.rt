@@ -1,0 +1,19 @@
+// What the terminal gets: bytes into its area, and where the cursor stands then. Every function takes any input, and promises the
+// bytes and the screen of the rules.
+pub mod columns;
+pub mod echo;
+pub mod put;
+pub mod rub;
+
+pub struct Screen {
+    pub column: u16,
+    pub line: u8,
+    // the last byte was CR
+    pub after_cr: bool,
+}
+
+// The screen after some bytes, and the place behind them.
+pub struct Shown {
+    pub screen: Screen,
+    pub at: usize,
+}
