@@ -7,7 +7,7 @@ use Rattle.rules.specs.Screen as rules
 use Rattle.rules.specs.Screen.{shownAll}
 use Rattle.screen.specs.declared.Screen.{Screen}
 use Rattle.screen.specs.declared.Shown.{Shown}
-use Rattle.screen.specs.Area.{puts, spot}
+use Rattle.rules.specs.Area.{puts, spot}
 
 abbrev pub view : Screen → rules.Screen
 view s = record { column = s .column; line = s .line; afterCR = s .«after_cr» }
