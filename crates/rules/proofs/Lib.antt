@@ -7,3 +7,4 @@ pub mod Tails
 pub mod Outcomes
 pub mod RoundTrip
 pub mod Bench
+pub mod Erasure

@@ -25,6 +25,12 @@ module _ {A : Type 0} where
   pick-case P true f g = f refl
   pick-case P false f g = g refl
 
+  -- what relates both relates the choices by one test
+  pub pick-both : {B : Type 0} (R : A → B → Type 0) (t : Bool) {a b : A} {c d : B} → R a c → R b d → R (pick t a b) (pick t c d)
+  unfolding pick
+  pick-both R true p q = p
+  pick-both R false p q = q
+
   -- a choice that is x was made for the side that can be x
   pub pick-first : (t : Bool) {a b x : A} → (b ≡ x → ⊥) → pick t a b ≡ x → (t ≡ true) × (a ≡ x)
   unfolding pick

@@ -1,0 +1,126 @@
+-- Erasure of the rules of Arrival.
+use mathlib.Core.Path.{_≡_, refl}
+use Prim.Native.Nat.{ℕ}
+use mathlib.Core.Bool.{Bool}
+use mathlib.Core.List.{map-map, map-append}
+use mathlib.Core.Option.{Option, none, some, Option·map}
+use lib.ListN.{length-map}
+use Rattle.rules.specs.State.{Characters, Reading}
+use Rattle.rules.specs.Turns.{cleared}
+use Rattle.rules.specs.Arrival.{idleAgain, keeps, drops, stores, storesQuoted, quotes, flipsDiscard, passesControls}
+use Rattle.rules.specs.Arrival.{emptiesTyped, clearsUnseen, clearsSeen, clears, clearsBy}
+use Rattle.rules.specs.Arrival.{sendsOutOfBand, endsOutOfBand, clearsAtOnce, controlled, ruled, arrives}
+use Rattle.rules.proofs.Erasure.Maps.{Maps, mapReading}
+use Rattle.rules.proofs.Erasure.Parts.{Erases, here, erases-still, erases-writes, erases-plain, erases-tells, erases-changes}
+use Rattle.rules.proofs.Erasure.Parts.{erases-then, erases-pick}
+use Rattle.rules.proofs.Erasure.ReadData.{erase-completes}
+use Rattle.rules.proofs.Erasure.Editing.{erase-deletes, erase-deletesUnseen}
+
+module _ {C D : Type 0} {f : C → D} {cs : Characters C} {ds : Characters D} (m : Maps f cs ds) where
+  erase-idleAgain : (x : Option (Reading C)) → Option·map (mapReading f) (idleAgain x) ≡ idleAgain (Option·map (mapReading f) x)
+  unfolding idleAgain
+  erase-idleAgain none = refl
+  erase-idleAgain (some r) = refl
+
+  erase-keeps : (quoted : Bool) (c : C) → Erases f (keeps quoted c) (keeps quoted (f c))
+  unfolding keeps
+  erase-keeps quoted c = erases-changes _ _ (λ s. simp (map-append, erase-idleAgain))
+
+  erase-drops : (c : C) → Erases f (drops c) (drops (f c))
+  unfolding drops
+  erase-drops c =
+      erases-then (erases-tells _ refl) (erases-then (erases-writes refl) (erases-changes _ _ (λ s. refl)))
+
+  erase-stores : (limit : ℕ) (quoted : Bool) (c : C) → Erases f (stores limit quoted c) (stores limit quoted (f c))
+  unfolding stores
+  erase-stores limit quoted c =
+      record { at = λ s. here s (erases-pick (simp length-map) (erase-keeps quoted c) (erase-drops c)) }
+
+  erase-storesQuoted : (c : C) → Erases f (storesQuoted c) (storesQuoted (f c))
+  unfolding storesQuoted
+  erase-storesQuoted c = erases-then (erases-changes _ _ (λ s. refl)) (erase-stores _ _ c)
+
+  erase-quotes : (c : C) → Erases f (quotes c) (quotes (f c))
+  unfolding quotes
+  erase-quotes c = erases-then (erases-tells _ refl) (erases-changes _ _ (λ s. refl))
+
+  erase-flipsDiscard : (c : C) → Erases f (flipsDiscard c) (flipsDiscard (f c))
+  unfolding flipsDiscard
+  erase-flipsDiscard c =
+      erases-then (erases-tells _ refl)
+      (erases-then (erases-changes _ _ (λ s. refl)) (record { at = λ s. here s (erases-plain _ refl) }))
+
+  erase-passesControls : (x : Option (Reading C)) → passesControls (Option·map (mapReading f) x) ≡ passesControls x
+  unfolding passesControls
+  erase-passesControls none = refl
+  erase-passesControls (some r) = refl
+
+  pub erase-emptiesTyped : Erases f emptiesTyped emptiesTyped
+  unfolding emptiesTyped
+  erase-emptiesTyped =
+      record { at = λ s. here s (erases-then (erases-tells _ (simp (map-append, map-map))) (erases-changes _ _ (λ s. refl))) }
+
+  erase-clearsUnseen : (x : Option (Reading C)) → Erases f (clearsUnseen x) (clearsUnseen (Option·map (mapReading f) x))
+  unfolding clearsUnseen
+  erase-clearsUnseen none = erases-still
+  erase-clearsUnseen (some r) = erase-deletesUnseen m cleared cleared (λ c. refl) 0 r
+
+  erase-clearsSeen : (x : Option (Reading C)) → Erases f (clearsSeen cs x) (clearsSeen ds (Option·map (mapReading f) x))
+  unfolding clearsSeen
+  erase-clearsSeen none = erases-still
+  erase-clearsSeen (some r) = erase-deletes m cleared cleared (λ c. refl) 0 r
+
+  pub erase-clears : Erases f (clears cs) (clears ds)
+  unfolding clears
+  erase-clears = record { at = λ s. here s (erases-then erase-emptiesTyped (erase-clearsSeen (s .read))) }
+
+  erase-clearsBy : (c : C) → Erases f (clearsBy cs c) (clearsBy ds (f c))
+  unfolding clearsBy
+  erase-clearsBy c = erases-then (erases-tells _ refl) erase-clears
+
+  erase-sendsOutOfBand : (c : C) → Erases f (sendsOutOfBand cs c) (sendsOutOfBand ds (f c))
+  unfolding sendsOutOfBand
+  erase-sendsOutOfBand c = erases-then (erases-tells _ refl) (erases-plain _ (rw (m .code)))
+
+  erase-endsOutOfBand : (x : Option (Reading C)) → Erases f (endsOutOfBand cs x) (endsOutOfBand ds (Option·map (mapReading f) x))
+  unfolding endsOutOfBand
+  erase-endsOutOfBand none = erases-still
+  erase-endsOutOfBand (some r) = erase-completes m _ _ r
+
+  erase-clearsAtOnce : (c : C) → Erases f (clearsAtOnce cs c) (clearsAtOnce ds (f c))
+  unfolding clearsAtOnce
+  erase-clearsAtOnce c =
+      erases-then (erase-sendsOutOfBand c)
+      (erases-then erase-emptiesTyped
+      (erases-then (record { at = λ s. here s (erase-clearsUnseen (s .read)) })
+      (record { at = λ s. here s (erase-endsOutOfBand (s .read)) })))
+
+  erase-controlled : (c : C) → Erases f (controlled cs c) (controlled ds (f c))
+  unfolding controlled
+  erase-controlled c =
+      erases-pick (rw (m .code)) (erase-quotes c)
+      (erases-pick (rw (m .code)) (erase-clearsBy c)
+      (erases-pick (rw (m .code)) (erase-flipsDiscard c)
+      (erase-stores _ _ c)))
+
+  erase-ruled : (c : C) → Erases f (ruled cs c) (ruled ds (f c))
+  unfolding ruled
+  erase-ruled c =
+      record {
+        at = λ s.
+            here s
+            (erases-pick refl (erase-storesQuoted c)
+            (erases-pick (rw (m .code)) (erase-sendsOutOfBand c)
+            (erases-pick (rw (m .code)) (erase-clearsAtOnce c)
+            (erases-pick (rw (erase-passesControls (s .read))) (erase-stores _ _ c)
+            (erase-controlled c)))));
+      }
+
+  pub erase-arrives : (c : C) → Erases f (arrives cs c) (arrives ds (f c))
+  unfolding arrives
+  erase-arrives c =
+      record {
+        at = λ s.
+            here s
+            (erases-then (erases-tells _ (rw (m .code))) (erases-pick refl (erase-ruled c) (erase-stores _ _ c)));
+      }

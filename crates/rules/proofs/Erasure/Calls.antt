@@ -1,0 +1,85 @@
+-- Erasure of a call, and of a list of calls run from a fresh line.
+use mathlib.Core.Path.{_≡_, refl}
+use Prim.Native.Nat.{ℕ}
+use mathlib.Core.List.{List, [], _∷_, map, map-map}
+use mathlib.Core.Option.{Option, none, some, Option·map}
+use Rattle.rules.specs.Numbers.{accepted}
+use Rattle.rules.specs.Messages.Forms.{Message}
+use Rattle.rules.specs.Messages.Codec.{Outcome, refused, sound, read}
+use Rattle.rules.specs.State.{Characters, Reading, State, fresh}
+use Rattle.rules.specs.Turns.{Turn, Part, still}
+use Rattle.rules.specs.Calls.{Event, key, step, tick, message, Call, Answer}
+use Rattle.rules.specs.Calls.{isPending, isTimely, carriesQuestions, isCarriedBy, judged, considered}
+use Rattle.rules.specs.Calls.{refuses, does, isRoomy, hears, answers, answer, mapText, messageBytes, runFrom, run}
+use Rattle.rules.proofs.Tests.{pick-both}
+use Rattle.rules.proofs.Erasure.Maps.{Maps, mapReading, mapState, mapTurn, mapEvent, mapCall, mapAnswer}
+use Rattle.rules.proofs.Erasure.Lists.{codes-same}
+use Rattle.rules.proofs.Erasure.Parts.{Erases}
+use Rattle.rules.proofs.Erasure.Arrival.{erase-arrives}
+use Rattle.rules.proofs.Erasure.Steps.{erase-steps, erase-ticks}
+use Rattle.rules.proofs.Erasure.Host.{erase-obeys}
+
+module _ {C D : Type 0} {f : C → D} {cs : Characters C} {ds : Characters D} (m : Maps f cs ds) where
+  erase-isPending : (x : Option (Reading C)) → isPending (Option·map (mapReading f) x) ≡ isPending x
+  unfolding isPending
+  erase-isPending none = refl
+  erase-isPending (some r) = refl
+
+  erase-isTimely : (kind : ℕ) (s : State C) → isTimely kind (mapState f s) ≡ isTimely kind s
+  unfolding isTimely
+  erase-isTimely kind s = rw (erase-isPending (s .read))
+
+  erase-judged : (s : State C) (o : Outcome (Message ℕ)) → judged (mapState f s) o ≡ judged s o
+  unfolding judged isCarriedBy carriesQuestions
+  erase-judged s (refused n) = refl
+  erase-judged s (sound n) = refl
+
+  erase-considered : (s : State C) (bytes : List ℕ) → considered (mapState f s) bytes ≡ considered s bytes
+  unfolding considered
+  erase-considered s bytes = rw (erase-isTimely _ s, erase-judged s (read bytes))
+
+  erase-refuses : (n : ℕ) (s : State C) → mapAnswer f (refuses n s) ≡ refuses n (mapState f s)
+  unfolding refuses still
+  erase-refuses n s = refl
+
+  erase-does : {F : Part C} {G : Part D} → Erases f F G → (s : State C) → mapAnswer f (does F s) ≡ does G (mapState f s)
+  unfolding does
+  erase-does p s = λ i. record { number = accepted; turn = p .at s i }
+
+  erase-hears : (o : Outcome (Message ℕ)) (s : State C) → mapAnswer f (hears cs o s) ≡ hears ds o (mapState f s)
+  unfolding hears
+  erase-hears (refused n) s = erase-refuses n s
+  erase-hears (sound n) s = erase-does (erase-obeys m n) s
+
+  erase-answers : (e : Event C) (s : State C) → mapAnswer f (answers cs e s) ≡ answers ds (mapEvent f e) (mapState f s)
+  unfolding answers
+  erase-answers (key c) s = erase-does (erase-arrives m c) s
+  erase-answers step s = erase-does (erase-steps m) s
+  erase-answers tick s = erase-does (erase-ticks m) s
+  erase-answers (message bytes) s = rw (erase-considered s bytes) (erase-hears (considered s bytes) s)
+
+  pub erase-answer : (c : Call C) (s : State C) → mapAnswer f (answer cs c s) ≡ answer ds (mapCall f c) (mapState f s)
+  unfolding answer isRoomy
+  erase-answer c s =
+      pick-both (λ (F : State C → Answer C) (G : State D → Answer D). mapAnswer f (F s) ≡ G (mapState f s)) _
+      (erase-answers (c .event) s)
+      (erase-refuses _ s)
+
+  erase-text : (n : Message C) → mapText (ds .code) (mapText f n) ≡ mapText (cs .code) n
+  unfolding mapText
+  erase-text n = rw (codes-same m)
+
+  -- the bytes in the message area are the same
+  pub erase-messageBytes : (t : Turn C) → messageBytes ds (mapTurn f t) ≡ messageBytes cs t
+  unfolding messageBytes
+  erase-messageBytes t = simp (map-map, erase-text)
+
+  pub erase-runFrom : (s : State C) (calls : List (Call C)) →
+      map (mapAnswer f) (runFrom cs s calls) ≡ runFrom ds (mapState f s) (map (mapCall f) calls)
+  unfolding runFrom
+  erase-runFrom s [] = refl
+  erase-runFrom s (c ∷ calls) = rw (← erase-answer c s, ← erase-runFrom (answer cs c s .turn .state) calls)
+
+  pub erase-run : (calls : List (Call C)) → map (mapAnswer f) (run cs calls) ≡ run ds (map (mapCall f) calls)
+  unfolding run fresh
+  erase-run calls = erase-runFrom fresh calls

@@ -1,0 +1,50 @@
+-- Erasure of what an accepted host message does.
+use mathlib.Core.Path.{refl}
+use Prim.Native.Nat.{ℕ}
+use Rattle.rules.specs.Messages.Forms.{Message}
+use Rattle.rules.specs.State.{Characters}
+use Rattle.rules.specs.Characteristics.{report}
+use Rattle.rules.specs.Host.{ourInitiate, initiates, completion, writesOut, reports, setsCharacteristics, obeys}
+use Rattle.rules.specs.Calls.{mapText}
+use Rattle.rules.proofs.Erasure.Maps.{Maps}
+use Rattle.rules.proofs.Erasure.Parts.{Erases, here, erases-writes, erases-sends, erases-plain, erases-changes}
+use Rattle.rules.proofs.Erasure.Parts.{erases-then, erases-pick, erases-only}
+use Rattle.rules.proofs.Erasure.ReadData.{erase-unreads, erase-checksInput}
+use Rattle.rules.proofs.Erasure.Arrival.{erase-clears}
+use Rattle.rules.proofs.Erasure.StartRead.{erase-startsRead}
+
+module _ {C D : Type 0} {f : C → D} {cs : Characters C} {ds : Characters D} (m : Maps f cs ds) where
+  erase-initiates : Erases f initiates initiates
+  unfolding initiates ourInitiate mapText
+  erase-initiates = erases-then (erases-changes _ _ (λ s. refl)) (erases-sends _ refl)
+
+  erase-writesOut : (n : Message ℕ) → Erases f (writesOut n) (writesOut n)
+  unfolding writesOut completion
+  erase-writesOut n =
+      record {
+        at = λ s.
+            here s
+            (erases-then (erases-only refl (erases-changes _ _ (λ s. refl)))
+            (erases-then (record { at = λ s. here s (erases-only refl (erases-writes refl)) })
+            (erases-only refl (record { at = λ s. here s (erases-plain _ refl) }))));
+      }
+
+  erase-reports : (n : Message ℕ) → Erases f (reports n) (reports n)
+  unfolding reports report mapText
+  erase-reports n = record { at = λ s. here s (erases-sends _ refl) }
+
+  erase-setsCharacteristics : (n : Message ℕ) → Erases f (setsCharacteristics n) (setsCharacteristics n)
+  unfolding setsCharacteristics
+  erase-setsCharacteristics n = erases-changes _ _ (λ s. refl)
+
+  pub erase-obeys : (n : Message ℕ) → Erases f (obeys cs n) (obeys ds n)
+  unfolding obeys
+  erase-obeys n =
+      erases-pick refl erase-initiates
+      (erases-pick refl (erase-startsRead m n)
+      (erases-pick refl (erase-unreads m n)
+      (erases-pick refl (erase-clears m)
+      (erases-pick refl (erase-writesOut n)
+      (erases-pick refl (erase-reports n)
+      (erases-pick refl (erase-setsCharacteristics n)
+      (erase-checksInput m)))))))
