@@ -1,2 +1,3 @@
 pub mod Numbers
-pub mod FixedForms
+pub mod Heads
+pub mod Reading

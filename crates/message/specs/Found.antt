@@ -1,9 +1,11 @@
 -- What a decoded message means: its fields, read off the slice that it was found in; a number for each refusal.
-use Prim.Native.Nat.{ℕ}
+use Prim.Native.Nat.{ℕ, _≤_}
+use mathlib.Core.Path.{_≡_}
 use mathlib.Core.List.{List, [], _∷_, _++_, map}
-use lib.ListN.{take, drop}
+use lib.ListN.{length, take, drop}
 use Rattle.rules.specs.Choice.{pick}
 use Rattle.rules.specs.Numbers.{unsound}
+use Rattle.rules.specs.Messages.Layout.{byteAt}
 use Rattle.rules.specs.Messages.Parameters.{Shape, initiation, question, setting, cleaned, cut}
 use Rattle.rules.specs.Messages.Forms as forms
 use Rattle.rules.specs.Messages.Forms.{formOf, plain}
@@ -83,3 +85,8 @@ foundIn s (found.Refused n) = codec.refused n
 unfoldable pub readAs : ℕ → List ℕ → Outcome Held
 readAs kind s =
     asHeld (pick (soundAs (formOf kind) s) (codec.sound (fieldsAs (formOf kind) s)) (codec.refused unsound))
+
+-- what a reader of one type is handed: a message of that type that is not too long
+pub record IsType (kind : ℕ) (s : List ℕ) : Type 0 where
+  pub typed : byteAt s 0 ≡ kind
+  pub short : length s ≤ 256

@@ -1,8 +1,6 @@
 // The fourteen messages of the Network Command Terminal protocol: their fields, and reading them from bytes.
-ghost use mathlib.Core.Path.{_≡_};
-ghost use Rattle.rules.specs.Messages.Codec as codec;
-ghost use Rattle.message.specs.Found.{outcomeOf};
 mod bytes;
+mod parts;
 mod lists;
 mod fixed;
 mod varying;
@@ -12,6 +10,7 @@ pub struct Part {
     pub start: u16,
     pub len: u16,
 }
+
 pub struct InitiateFields {
     pub version: u8,
     pub eco: u8,
@@ -92,6 +91,16 @@ pub enum Message {
 pub enum Found {
     Message(Message),
     Refused(u8),
+}
+
+// One parameter of a list: its SELECTOR, the bytes behind it (CHARACTER, MASK and ATTRIBUTES, or a VALUE; 0 where there are
+// fewer), unused bits set to 0, and where the next one begins.
+pub struct Parameter {
+    pub selector: u16,
+    pub first: u8,
+    pub second: u8,
+    pub third: u8,
+    pub next: usize,
 }
 
 // Reads a message without a line: 2, 3 or 5 in that order, else its fields.
