@@ -1,3 +1,5 @@
 pub mod Numbers
+pub mod Pieces
 pub mod Heads
 pub mod Reading
+pub mod Walk
