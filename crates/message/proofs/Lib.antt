@@ -3,3 +3,4 @@ pub mod Pieces
 pub mod Heads
 pub mod Reading
 pub mod Walk
+pub mod Shapes

@@ -8,7 +8,7 @@ use lib.Seq.{getD-drop, drop-drop}
 use native.Mathlib.Omega.{arith}
 use Rattle.rules.specs.Messages.Layout.{byteAt, numberOf, numberAt}
 
-byte-behind : (s : List ℕ) (at : ℕ) → byteAt (drop at s) 0 ≡ byteAt s at
+pub byte-behind : (s : List ℕ) (at : ℕ) → byteAt (drop at s) 0 ≡ byteAt s at
 byte-behind s at = getD-drop at s 0 0 ∙ ap (byteAt s) (add-zero at)
 
 -- one byte more is one digit more

@@ -1,7 +1,8 @@
 // Parameter lists. `kind` is the type of the message that a list stands in: 1, 10 or 11.
 ghost use mathlib.Core.Path.{_≡_};
-ghost use Prim.Native.Nat.{_<_, _≤_};
+ghost use Prim.Native.Nat.{_%_, _<_, _≤_};
 ghost use lib.ListN.{length, getD, drop, replicate};
+ghost use Rattle.rules.specs.Messages.Layout.{byteAt};
 ghost use Rattle.rules.specs.Messages.Parameters.{definedSelector, questionLimits, valueLimits, limitsOf, sizeOf, soundParameter};
 ghost use Rattle.message.specs.Lists.{LimitsAre, ParameterIs, shapeOf, parameterAt, soundFrom};
 use crate::Parameter;
@@ -106,5 +107,103 @@ fn setting_limits(n: u16) -> Limits
         first: 1,
         second: 1,
         third: 1,
+    }
+}
+
+// The limits of the parameter that begins at a place.
+fn limits_at(kind: u8, s: &[u8], at: usize) -> Limits
+    requires { ⌜ at < length (now s) ⌝ }
+    ensures { λ r. ⌜ LimitsAre (limitsOf (shapeOf kind) (drop at (now (s .entry)))) r ⌝ }
+{
+    if kind == 1 {
+        let count = byte_at(s, at + 1);
+        return initiation_limits(count);
+    }
+    let n = word_at(s, at);
+    if kind == 10 {
+        return question_limits(n);
+    }
+    setting_limits(n)
+}
+
+// The parameter that begins at a place has a value that is defined.
+fn defined_at(kind: u8, s: &[u8], at: usize) -> bool
+    requires { ⌜ at < length (now s) ⌝ }
+    ensures { λ r. ⌜ r ≡ shapeOf kind .defined (drop at (now (s .entry))) ⌝ }
+{
+    if kind == 1 {
+        return true;
+    }
+    let n = word_at(s, at);
+    if kind == 10 {
+        return defined_selector(n);
+    }
+    if n == 0x0208 {
+        let value = word_at(s, at + 2);
+        return (1 <= value) & (value <= 3);
+    }
+    defined_selector(n)
+}
+
+fn size_at(kind: u8, s: &[u8], at: usize) -> usize
+    requires { ⌜ at < length (now s) ⌝ }
+    ensures { λ r. ⌜ (r ≡ sizeOf (shapeOf kind) (drop at (now (s .entry)))) × (2 ≤ r) × (r ≤ 257) ⌝ }
+{
+    let l = limits_at(kind, s, at);
+    2 + l.count as usize
+}
+
+// The parameter that begins at a place is whole and defined.
+fn sound_at(kind: u8, s: &[u8], at: usize) -> bool
+    requires { ⌜ at < length (now s) ⌝ }
+    ensures { λ r. ⌜ r ≡ soundParameter (shapeOf kind) (parameterAt kind at (now (s .entry))) ⌝ }
+{
+    let size = size_at(kind, s, at);
+    if s.len() - at < size {
+        return false;
+    }
+    defined_at(kind, s, at)
+}
+
+// Every parameter from a place on is whole and defined.
+pub fn whole_list(kind: u8, s: &[u8], from: usize) -> bool
+    ensures { λ r. ⌜ r ≡ soundFrom kind from (now (s .entry)) ⌝ }
+{
+    let mut at = from;
+    while at < s.len() {
+        if !sound_at(kind, s, at) {
+            return false;
+        }
+        at += size_at(kind, s, at);
+    }
+    true
+}
+
+// A byte, cut by its limit.
+fn used_at(s: &[u8], at: usize, limit: u16) -> u8
+    requires { ⌜ 0 < limit ⌝ }
+    ensures { λ r. ⌜ r ≡ byteAt (now (s .entry)) at % limit ⌝ }
+{
+    let b = byte_at(s, at) as u16;
+    (b % limit) as u8
+}
+
+// The parameter that begins at a place.
+pub fn parameter_at(kind: u8, s: &[u8], at: usize) -> Parameter
+    requires { ⌜ at < length (now s) ⌝ }
+    ensures { λ r. ⌜ ParameterIs kind at (now (s .entry)) r ⌝ }
+{
+    let l = limits_at(kind, s, at);
+    let low = s[at] as u16;
+    let high = byte_at(s, at + 1) as u16;
+    let first = used_at(s, at + 2, l.first);
+    let second = used_at(s, at + 3, l.second);
+    let third = used_at(s, at + 4, l.third);
+    Parameter {
+        selector: low + 256 * high,
+        first,
+        second,
+        third,
+        next: at + 2 + l.count as usize,
     }
 }

@@ -2,7 +2,7 @@ use mathlib.Core.List.{[], _∷_}
 use borrow.Author.Tests.{eq-eqb, ne-eqb}
 use Rattle.rules.specs.Messages.Parameters.{questionLimits}
 use Rattle.rules.proofs.Tests.{pick-true, pick-false}
-use Rattle.message.proofs.Walk.{limits-are}
+use Rattle.message.proofs.Shapes.{limits-are}
 use Rattle.message.proofs.lists.question_limits.Statement.{statement}
 use Rattle.message.proofs.lists.question_limits.Tie as tie
 

@@ -4,7 +4,7 @@ use borrow.Author.Needs.{needs}
 use borrow.Author.Tests.{eq-eqb, ne-eqb}
 use Rattle.rules.specs.Messages.Parameters.{valueLimits}
 use Rattle.rules.proofs.Tests.{pick-true, pick-false}
-use Rattle.message.proofs.Walk.{limits-are}
+use Rattle.message.proofs.Shapes.{limits-are}
 use Rattle.message.proofs.lists.setting_limits.Statement.{statement}
 use Rattle.message.proofs.lists.setting_limits.Tie as tie
 
