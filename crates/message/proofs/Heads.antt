@@ -26,10 +26,13 @@ module _ {gs : List Group} {at : ℕ} {s vs : List ℕ} where
   unfolding fieldsIn
   none-first h = flags-first 1 [] (numberAt 1 at s) refl h
 
-  -- one bit
+  -- fields in one byte, and a single bit
+  pub bits-first : (ws : List ℕ) (v : ℕ) → v ≡ byteAt s at → Head gs (at + 1) s vs → Head (flags 1 ws ∷ gs) at s (fieldsIn ws v ++ vs)
+  bits-first ws v e h = flags-first 1 ws v (e ∙ sym (number-one at s)) h
+
   pub bit-first : {v : ℕ} → v ≡ byteAt s at → Head gs (at + 1) s vs → Head (flags 1 (1 ∷ []) ∷ gs) at s (v % 2 ∷ vs)
   unfolding fieldsIn
-  bit-first {v} e h = flags-first 1 (1 ∷ []) v (e ∙ sym (number-one at s)) h
+  bit-first {v} e h = bits-first (1 ∷ []) v e h
 
   whole-field : (n w : ℕ) {v : ℕ} → v ≡ numberAt n at s → v < 2 ^ w → Head gs (at + n) s vs → Head (flags n (w ∷ []) ∷ gs) at s (v ∷ vs)
   unfolding fieldsIn
