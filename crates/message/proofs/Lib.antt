@@ -4,3 +4,4 @@ pub mod Heads
 pub mod Reading
 pub mod Walk
 pub mod Shapes
+pub mod SetAndText

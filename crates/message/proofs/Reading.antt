@@ -3,16 +3,18 @@ use mathlib.Core.Path.{_≡_, refl, sym, ap, ap₂, _∙_}
 use Prim.Native.Nat.{ℕ, _+_, _-_, _≤_, _<_}
 use native.Mathlib.Omega.{arith}
 use mathlib.Core.Bool.{Bool, true, false, not, _&&_, _||_, false≢true}
-use mathlib.Core.List.{List, [], _∷_}
+use mathlib.Core.List.{List, [], _∷_, map}
 use lib.Dec.{eqb, leb}
 use lib.ListN.{length, drop, drop-of-length-le, length-drop}
 use borrow.Author.Tests.{le-leb, lt-leb, leb-true, leb-false}
 use Rattle.rules.specs.Choice.{pick, isEmpty}
 use Rattle.rules.specs.Messages.Layout.{byteAt, sizeOf, readGroups}
-use Rattle.rules.specs.Messages.Forms.{Message, Tail, nothing, Form, formOf, plain, startRead, readData, write}
+use Rattle.rules.specs.Messages.Parameters.{Shape, cleaned, cut}
+use Rattle.rules.specs.Messages.Forms.{Message, Tail, nothing, text, list, Form, formOf, plain, startRead, readData, write}
 use Rattle.rules.specs.Messages.Codec.{Held, message, sound, refused, definedFields, soundAs, fieldsAs, wholeTail, behindHead, setIn, parametersIn, textIn}
 use Rattle.rules.proofs.Tests.{both, pick-true, pick-false}
-use Rattle.message.specs.Found.{bare, asHeld, readAs}
+use Rattle.message.specs.declared.Part.{Part}
+use Rattle.message.specs.Found.{RestFrom, partOf, parametersOf, bare, withText, withList, asHeld, readAs}
 use Rattle.message.proofs.Heads.{Head}
 
 no-first : (a b c : Bool) → a ≡ false → a && b && c ≡ false
@@ -91,18 +93,27 @@ module _ (kind : ℕ) (s : List ℕ) where
 
     -- the fields, part by part; the tail by its name
     module _ {vs : List ℕ} (v : Head (formOf kind .head) 1 s vs) (t : Tail) (is : formOf kind .tail ≡ t) where
-      pub fields-are : message (record { kind = kind; numbers = vs; set = setIn t rest; parameters = parametersIn t rest; text = textIn t rest }) ≡
-          message fields
+      pub fields-are : record { kind = kind; numbers = vs; set = setIn t rest; parameters = parametersIn t rest; text = textIn t rest } ≡ fields
       unfolding fieldsAs
       fields-are =
-          λ i. message
-          (record {
+          λ i. record {
             kind = sym k i;
             numbers = sym (v .same) i;
             set = setIn (sym is i) rest;
             parameters = parametersIn (sym is i) rest;
             text = textIn (sym is i) rest;
-          })
+          }
+
+    -- by a part that reaches to the end
+    module _ {vs : List ℕ} (v : Head (formOf kind .head) 1 s vs) {p : Part} (e : RestFrom head s p) where
+      pub text-fields : formOf kind .tail ≡ text → withText kind vs [] (partOf s p) ≡ message fields
+      unfolding behindHead setIn parametersIn textIn
+      text-fields is = ap (withText kind vs []) (e .same) ∙ ap message (fields-are v text is)
+
+      pub list-fields : (shape : Shape) → formOf kind .tail ≡ list shape → withList kind vs (parametersOf shape s p) ≡ message fields
+      unfolding behindHead parametersOf setIn parametersIn textIn
+      list-fields shape is =
+          ap (λ bytes. withList kind vs (map (cleaned shape) (cut shape 0 bytes))) (e .same) ∙ ap message (fields-are v (list shape) is)
 
   -- Messages of a fixed length.
   module _ (is : formOf kind .tail ≡ nothing) where
@@ -127,4 +138,4 @@ module _ (kind : ℕ) (s : List ℕ) where
     unfolding behindHead isEmpty setIn parametersIn textIn
     fixed-sound k e h {vs} v =
         let empty = drop-of-length-le s {i = head} (omega arith) in
-        read-sound (fields-are k v nothing is) (omega arith) (nothing-behind ∙ ap isEmpty empty) (free-defined k e)
+        read-sound (ap message (fields-are k v nothing is)) (omega arith) (nothing-behind ∙ ap isEmpty empty) (free-defined k e)

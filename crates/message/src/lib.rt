@@ -4,6 +4,8 @@ mod parts;
 mod lists;
 mod fixed;
 mod varying;
+mod listed;
+mod start_read;
 
 // A part of the lent slice.
 pub struct Part {

@@ -1,13 +1,12 @@
-use mathlib.Core.Path.{refl, ap, _∙_}
+use mathlib.Core.Path.{refl}
 use mathlib.Core.List.{[], _∷_}
 use native.Mathlib.Omega.{arith}
 use borrow.Author.Needs.{needs}
 use Rattle.rules.specs.Messages.Layout.{sizeOf, fieldsIn}
-use Rattle.rules.specs.Messages.Forms.{forms, formOf, text}
-use Rattle.rules.specs.Messages.Codec.{behindHead, setIn, parametersIn, textIn}
-use Rattle.message.specs.Found.{heldIn, withText}
+use Rattle.rules.specs.Messages.Forms.{forms, formOf}
+use Rattle.message.specs.Found.{heldIn}
 use Rattle.message.proofs.Heads.{no-more, bits-first, byte-first, word-first}
-use Rattle.message.proofs.Reading.{fields-are}
+use Rattle.message.proofs.Reading.{text-fields}
 use Rattle.message.proofs.varying.read_data_fields.Statement.{statement}
 use Rattle.message.proofs.varying.read_data_fields.Tie as tie
 
@@ -30,18 +29,17 @@ rest-from-requires : tie.Need-rest-from-requires
 rest-from-requires c κs = search needs
 
 returns : tie.Need-returns
-unfolding heldIn formOf forms sizeOf fieldsIn behindHead setIn parametersIn textIn
+unfolding heldIn formOf forms sizeOf fieldsIn
 returns c =
     let b = c .before .before .before .before .before in
     let a = b .before .before in
-    ap (withText 3 _ []) (c .rest-from .ensures) ∙
-    fields-are 3 (a .args .s .now) (a .pre .typed)
+    text-fields 3 (a .args .s .now) (a .pre .typed)
     (bits-first (4 ∷ 1 ∷ []) (b .byte-at .result) (b .byte-at .ensures)
     (word-first (c .before .before .before .before .word-at .ensures) (omega arith)
     (byte-first (c .before .before .before .byte-at2 .ensures) (omega arith)
     (byte-first (c .before .before .byte-at3 .ensures) (omega arith)
     (word-first (c .before .word-at2 .ensures) (omega arith) no-more)))))
-    text refl
+    (c .rest-from .ensures) refl
 
 pub read-data-fields-spec : {M : Type 1} → statement M
 read-data-fields-spec =

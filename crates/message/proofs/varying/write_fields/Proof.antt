@@ -1,13 +1,12 @@
-use mathlib.Core.Path.{refl, ap, _∙_}
+use mathlib.Core.Path.{refl}
 use mathlib.Core.List.{[], _∷_}
 use native.Mathlib.Omega.{arith}
 use borrow.Author.Needs.{needs}
 use Rattle.rules.specs.Messages.Layout.{sizeOf, fieldsIn}
-use Rattle.rules.specs.Messages.Forms.{forms, formOf, text}
-use Rattle.rules.specs.Messages.Codec.{behindHead, setIn, parametersIn, textIn}
-use Rattle.message.specs.Found.{heldIn, withText}
+use Rattle.rules.specs.Messages.Forms.{forms, formOf}
+use Rattle.message.specs.Found.{heldIn}
 use Rattle.message.proofs.Heads.{no-more, flags-first, byte-first}
-use Rattle.message.proofs.Reading.{fields-are}
+use Rattle.message.proofs.Reading.{text-fields}
 use Rattle.message.proofs.varying.write_fields.Statement.{statement}
 use Rattle.message.proofs.varying.write_fields.Tie as tie
 
@@ -51,16 +50,15 @@ cast-t31 : tie.Need-cast-t31
 cast-t31 c = search needs
 
 returns : tie.Need-returns
-unfolding heldIn formOf forms sizeOf fieldsIn behindHead setIn parametersIn textIn
+unfolding heldIn formOf forms sizeOf fieldsIn
 returns c =
     let b = c .before .before .before in
     let a = b .before .before in
-    ap (withText 7 _ []) (c .rest-from .ensures) ∙
-    fields-are 7 (a .args .s .now) (a .pre .typed)
+    text-fields 7 (a .args .s .now) (a .pre .typed)
     (flags-first 2 (2 ∷ 1 ∷ 1 ∷ 1 ∷ 1 ∷ 2 ∷ 2 ∷ 1 ∷ 1 ∷ []) (b .word-at .result) (b .word-at .ensures)
     (byte-first (c .before .before .byte-at .ensures) (omega arith)
     (byte-first (c .before .byte-at2 .ensures) (omega arith) no-more)))
-    text refl
+    (c .rest-from .ensures) refl
 
 pub write-fields-spec : {M : Type 1} → statement M
 write-fields-spec =
