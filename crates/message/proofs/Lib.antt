@@ -5,3 +5,4 @@ pub mod Reading
 pub mod Walk
 pub mod Shapes
 pub mod SetAndText
+pub mod Types

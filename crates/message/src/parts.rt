@@ -21,7 +21,7 @@ pub fn rest_from(s: &[u8], at: u16) -> Part
 }
 
 // The bytes of a part; what would lie past the end is left out.
-pub fn part(s: &[u8], p: Part) -> &[u8]
+pub fn bytes_of(s: &[u8], p: Part) -> &[u8]
     ensures { λ r. ⌜ now r ≡ partOf (now (s .entry)) p ⌝ }
 {
     let start = p.start as usize;

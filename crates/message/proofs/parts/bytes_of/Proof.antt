@@ -6,8 +6,8 @@ use borrow.Author.Needs.{needs}
 use lib.ListN.{length, take, drop}
 use Rattle.message.specs.Found.{partOf}
 use Rattle.message.proofs.Pieces.{none-behind, all-behind}
-use Rattle.message.proofs.parts.part.Statement.{statement}
-use Rattle.message.proofs.parts.part.Tie as tie
+use Rattle.message.proofs.parts.bytes_of.Statement.{statement}
+use Rattle.message.proofs.parts.bytes_of.Tie as tie
 
 cast-start : tie.Need-cast-start
 cast-start c = search needs
@@ -59,8 +59,8 @@ returns-3 c =
     let a = c .before .before .before .before .before .args in
     ap (λ n. take n (drop (a .p .start) (a .s .now))) (add-sub-cancel-left (a .p .start) (a .p .len))
 
-pub part-spec : {M : Type 1} → statement M
-part-spec =
+pub bytes-of-spec : {M : Type 1} → statement M
+bytes-of-spec =
     tie.close
     (tie.spec
     cast-start
