@@ -2,13 +2,15 @@
 ghost use mathlib.Core.Path.{_≡_};
 ghost use Rattle.rules.specs.Messages.Codec as codec;
 ghost use Rattle.message.specs.Found.{asHeld, foundIn};
+
 mod bytes;
-mod parts;
-mod lists;
 mod fixed;
-mod varying;
 mod listed;
+mod lists;
+mod parts;
 mod start_read;
+mod varying;
+
 pub use crate::lists::parameter_at;
 pub use crate::parts::bytes_of;
 
@@ -79,19 +81,41 @@ pub enum Message {
     Initiate(InitiateFields),
     StartRead(StartReadFields),
     ReadData(ReadDataFields),
-    OutOfBand { discard: u8, character: u8 },
-    Unread { condition: u8 },
+    OutOfBand {
+        discard: u8,
+        character: u8,
+    },
+    Unread {
+        condition: u8,
+    },
     ClearInput,
     Write(WriteFields),
-    WriteCompletion { lost: u8, horizontal: u16, vertical: u16 },
-    DiscardState { kept: u8 },
-    ReadCharacteristics { parameters: Part },
-    Characteristics { parameters: Part },
+    WriteCompletion {
+        lost: u8,
+        horizontal: u16,
+        vertical: u16,
+    },
+    DiscardState {
+        kept: u8,
+    },
+    ReadCharacteristics {
+        parameters: Part,
+    },
+    Characteristics {
+        parameters: Part,
+    },
     CheckInput,
-    InputCount { count: u16 },
-    InputState { nonzero: u8 },
+    InputCount {
+        count: u16,
+    },
+    InputState {
+        nonzero: u8,
+    },
     // a message of another type, which can be held and is never written
-    Other { kind: u8, body: Part },
+    Other {
+        kind: u8,
+        body: Part,
+    },
 }
 
 // What reading finds: a message, or the number of a refusal.

@@ -83,9 +83,7 @@ fn less(a: u16, b: u16) -> u16
 }
 
 fn start_read_test(f: StartReadFields) -> bool
-    ensures {
-        λ r. ⌜ ((s : List ℕ) → length (partOf s (f .text)) ≡ f .text .len → r ≡ soundStartRead inputSize (startReadIn s f)) ⌝
-    }
+    ensures { λ r. ⌜ ((s : List ℕ) → length (partOf s (f .text)) ≡ f .text .len → r ≡ soundStartRead inputSize (startReadIn s f)) ⌝ }
 {
     let text = f.text;
     let largest = f.max_length as usize;
