@@ -1,9 +1,9 @@
 -- Numbers in a slice, a byte at a time.
 use mathlib.Core.Path.{_≡_, refl, sym, ap, ap₂, _∙_}
-use Prim.Native.Nat.{ℕ, zero, suc, _+_, _*_}
+use Prim.Native.Nat.{ℕ, suc, _+_, _*_}
 use native.Mathlib.Nat.{add-zero}
-use mathlib.Core.List.{List, []}
-use lib.ListN.{drop, getD, replicate}
+use mathlib.Core.List.{List}
+use lib.ListN.{drop, replicate}
 use lib.Seq.{getD-drop, drop-drop}
 use native.Mathlib.Omega.{arith}
 use Rattle.rules.specs.Messages.Layout.{byteAt, numberOf, numberAt}

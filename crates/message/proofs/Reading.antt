@@ -1,16 +1,16 @@
 -- Reading as one type: each test that fails refuses, and a message that passes them all is its fields.
-use mathlib.Core.Path.{_≡_, refl, sym, ap, ap₂, _∙_}
-use Prim.Native.Nat.{ℕ, _+_, _-_, _≤_, _<_}
+use mathlib.Core.Path.{_≡_, refl, sym, ap, _∙_}
+use Prim.Native.Nat.{ℕ, _+_, _≤_, _<_}
 use native.Mathlib.Omega.{arith}
 use mathlib.Core.Bool.{Bool, true, false, not, _&&_, _||_, false≢true}
 use mathlib.Core.List.{List, [], _∷_, map}
 use lib.Dec.{eqb, leb}
-use lib.ListN.{length, drop, drop-of-length-le, length-drop}
+use lib.ListN.{length, drop-of-length-le, length-drop}
 use borrow.Author.Tests.{le-leb, lt-leb, leb-true, leb-false}
 use Rattle.rules.specs.Choice.{pick, isEmpty}
-use Rattle.rules.specs.Messages.Layout.{byteAt, sizeOf, readGroups}
+use Rattle.rules.specs.Messages.Layout.{byteAt, sizeOf}
 use Rattle.rules.specs.Messages.Parameters.{Shape, cleaned, cut}
-use Rattle.rules.specs.Messages.Forms.{Message, Tail, nothing, text, list, Form, formOf, plain, startRead, readData, write}
+use Rattle.rules.specs.Messages.Forms.{Message, Tail, nothing, text, list, formOf, startRead, readData, write}
 use Rattle.rules.specs.Messages.Codec.{Held, message, sound, refused, definedFields, soundAs, fieldsAs, wholeTail, behindHead, setIn, parametersIn, textIn}
 use Rattle.rules.proofs.Tests.{both, pick-true, pick-false}
 use Rattle.message.specs.declared.Part.{Part}

@@ -1,18 +1,17 @@
 -- Start Read: its fields, made of what the code reads, and its tail.
 use mathlib.Core.Path.{_≡_, refl, sym, ap, ap₂, _∙_}
 use Prim.Native.Nat.{ℕ, _+_, _-_}
-use native.Mathlib.Omega.{arith}
 use mathlib.Core.Bool.{_&&_}
 use mathlib.Core.List.{List, [], _∷_, _++_}
 use lib.Dec.{leb, ltb}
 use lib.ListN.{length, take, drop, length-drop}
 use lib.Seq.{drop-drop}
-use Rattle.rules.specs.Messages.Layout.{Group, word, byteAt, sizeOf, numberAt}
-use Rattle.rules.specs.Messages.Forms.{Message, setAndText, forms, formOf}
+use Rattle.rules.specs.Messages.Layout.{word, byteAt, sizeOf, numberAt}
+use Rattle.rules.specs.Messages.Forms.{setAndText, forms, formOf}
 use Rattle.rules.specs.Messages.Codec.{behindHead, wholeTail, setIn, parametersIn, textIn}
 use Rattle.message.specs.declared.Part.{Part}
 use Rattle.message.specs.declared.StartReadFields.{StartReadFields}
-use Rattle.message.specs.Found.{RestFrom, FlagsAre, StartReadIs, partOf, startReadIn}
+use Rattle.message.specs.Found.{RestFrom, FlagsAre, StartReadIs, partOf, flagWidths, startReadIn}
 use Rattle.message.proofs.Numbers.{byte-behind}
 use Rattle.message.proofs.Heads.{Head, flags-first}
 use Rattle.message.proofs.Reading.{fields-are}
@@ -69,7 +68,7 @@ module _ (s : List ℕ) {count : ℕ} (counted : count ≡ byteAt s 16) where
         StartReadIs s (withNumbers max end time prompt display low f)
     unfolding startReadIn partOf formOf forms sizeOf behindHead setIn parametersIn textIn
     start-read-is k {f} are {max} {end} {time} {prompt} {display} {low} words =
-        let flags = flags-first 3 (2 ∷ 1 ∷ 1 ∷ 1 ∷ 1 ∷ 2 ∷ 3 ∷ 1 ∷ 1 ∷ 1 ∷ 2 ∷ 2 ∷ []) (numberAt 3 1 s) refl words in
+        let flags = flags-first 3 flagWidths (numberAt 3 1 s) refl words in
         let set = ap (partOf s) (are .set-kept) ∙ set-behind in
         let text = ap (partOf s) (are .text-kept) ∙ text-behind in
         let size = length-drop (17 + count) s in

@@ -1,6 +1,6 @@
 -- The three kinds of parameter lists, by the type of their message.
 use mathlib.Core.Path.{_≡_, refl, sym, ap, ap₂, _∙_, subst}
-use Prim.Native.Nat.{ℕ, zero, suc, _+_, _*_, _%_, _<_, _≤_}
+use Prim.Native.Nat.{ℕ, zero, _+_, _*_, _%_, _<_, _≤_}
 use native.Mathlib.Omega.{arith}
 use mathlib.Core.Bool.{Bool, true, false, _&&_}
 use mathlib.Core.List.{List, [], _∷_, map}
@@ -15,13 +15,15 @@ use Rattle.rules.specs.Messages.Parameters.{valueLimits, limitsOf, sizeOf, soun
 use Rattle.rules.proofs.Tests.{pick-true, pick-false, pick-case, all-at}
 use Rattle.rules.proofs.ParameterLists.{Cleanable, positive, initiation-cleanable, question-cleanable, setting-cleanable}
 use Rattle.message.specs.declared.lists.Limits.{Limits}
-use Rattle.message.specs.Lists.{LimitsAre, ParameterIs, shapeOf, parameterAt, soundFrom, parametersFrom}
+use Rattle.message.specs.declared.Part.{Part}
+use Rattle.message.specs.Found.{partOf, parametersOf}
+use Rattle.message.specs.Lists.{LimitsAre, ParameterIs, shapeOf, parameterAt, soundFrom, parametersFrom, usedAt}
 use Rattle.message.proofs.Numbers.{byte-behind, number-two}
 use Rattle.message.proofs.Walk.{limits-here, size-least, used-here, selected-here, cut-here, cut-end}
 
 -- The limits, as the code has them.
 abbrev pub limitsIn : List ℕ → Limits
-limitsIn ls = record { count = length ls; first = getD ls 0 1; second = getD ls 1 1; third = getD ls 2 1 }
+limitsIn ls = (length ls, getD ls 0 1, getD ls 1 1, getD ls 2 1)
 
 pub limits-are : (ls : List ℕ) {ls′ : List ℕ} → ls′ ≡ ls → LimitsAre ls′ (limitsIn ls)
 limits-are ls e = rw e (record { counted = refl; one = refl; two = refl; three = refl })
@@ -82,10 +84,7 @@ module _ (kind at : ℕ) (s : List ℕ) where
   abbrev rest : List ℕ
   rest = drop at s
 
-  abbrev here : List ℕ
-  here = cleaned (shapeOf kind) (parameterAt kind at s)
-
-  -- What the code finds at a place.
+  -- Limits and tests, by the first bytes.
   pub limits-by : {shape : Shape} → shapeOf kind ≡ shape → {ls : List ℕ} → ls ≡ shape .limits (byteAt s at) (byteAt s (at + 1)) →
       {l : Limits} → LimitsAre ls l → LimitsAre (limitsOf (shapeOf kind) rest) l
   limits-by e {ls} p {l} h = subst (λ ls′. LimitsAre ls′ l) (p ∙ sym (ap (λ sh. limitsOf sh rest) e ∙ limits-here _ at s)) h
@@ -123,7 +122,7 @@ module _ (kind at : ℕ) (s : List ℕ) where
       clean : Cleanable (shapeOf kind)
       clean = each-shape Cleanable kind initiation-cleanable question-cleanable setting-cleanable
 
-  pub size-by : {l : Limits} → LimitsAre (limitsOf (shapeOf kind) rest) l → 2 + l .count ≡ sizeOf (shapeOf kind) rest
+  pub size-by : {l : Limits} → LimitsAre (limitsOf (shapeOf kind) rest) l → 2 + l .0 ≡ sizeOf (shapeOf kind) rest
   unfolding sizeOf
   size-by h = ap (λ n. 2 + n) (h .counted)
 
@@ -145,7 +144,7 @@ module _ (kind at : ℕ) (s : List ℕ) where
   unfolding soundFrom all
   sound-end h = ap (all (soundParameter (shapeOf kind))) (cut-end (shapeOf kind) at s h)
 
-  pub parameters-step : at < length s → parametersFrom kind at s ≡ here ∷ parametersFrom kind (at + sizeOf (shapeOf kind) rest) s
+  pub parameters-step : at < length s → parametersFrom kind at s ≡ usedAt kind at s ∷ parametersFrom kind (at + sizeOf (shapeOf kind) rest) s
   unfolding parametersFrom parameterAt
   parameters-step h = ap (map (cleaned (shapeOf kind))) (cut-here (shapeOf kind) at s h)
 
@@ -153,17 +152,17 @@ module _ (kind at : ℕ) (s : List ℕ) where
   unfolding parametersFrom
   parameters-end h = ap (map (cleaned (shapeOf kind))) (cut-end (shapeOf kind) at s h)
 
-  -- What the code returns.
+  -- What the code finds at a place.
   pub parameter-is : at < length s → {l : Limits} → LimitsAre (limitsOf (shapeOf kind) rest) l →
       {low high : ℕ} → low ≡ byteAt s at → low < 256 → high ≡ byteAt s (at + 1) → high < 256 →
-      {first second third : ℕ} → first ≡ byteAt s (at + 2) % l .first → second ≡ byteAt s (at + 3) % l .second →
-      third ≡ byteAt s (at + 4) % l .third →
-      ParameterIs kind at s (record { selector = low + 256 * high; first = first; second = second; third = third; next = at + 2 + l .count })
+      {first second third : ℕ} → first ≡ byteAt s (at + 2) % l .1 → second ≡ byteAt s (at + 3) % l .2 →
+      third ≡ byteAt s (at + 4) % l .3 →
+      ParameterIs kind at s (record { selector = low + 256 * high; first = first; second = second; third = third; next = at + 2 + l .0 })
   unfolding parameterAt
   parameter-is h {l} limits low low< high high< first second third =
       let shape = shapeOf kind in
       let size = size-by limits in
-      let next : at + 2 + l .count ≡ at + sizeOf shape rest = omega arith in
+      let next : at + 2 + l .0 ≡ at + sizeOf shape rest = omega arith in
       record {
         selected = selected-here shape at s low low< high high<;
         one = first ∙ ap (λ k. byteAt s (at + 2) % k) (limits .one) ∙ sym (used-here shape at s 0);
@@ -171,5 +170,11 @@ module _ (kind at : ℕ) (s : List ℕ) where
         three = third ∙ ap (λ k. byteAt s (at + 4) % k) (limits .three) ∙ sym (used-here shape at s 2);
         behind = next;
         further = omega arith;
-        list = parameters-step h ∙ ap (λ n. here ∷ parametersFrom kind n s) (sym next);
+        list = parameters-step h ∙ ap (λ n. usedAt kind at s ∷ parametersFrom kind n s) (sym next);
       }
+
+-- For callers: the parameters of a part are the list from the beginning of its bytes.
+pub list-from : {shape : Shape} (kind : ℕ) → shapeOf kind ≡ shape → (s : List ℕ) (p : Part) →
+    parametersOf shape s p ≡ parametersFrom kind 0 (partOf s p)
+unfolding parametersOf parametersFrom
+list-from kind e s p = ap (λ sh. map (cleaned sh) (cut sh zero (partOf s p))) (sym e)

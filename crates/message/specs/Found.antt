@@ -12,12 +12,8 @@ use Rattle.rules.specs.Messages.Forms.{formOf, plain}
 use Rattle.rules.specs.Messages.Codec as codec
 use Rattle.rules.specs.Messages.Codec.{Outcome, Held, soundAs, fieldsAs}
 use Rattle.message.specs.declared.Part.{Part}
-use Rattle.message.specs.declared.InitiateFields.{InitiateFields}
 use Rattle.message.specs.declared.StartReadFields.{StartReadFields}
-use Rattle.message.specs.declared.ReadDataFields.{ReadDataFields}
-use Rattle.message.specs.declared.WriteFields.{WriteFields}
 use Rattle.message.specs.declared.Message.{Message}
-use Rattle.message.specs.declared.Message.the-variants as variants
 use Rattle.message.specs.declared.Message.the-variants.{Initiate, StartRead, ReadData, OutOfBand, Unread, ClearInput, Write}
 use Rattle.message.specs.declared.Message.the-variants.{WriteCompletion, DiscardState, ReadCharacteristics, Characteristics}
 use Rattle.message.specs.declared.Message.the-variants.{CheckInput, InputCount, InputState, Other}
@@ -43,7 +39,10 @@ abbrev pub withList : ℕ → List ℕ → List (List ℕ) → Held
 withList kind numbers parameters =
     codec.message (record { kind = kind; numbers = numbers; set = []; parameters = parameters; text = [] })
 
--- Start Read: the flags, and all of it
+-- Start Read: its flags and their widths, and all of it
+abbrev pub flagWidths : List ℕ
+flagWidths = 2 ∷ 1 ∷ 1 ∷ 1 ∷ 1 ∷ 2 ∷ 3 ∷ 1 ∷ 1 ∷ 1 ∷ 2 ∷ 2 ∷ []
+
 abbrev pub flagsOf : StartReadFields → List ℕ
 flagsOf f =
     f .underflow ∷ f .clears ∷ f .formats ∷ f .vertical ∷ f .continues ∷ f .raises ∷ f .disables ∷ f .silent ∷
@@ -111,7 +110,7 @@ pub record RestFrom (at : ℕ) (s : List ℕ) (p : Part) : Type 0 where
 
 -- the flags of a Start Read, with parts that are given
 pub record FlagsAre (s : List ℕ) (set text : Part) (f : StartReadFields) : Type 0 where
-  pub flags : flagsOf f ≡ fieldsIn (2 ∷ 1 ∷ 1 ∷ 1 ∷ 1 ∷ 2 ∷ 3 ∷ 1 ∷ 1 ∷ 1 ∷ 2 ∷ 2 ∷ []) (numberAt 3 1 s)
+  pub flags : flagsOf f ≡ fieldsIn flagWidths (numberAt 3 1 s)
   pub set-kept : f .set ≡ set
   pub text-kept : f .text ≡ text
 

@@ -9,7 +9,7 @@ mod listed;
 mod lists;
 mod parts;
 mod start_read;
-mod varying;
+mod texts;
 
 pub use crate::lists::parameter_at;
 pub use crate::parts::bytes_of;
@@ -147,11 +147,11 @@ pub fn read(s: &[u8]) -> Found
     match kind {
         1 => listed::read_initiate(s),
         2 => start_read::read_start_read(s),
-        3 => varying::read_read_data(s),
+        3 => texts::read_read_data(s),
         4 => fixed::read_out_of_band(s),
         5 => fixed::read_unread(s),
         6 => fixed::read_clear_input(s),
-        7 => varying::read_write(s),
+        7 => texts::read_write(s),
         8 => fixed::read_write_completion(s),
         9 => fixed::read_discard_state(s),
         10 => listed::read_read_characteristics(s),

@@ -9,14 +9,9 @@ use crate::Parameter;
 use crate::bytes::byte_at;
 use crate::bytes::word_at;
 
-// How many bytes a parameter has behind its first two, and what the first three of them stay under. 1 stands for a byte that is
-// not there: what is cut by it is 0.
-struct Limits {
-    count: u8,
-    first: u16,
-    second: u16,
-    third: u16,
-}
+// How many bytes a parameter has behind its first two, and what each of the first three of them stays under. 1 stands for a byte
+// that is not there: what is cut by it is 0.
+struct Limits(u8, u16, u16, u16);
 
 fn defined_selector(n: u16) -> bool
     ensures { λ r. ⌜ r ≡ definedSelector n ⌝ }
@@ -40,74 +35,34 @@ fn initiation_limits(count: u8) -> Limits
     let first = whole_byte(count, 0);
     let second = whole_byte(count, 1);
     let third = whole_byte(count, 2);
-    Limits {
-        count,
-        first,
-        second,
-        third,
-    }
+    Limits(count, first, second, third)
 }
 
 fn question_limits(n: u16) -> Limits
     ensures { λ r. ⌜ LimitsAre (questionLimits n) r ⌝ }
 {
     if n == 0x0202 {
-        return Limits {
-            count: 1,
-            first: 256,
-            second: 1,
-            third: 1,
-        };
+        return Limits(1, 256, 1, 1);
     }
-    Limits {
-        count: 0,
-        first: 1,
-        second: 1,
-        third: 1,
-    }
+    Limits(0, 1, 1, 1)
 }
 
 fn setting_limits(n: u16) -> Limits
     ensures { λ r. ⌜ LimitsAre (valueLimits n) r ⌝ }
 {
     if n == 0x0202 {
-        return Limits {
-            count: 3,
-            first: 256,
-            second: 256,
-            third: 128,
-        };
+        return Limits(3, 256, 256, 128);
     }
     if n == 0x0208 {
-        return Limits {
-            count: 2,
-            first: 256,
-            second: 256,
-            third: 1,
-        };
+        return Limits(2, 256, 256, 1);
     }
     if n == 0x020A {
-        return Limits {
-            count: 1,
-            first: 16,
-            second: 1,
-            third: 1,
-        };
+        return Limits(1, 16, 1, 1);
     }
     if defined_selector(n) {
-        return Limits {
-            count: 1,
-            first: 2,
-            second: 1,
-            third: 1,
-        };
+        return Limits(1, 2, 1, 1);
     }
-    Limits {
-        count: 0,
-        first: 1,
-        second: 1,
-        third: 1,
-    }
+    Limits(0, 1, 1, 1)
 }
 
 // The limits of the parameter that begins at a place.
@@ -150,7 +105,7 @@ fn size_at(kind: u8, s: &[u8], at: usize) -> usize
     ensures { λ r. ⌜ (r ≡ sizeOf (shapeOf kind) (drop at (now (s .entry)))) × (2 ≤ r) × (r ≤ 257) ⌝ }
 {
     let l = limits_at(kind, s, at);
-    2 + l.count as usize
+    2 + l.0 as usize
 }
 
 // The parameter that begins at a place is whole and defined.
@@ -196,14 +151,14 @@ pub fn parameter_at(kind: u8, s: &[u8], at: usize) -> Parameter
     let l = limits_at(kind, s, at);
     let low = s[at] as u16;
     let high = byte_at(s, at + 1) as u16;
-    let first = used_at(s, at + 2, l.first);
-    let second = used_at(s, at + 3, l.second);
-    let third = used_at(s, at + 4, l.third);
+    let first = used_at(s, at + 2, l.1);
+    let second = used_at(s, at + 3, l.2);
+    let third = used_at(s, at + 4, l.3);
     Parameter {
         selector: low + 256 * high,
         first,
         second,
         third,
-        next: at + 2 + l.count as usize,
+        next: at + 2 + l.0 as usize,
     }
 }

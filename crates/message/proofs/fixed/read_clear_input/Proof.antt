@@ -15,7 +15,8 @@ returns-2 : tie.Need-returns-2
 unfolding foundIn heldIn formOf forms sizeOf isFree
 returns-2 c =
     let a = c .before in
-    fixed-sound 6 (a .args .s .now) refl (a .pre .typed) refl (c .if1 .left) (none-first no-more)
+    fixed-sound 6 (a .args .s .now) refl (a .pre .typed) refl (c .if1 .left)
+    (none-first no-more)
 
 pub read-clear-input-spec : {M : Type 1} → statement M
 read-clear-input-spec = tie.close (tie.spec returns returns-2)

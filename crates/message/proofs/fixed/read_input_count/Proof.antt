@@ -20,7 +20,8 @@ returns-2 : tie.Need-returns-2
 unfolding foundIn heldIn formOf forms sizeOf isFree
 returns-2 c =
     let a = c .before .before .before in
-    fixed-sound 13 (a .args .s .now) refl (a .pre .typed) refl (c .before .if1 .left) (none-first (word-first (c .word-at .ensures) (omega arith) no-more))
+    fixed-sound 13 (a .args .s .now) refl (a .pre .typed) refl (c .before .if1 .left)
+    (none-first (word-first (c .word-at .ensures) (omega arith) no-more))
 
 pub read-input-count-spec : {M : Type 1} → statement M
 read-input-count-spec = tie.close (tie.spec returns word-at-requires returns-2)

@@ -19,7 +19,8 @@ returns-2 : tie.Need-returns-2
 unfolding foundIn heldIn formOf forms sizeOf isFree
 returns-2 c =
     let a = c .before .before .before in
-    fixed-sound 14 (a .args .s .now) refl (a .pre .typed) refl (c .before .if1 .left) (bit-first (c .byte-at .ensures) no-more)
+    fixed-sound 14 (a .args .s .now) refl (a .pre .typed) refl (c .before .if1 .left)
+    (bit-first (c .byte-at .ensures) no-more)
 
 pub read-input-state-spec : {M : Type 1} → statement M
 read-input-state-spec = tie.close (tie.spec returns byte-at-requires returns-2)

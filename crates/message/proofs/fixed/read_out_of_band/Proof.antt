@@ -23,7 +23,8 @@ returns-2 : tie.Need-returns-2
 unfolding foundIn heldIn formOf forms sizeOf isFree
 returns-2 c =
     let a = c .before .before .before .before in
-    fixed-sound 4 (a .args .s .now) refl (a .pre .typed) refl (c .before .before .if1 .left) (bit-first (c .before .byte-at .ensures) (byte-first (c .byte-at2 .ensures) (omega arith) no-more))
+    fixed-sound 4 (a .args .s .now) refl (a .pre .typed) refl (c .before .before .if1 .left)
+    (bit-first (c .before .byte-at .ensures) (byte-first (c .byte-at2 .ensures) (omega arith) no-more))
 
 pub read-out-of-band-spec : {M : Type 1} → statement M
 read-out-of-band-spec = tie.close (tie.spec returns byte-at-requires byte-at-requires-2 returns-2)

@@ -43,7 +43,8 @@ returns c =
     let w = c .before .before .before .before .before in
     let b = w .before .before .before in
     let a = b .before .before in
-    start-read-is (a .args .s .now) (b .byte-at .ensures) (w .before .before .rest-from .ensures) (a .pre .typed) (w .before .start-read-flags .ensures)
+    start-read-is (a .args .s .now) (b .byte-at .ensures) (w .before .before .rest-from .ensures) (a .pre .typed)
+    (w .before .start-read-flags .ensures)
     (word-first (w .word-at .ensures) (omega arith)
     (word-first (c .before .before .before .before .word-at2 .ensures) (omega arith)
     (word-first (c .before .before .before .word-at3 .ensures) (omega arith)

@@ -7,8 +7,8 @@ use Rattle.rules.specs.Messages.Forms.{forms, formOf}
 use Rattle.message.specs.Found.{heldIn}
 use Rattle.message.proofs.Heads.{no-more, bits-first, byte-first, word-first}
 use Rattle.message.proofs.Reading.{text-fields}
-use Rattle.message.proofs.varying.read_data_fields.Statement.{statement}
-use Rattle.message.proofs.varying.read_data_fields.Tie as tie
+use Rattle.message.proofs.texts.read_data_fields.Statement.{statement}
+use Rattle.message.proofs.texts.read_data_fields.Tie as tie
 
 byte-at-requires : tie.Need-byte-at-requires
 byte-at-requires c κs = search needs

@@ -6,8 +6,8 @@ use Rattle.rules.specs.Messages.Forms.{forms, formOf}
 use Rattle.rules.specs.Messages.Codec.{definedFields, wholeTail}
 use Rattle.message.specs.Found.{heldIn, foundIn}
 use Rattle.message.proofs.Reading.{head-cut, field-undefined, defined-as, read-sound}
-use Rattle.message.proofs.varying.read_write.Statement.{statement}
-use Rattle.message.proofs.varying.read_write.Tie as tie
+use Rattle.message.proofs.texts.read_write.Statement.{statement}
+use Rattle.message.proofs.texts.read_write.Tie as tie
 
 returns : tie.Need-returns
 unfolding foundIn formOf forms sizeOf

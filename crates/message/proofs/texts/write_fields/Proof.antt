@@ -7,8 +7,8 @@ use Rattle.rules.specs.Messages.Forms.{forms, formOf}
 use Rattle.message.specs.Found.{heldIn}
 use Rattle.message.proofs.Heads.{no-more, flags-first, byte-first}
 use Rattle.message.proofs.Reading.{text-fields}
-use Rattle.message.proofs.varying.write_fields.Statement.{statement}
-use Rattle.message.proofs.varying.write_fields.Tie as tie
+use Rattle.message.proofs.texts.write_fields.Statement.{statement}
+use Rattle.message.proofs.texts.write_fields.Tie as tie
 
 word-at-requires : tie.Need-word-at-requires
 word-at-requires c κs = search needs
