@@ -1,0 +1,164 @@
+// The fourteen messages of the Network Command Terminal protocol: their fields, and reading them from bytes.
+ghost use mathlib.Core.Path.{_≡_};
+ghost use Rattle.rules.specs.Messages.Codec as codec;
+ghost use Rattle.message.specs.Found.{asHeld, foundIn};
+
+mod bytes;
+mod fixed;
+mod listed;
+mod lists;
+mod parts;
+mod start_read;
+mod texts;
+
+pub use crate::lists::parameter_at;
+pub use crate::parts::bytes_of;
+
+// A part of the lent slice.
+pub struct Part {
+    pub start: u16,
+    pub len: u16,
+}
+
+pub struct InitiateFields {
+    pub version: u8,
+    pub eco: u8,
+    pub modification: u8,
+    // eight bytes
+    pub revision: Part,
+    pub parameters: Part,
+}
+
+pub struct StartReadFields {
+    pub underflow: u8,
+    pub clears: u8,
+    pub formats: u8,
+    pub vertical: u8,
+    pub continues: u8,
+    pub raises: u8,
+    pub disables: u8,
+    pub silent: u8,
+    pub terminator_echo: u8,
+    pub timed: u8,
+    pub set_choice: u8,
+    pub escapes: u8,
+    pub max_length: u16,
+    pub end_of_data: u16,
+    pub timeout: u16,
+    pub end_of_prompt: u16,
+    pub start_of_display: u16,
+    pub low_water: u16,
+    pub set: Part,
+    pub text: Part,
+}
+
+pub struct ReadDataFields {
+    pub code: u8,
+    pub more: u8,
+    pub low_water: u16,
+    pub vertical: u8,
+    pub horizontal: u8,
+    pub terminator: u16,
+    pub text: Part,
+}
+
+pub struct WriteFields {
+    pub lock: u8,
+    pub newline: u8,
+    pub keeps_output: u8,
+    pub first: u8,
+    pub last: u8,
+    pub prefix: u8,
+    pub postfix: u8,
+    pub wants_completion: u8,
+    pub transparent: u8,
+    pub prefix_value: u8,
+    pub postfix_value: u8,
+    pub text: Part,
+}
+
+pub enum Message {
+    Initiate(InitiateFields),
+    StartRead(StartReadFields),
+    ReadData(ReadDataFields),
+    OutOfBand {
+        discard: u8,
+        character: u8,
+    },
+    Unread {
+        condition: u8,
+    },
+    ClearInput,
+    Write(WriteFields),
+    WriteCompletion {
+        lost: u8,
+        horizontal: u16,
+        vertical: u16,
+    },
+    DiscardState {
+        kept: u8,
+    },
+    ReadCharacteristics {
+        parameters: Part,
+    },
+    Characteristics {
+        parameters: Part,
+    },
+    CheckInput,
+    InputCount {
+        count: u16,
+    },
+    InputState {
+        nonzero: u8,
+    },
+    // a message of another type, which can be held and is never written
+    Other {
+        kind: u8,
+        body: Part,
+    },
+}
+
+// What reading finds: a message, or the number of a refusal.
+pub enum Found {
+    Message(Message),
+    Refused(u8),
+}
+
+// One parameter of a list: its SELECTOR, the bytes behind it (CHARACTER, MASK and ATTRIBUTES, or a VALUE; 0 where there are
+// fewer), unused bits set to 0, and where the next one begins.
+pub struct Parameter {
+    pub selector: u16,
+    pub first: u8,
+    pub second: u8,
+    pub third: u8,
+    pub next: usize,
+}
+
+// Reads a message without a line: 2, 3 or 5 in that order, else its fields.
+pub fn read(s: &[u8]) -> Found
+    ensures { λ r. ⌜ foundIn (now (s .entry)) r ≡ asHeld (codec.read (now (s .entry))) ⌝ }
+{
+    let size = s.len();
+    let fits = (1 <= size) & (size <= rules::MESSAGE);
+    if !fits {
+        return Found::Refused(2);
+    }
+    let kind = bytes::byte_at(s, 0);
+    match kind {
+        1 => listed::read_initiate(s),
+        2 => start_read::read_start_read(s),
+        3 => texts::read_read_data(s),
+        4 => fixed::read_out_of_band(s),
+        5 => fixed::read_unread(s),
+        6 => fixed::read_clear_input(s),
+        7 => texts::read_write(s),
+        8 => fixed::read_write_completion(s),
+        9 => fixed::read_discard_state(s),
+        10 => listed::read_read_characteristics(s),
+        11 => listed::read_characteristics(s),
+        12 => fixed::read_check_input(s),
+        13 => fixed::read_input_count(s),
+        14 => fixed::read_input_state(s),
+        _ => Found::Refused(3),
+    }
+}
