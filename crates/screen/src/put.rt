@@ -1,0 +1,31 @@
+// Bytes into an area; where there is no room, nothing changes.
+ghost use Rattle.screen.specs.View.{Writes};
+ghost use mathlib.Core.List.{[], _∷_};
+use crate::Screen;
+use crate::Shown;
+use crate::columns::shown;
+
+pub fn put(s: Screen, area: &mut [u8], at: usize, b: u8) -> Shown
+    ensures { λ r. ⌜ Writes (b ∷ []) (now (area .entry)) at s r (now (area .exit)) ⌝ }
+{
+    let screen = shown(s, b);
+    if at < area.len() {
+        area[at] = b;
+        return Shown { screen, at: at + 1 };
+    }
+    Shown { screen, at }
+}
+
+// The bytes of a slice, one behind the other.
+pub fn write(s: Screen, area: &mut [u8], at: usize, text: &[u8]) -> Shown
+    ensures { λ r. ⌜ Writes (now (text .entry)) (now (area .entry)) at s r (now (area .exit)) ⌝ }
+{
+    let mut done = Shown { screen: s, at };
+    let mut i = 0;
+    while i < text.len() {
+        let screen = done.screen;
+        done = put(screen, area, done.at, text[i]);
+        i += 1;
+    }
+    done
+}
