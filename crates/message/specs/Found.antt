@@ -1,0 +1,92 @@
+-- What a decoded message means: its fields, read off the slice that it was found in; a number for each refusal.
+use Prim.Native.Nat.{ℕ, _≤_}
+use mathlib.Core.Path.{_≡_}
+use mathlib.Core.List.{List, [], _∷_, _++_, map}
+use lib.ListN.{length, take, drop}
+use Rattle.rules.specs.Choice.{pick}
+use Rattle.rules.specs.Numbers.{unsound}
+use Rattle.rules.specs.Messages.Layout.{byteAt}
+use Rattle.rules.specs.Messages.Parameters.{Shape, initiation, question, setting, cleaned, cut}
+use Rattle.rules.specs.Messages.Forms as forms
+use Rattle.rules.specs.Messages.Forms.{formOf, plain}
+use Rattle.rules.specs.Messages.Codec as codec
+use Rattle.rules.specs.Messages.Codec.{Outcome, Held, soundAs, fieldsAs}
+use Rattle.message.specs.declared.Part.{Part}
+use Rattle.message.specs.declared.InitiateFields.{InitiateFields}
+use Rattle.message.specs.declared.StartReadFields.{StartReadFields}
+use Rattle.message.specs.declared.ReadDataFields.{ReadDataFields}
+use Rattle.message.specs.declared.WriteFields.{WriteFields}
+use Rattle.message.specs.declared.Message.{Message}
+use Rattle.message.specs.declared.Message.the-variants as variants
+use Rattle.message.specs.declared.Message.the-variants.{Initiate, StartRead, ReadData, OutOfBand, Unread, ClearInput, Write}
+use Rattle.message.specs.declared.Message.the-variants.{WriteCompletion, DiscardState, ReadCharacteristics, Characteristics}
+use Rattle.message.specs.declared.Message.the-variants.{CheckInput, InputCount, InputState, Other}
+use Rattle.message.specs.declared.Found.{Found}
+use Rattle.message.specs.declared.Found.the-variants as found
+
+-- the bytes of a part
+unfoldable pub partOf : List ℕ → Part → List ℕ
+partOf s p = take (p .len) (drop (p .start) s)
+
+-- the parameters in a part
+unfoldable pub parametersOf : Shape → List ℕ → Part → List (List ℕ)
+parametersOf shape s p = map (cleaned shape) (cut shape 0 (partOf s p))
+
+abbrev pub bare : ℕ → List ℕ → Held
+bare kind numbers = codec.message (plain kind numbers)
+
+abbrev pub withText : ℕ → List ℕ → List ℕ → List ℕ → Held
+withText kind numbers set text =
+    codec.message (record { kind = kind; numbers = numbers; set = set; parameters = []; text = text })
+
+abbrev pub withList : ℕ → List ℕ → List (List ℕ) → Held
+withList kind numbers parameters =
+    codec.message (record { kind = kind; numbers = numbers; set = []; parameters = parameters; text = [] })
+
+-- the fields of each case
+unfoldable pub heldIn : List ℕ → Message → Held
+heldIn s (Initiate f) =
+    withList forms.initiate (f .version ∷ f .eco ∷ f .modification ∷ partOf s (f .revision)) (parametersOf initiation s (f .parameters))
+heldIn s (StartRead f) =
+    withText forms.startRead
+    (f .underflow ∷ f .clears ∷ f .formats ∷ f .vertical ∷ f .continues ∷ f .raises ∷ f .disables ∷ f .silent ∷
+    f .«terminator_echo» ∷ f .timed ∷ f .«set_choice» ∷ f .escapes ∷
+    f .«max_length» ∷ f .«end_of_data» ∷ f .timeout ∷ f .«end_of_prompt» ∷ f .«start_of_display» ∷ f .«low_water» ∷ [])
+    (partOf s (f .set)) (partOf s (f .text))
+heldIn s (ReadData f) =
+    withText forms.readData
+    (f .code ∷ f .more ∷ f .«low_water» ∷ f .vertical ∷ f .horizontal ∷ f .terminator ∷ []) [] (partOf s (f .text))
+heldIn s (OutOfBand discard character) = bare forms.outOfBand (discard ∷ character ∷ [])
+heldIn s (Unread condition) = bare forms.unread (condition ∷ [])
+heldIn s ClearInput = bare forms.clearInput []
+heldIn s (Write f) =
+    withText forms.write
+    (f .lock ∷ f .newline ∷ f .«keeps_output» ∷ f .first ∷ f .last ∷ f .prefix ∷ f .postfix ∷ f .«wants_completion» ∷
+    f .transparent ∷ f .«prefix_value» ∷ f .«postfix_value» ∷ []) [] (partOf s (f .text))
+heldIn s (WriteCompletion lost horizontal vertical) = bare forms.writeCompletion (lost ∷ horizontal ∷ vertical ∷ [])
+heldIn s (DiscardState kept) = bare forms.discardState (kept ∷ [])
+heldIn s (ReadCharacteristics p) = withList forms.readCharacteristics [] (parametersOf question s p)
+heldIn s (Characteristics p) = withList forms.characteristics [] (parametersOf setting s p)
+heldIn s CheckInput = bare forms.checkInput []
+heldIn s (InputCount count) = bare forms.inputCount (count ∷ [])
+heldIn s (InputState nonzero) = bare forms.inputState (nonzero ∷ [])
+heldIn s (Other kind body) = codec.other kind (partOf s body)
+
+unfoldable pub asHeld : Outcome (forms.Message ℕ) → Outcome Held
+asHeld (codec.refused n) = codec.refused n
+asHeld (codec.sound m) = codec.sound (codec.message m)
+
+-- what was found, or its number
+unfoldable pub foundIn : List ℕ → Found → Outcome Held
+foundIn s (found.Message m) = codec.sound (heldIn s m)
+foundIn s (found.Refused n) = codec.refused n
+
+-- reading as one type
+unfoldable pub readAs : ℕ → List ℕ → Outcome Held
+readAs kind s =
+    asHeld (pick (soundAs (formOf kind) s) (codec.sound (fieldsAs (formOf kind) s)) (codec.refused unsound))
+
+-- what a reader of one type is handed: a message of that type that is not too long
+pub record IsType (kind : ℕ) (s : List ℕ) : Type 0 where
+  pub typed : byteAt s 0 ≡ kind
+  pub short : length s ≤ 256

@@ -1,0 +1,47 @@
+-- Parameter lists in a slice. `kind` is the type of the message that the list stands in.
+use mathlib.Core.Path.{_≡_}
+use Prim.Native.Nat.{ℕ, zero, _+_, _<_}
+use mathlib.Core.Bool.{Bool}
+use mathlib.Core.List.{List, _∷_, map}
+use lib.Dec.{eqb}
+use lib.ListN.{length, getD, take, drop}
+use Rattle.rules.specs.Choice.{pick, all}
+use Rattle.rules.specs.Messages.Layout.{byteAt}
+use Rattle.rules.specs.Messages.Parameters.{Shape, initiation, question, setting, selector, sizeOf, soundParameter, cleaned, cut}
+use Rattle.rules.specs.Messages.Forms as forms
+use Rattle.message.specs.declared.Parameter.{Parameter}
+use Rattle.message.specs.declared.lists.Limits.{Limits}
+
+-- the kind of list that a type of message has
+unfoldable pub shapeOf : ℕ → Shape
+shapeOf kind = pick (eqb kind forms.initiate) initiation (pick (eqb kind forms.readCharacteristics) question setting)
+
+-- the parameter that begins at a place, or what is there of it
+unfoldable pub parameterAt : ℕ → ℕ → List ℕ → List ℕ
+parameterAt kind at s = take (sizeOf (shapeOf kind) (drop at s)) (drop at s)
+
+-- every parameter from a place on is whole and defined
+unfoldable pub soundFrom : ℕ → ℕ → List ℕ → Bool
+soundFrom kind at s = all (soundParameter (shapeOf kind)) (cut (shapeOf kind) zero (drop at s))
+
+-- the parameters from a place on, unused bits set to 0
+unfoldable pub parametersFrom : ℕ → ℕ → List ℕ → List (List ℕ)
+parametersFrom kind at s = map (cleaned (shapeOf kind)) (cut (shapeOf kind) zero (drop at s))
+
+-- how many limits these are, and the first three; 1, under which only 0 is, for one that is not there
+pub record LimitsAre (ls : List ℕ) (l : Limits) : Type 0 where
+  pub counted : l .count ≡ length ls
+  pub one : l .first ≡ getD ls 0 1
+  pub two : l .second ≡ getD ls 1 1
+  pub three : l .third ≡ getD ls 2 1
+
+-- one parameter of a list: its selector, the three bytes behind it that a line looks at, and where the next one begins
+pub record ParameterIs (kind at : ℕ) (s : List ℕ) (p : Parameter) : Type 0 where
+  pub selected : p .selector ≡ selector (cleaned (shapeOf kind) (parameterAt kind at s))
+  pub one : p .first ≡ byteAt (cleaned (shapeOf kind) (parameterAt kind at s)) 2
+  pub two : p .second ≡ byteAt (cleaned (shapeOf kind) (parameterAt kind at s)) 3
+  pub three : p .third ≡ byteAt (cleaned (shapeOf kind) (parameterAt kind at s)) 4
+  pub behind : p .next ≡ at + sizeOf (shapeOf kind) (drop at s)
+  pub further : at < p .next
+  -- the list from here on is this parameter and the list from the next one on
+  pub list : parametersFrom kind at s ≡ cleaned (shapeOf kind) (parameterAt kind at s) ∷ parametersFrom kind (p .next) s

@@ -1,0 +1,31 @@
+// Bytes and numbers in a slice, total: past its end stands 0.
+ghost use mathlib.Core.Path.{_≡_};
+ghost use Prim.Native.Nat.{_+_, _<_, _^_};
+ghost use Rattle.rules.specs.Messages.Layout.{byteAt, numberAt};
+
+pub fn byte_at(s: &[u8], at: usize) -> u8
+    ensures { λ r. ⌜ r ≡ byteAt (now (s .entry)) at ⌝ }
+{
+    if at < s.len() { s[at] } else { 0 }
+}
+
+// Two bytes, low byte first.
+pub fn word_at(s: &[u8], at: usize) -> u16
+    requires { ⌜ at + 1 < 2 ^ 64 ⌝ }
+    ensures { λ r. ⌜ r ≡ numberAt 2 at (now (s .entry)) ⌝ }
+{
+    let low = byte_at(s, at) as u16;
+    let high = byte_at(s, at + 1) as u16;
+    low + 256 * high
+}
+
+// Three bytes, low byte first.
+pub fn three_at(s: &[u8], at: usize) -> u32
+    requires { ⌜ at + 2 < 2 ^ 64 ⌝ }
+    ensures { λ r. ⌜ r ≡ numberAt 3 at (now (s .entry)) ⌝ }
+{
+    let low = byte_at(s, at) as u32;
+    let middle = byte_at(s, at + 1) as u32;
+    let high = byte_at(s, at + 2) as u32;
+    low + 256 * (middle + 256 * high)
+}

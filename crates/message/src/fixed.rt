@@ -1,0 +1,103 @@
+// Messages of a fixed length.
+ghost use mathlib.Core.Path.{_≡_};
+ghost use Rattle.message.specs.Found.{IsType, foundIn, readAs};
+use crate::Found;
+use crate::Message;
+use crate::bytes::byte_at;
+use crate::bytes::word_at;
+
+pub fn read_out_of_band(s: &[u8]) -> Found
+    requires { ⌜ IsType 4 (now s) ⌝ }
+    ensures { λ r. ⌜ foundIn (now (s .entry)) r ≡ readAs 4 (now (s .entry)) ⌝ }
+{
+    if s.len() != 3 {
+        return Found::Refused(5);
+    }
+    let flags = byte_at(s, 1);
+    let character = byte_at(s, 2);
+    Found::Message(Message::OutOfBand {
+        discard: flags % 2,
+        character,
+    })
+}
+
+pub fn read_unread(s: &[u8]) -> Found
+    requires { ⌜ IsType 5 (now s) ⌝ }
+    ensures { λ r. ⌜ foundIn (now (s .entry)) r ≡ readAs 5 (now (s .entry)) ⌝ }
+{
+    if s.len() != 2 {
+        return Found::Refused(5);
+    }
+    let flags = byte_at(s, 1);
+    Found::Message(Message::Unread { condition: flags % 2 })
+}
+
+pub fn read_clear_input(s: &[u8]) -> Found
+    requires { ⌜ IsType 6 (now s) ⌝ }
+    ensures { λ r. ⌜ foundIn (now (s .entry)) r ≡ readAs 6 (now (s .entry)) ⌝ }
+{
+    if s.len() != 2 {
+        return Found::Refused(5);
+    }
+    Found::Message(Message::ClearInput)
+}
+
+pub fn read_write_completion(s: &[u8]) -> Found
+    requires { ⌜ IsType 8 (now s) ⌝ }
+    ensures { λ r. ⌜ foundIn (now (s .entry)) r ≡ readAs 8 (now (s .entry)) ⌝ }
+{
+    if s.len() != 6 {
+        return Found::Refused(5);
+    }
+    let flags = byte_at(s, 1);
+    let horizontal = word_at(s, 2);
+    let vertical = word_at(s, 4);
+    Found::Message(Message::WriteCompletion {
+        lost: flags % 2,
+        horizontal,
+        vertical,
+    })
+}
+
+pub fn read_discard_state(s: &[u8]) -> Found
+    requires { ⌜ IsType 9 (now s) ⌝ }
+    ensures { λ r. ⌜ foundIn (now (s .entry)) r ≡ readAs 9 (now (s .entry)) ⌝ }
+{
+    if s.len() != 2 {
+        return Found::Refused(5);
+    }
+    let flags = byte_at(s, 1);
+    Found::Message(Message::DiscardState { kept: flags % 2 })
+}
+
+pub fn read_check_input(s: &[u8]) -> Found
+    requires { ⌜ IsType 12 (now s) ⌝ }
+    ensures { λ r. ⌜ foundIn (now (s .entry)) r ≡ readAs 12 (now (s .entry)) ⌝ }
+{
+    if s.len() != 2 {
+        return Found::Refused(5);
+    }
+    Found::Message(Message::CheckInput)
+}
+
+pub fn read_input_count(s: &[u8]) -> Found
+    requires { ⌜ IsType 13 (now s) ⌝ }
+    ensures { λ r. ⌜ foundIn (now (s .entry)) r ≡ readAs 13 (now (s .entry)) ⌝ }
+{
+    if s.len() != 4 {
+        return Found::Refused(5);
+    }
+    let count = word_at(s, 2);
+    Found::Message(Message::InputCount { count })
+}
+
+pub fn read_input_state(s: &[u8]) -> Found
+    requires { ⌜ IsType 14 (now s) ⌝ }
+    ensures { λ r. ⌜ foundIn (now (s .entry)) r ≡ readAs 14 (now (s .entry)) ⌝ }
+{
+    if s.len() != 2 {
+        return Found::Refused(5);
+    }
+    let flags = byte_at(s, 1);
+    Found::Message(Message::InputState { nonzero: flags % 2 })
+}
