@@ -1,9 +1,14 @@
 // Columns and lines.
 ghost use mathlib.Core.Path.{_≡_};
-ghost use mathlib.Core.List.{[], _∷_};
+ghost use Prim.Native.Nat.{_+_, _-_, _%_, min};
+ghost use lib.Dec.{eqb};
+ghost use Rattle.rules.specs.Choice.{pick};
+ghost use Rattle.rules.specs.Numbers.{topColumn};
 ghost use Rattle.rules.specs.Screen as rules;
 ghost use Rattle.screen.specs.View.{view};
 use crate::Screen;
+
+const TOP_COLUMN: u32 = 999;
 
 // A mark or a space: what takes a column.
 pub fn is_mark(b: u8) -> bool
@@ -20,12 +25,14 @@ pub fn to_tab(column: u16) -> u16
 }
 
 // A column so much further, up to the top.
-pub fn further(column: u16, by: u16) -> u16 {
-    if by <= 999 {
-        if column <= 999 - by { column + by } else { 999 }
-    } else {
-        999
+pub fn further(column: u16, by: u16) -> u16
+    ensures { λ r. ⌜ r ≡ min topColumn (column + by) ⌝ }
+{
+    let sum = column as u32 + by as u32;
+    if sum < TOP_COLUMN {
+        return sum as u16;
     }
+    TOP_COLUMN as u16
 }
 
 pub fn column_after(column: u16, b: u8) -> u16
@@ -34,27 +41,42 @@ pub fn column_after(column: u16, b: u8) -> u16
     if is_mark(b) {
         return further(column, 1);
     }
-    match b {
-        13 => 0,
-        8 => if 0 < column { column - 1 } else { 0 },
-        9 => further(column, to_tab(column)),
-        _ => column,
+    if b == 13 {
+        return 0;
     }
+    if b == 8 {
+        return column_before(column);
+    }
+    if b == 9 {
+        return further(column, to_tab(column));
+    }
+    column
+}
+
+// One column back, not below 0.
+fn column_before(column: u16) -> u16
+    ensures { λ r. ⌜ r ≡ column - 1 ⌝ }
+{
+    if 0 < column { column - 1 } else { 0 }
+}
+
+// Lines count modulo 256.
+fn line_after(line: u8, b: u8) -> u8
+    ensures { λ r. ⌜ r ≡ pick (eqb b rules.LF) ((line + 1) % 256) line ⌝ }
+{
+    if b == 10 {
+        return ((line as u16 + 1) % 256) as u8;
+    }
+    line
 }
 
 // The screen after a byte.
 pub fn shown(s: Screen, b: u8) -> Screen
     ensures { λ r. ⌜ view r ≡ rules.shown (view s) b ⌝ }
 {
-    let line = s.line;
     Screen {
         column: column_after(s.column, b),
-        line: if b == 10 { next_line(line) } else { line },
+        line: line_after(s.line, b),
         after_cr: b == 13,
     }
-}
-
-// Lines count modulo 256.
-fn next_line(line: u8) -> u8 {
-    if line < 255 { line + 1 } else { 0 }
 }

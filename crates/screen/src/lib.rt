@@ -1,8 +1,8 @@
 // What the terminal gets: bytes into its area, and where the cursor stands then.
 mod columns;
-mod echo;
-mod put;
-mod rub;
+pub mod put;
+pub mod echo;
+pub mod rub;
 
 pub struct Screen {
     pub column: u16,

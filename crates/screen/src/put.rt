@@ -1,6 +1,7 @@
 // Bytes into an area; where there is no room, nothing changes.
-ghost use Rattle.screen.specs.View.{Writes};
+ghost use lib.ListN.{replicate};
 ghost use mathlib.Core.List.{[], _∷_};
+ghost use Rattle.screen.specs.View.{Writes};
 use crate::Screen;
 use crate::Shown;
 use crate::columns::shown;
@@ -25,6 +26,29 @@ pub fn write(s: Screen, area: &mut [u8], at: usize, text: &[u8]) -> Shown
     while i < text.len() {
         let screen = done.screen;
         done = put(screen, area, done.at, text[i]);
+        i += 1;
+    }
+    done
+}
+
+// Two bytes.
+pub fn pair(s: Screen, area: &mut [u8], at: usize, first: u8, second: u8) -> Shown
+    ensures { λ r. ⌜ Writes (first ∷ second ∷ []) (now (area .entry)) at s r (now (area .exit)) ⌝ }
+{
+    let half = put(s, area, at, first);
+    let screen = half.screen;
+    put(screen, area, half.at, second)
+}
+
+// One byte so many times.
+pub fn repeat(s: Screen, area: &mut [u8], at: usize, times: u16, b: u8) -> Shown
+    ensures { λ r. ⌜ Writes (replicate times b) (now (area .entry)) at s r (now (area .exit)) ⌝ }
+{
+    let mut done = Shown { screen: s, at };
+    let mut i = 0;
+    while i < times {
+        let screen = done.screen;
+        done = put(screen, area, done.at, b);
         i += 1;
     }
     done

@@ -1,0 +1,4 @@
+pub mod View
+pub mod Bounded
+pub mod With
+pub mod Promise
