@@ -1,2 +1,3 @@
 -- Laws of the line.
 pub mod Works
+pub mod Keys

@@ -1,4 +1,5 @@
 pub mod View
 pub mod Bounded
 pub mod With
+pub mod TypedParts
 pub mod Promise

@@ -1,94 +1,98 @@
 // One line of the console end: its state by value, and the four calls on it.
 use screen::Screen;
 mod shows;
+mod arrival;
+mod editing;
+mod ending;
+mod waiting;
 
 // The four characteristics that are switches.
-pub struct Switches {
-    pub raising: bool,
-    pub echoing: bool,
-    pub recognising: bool,
-    pub prompting: bool,
+struct Switches {
+    raising: bool,
+    echoing: bool,
+    recognising: bool,
+    prompting: bool,
 }
 
 // A termination set: its first bytes.
-pub struct Set {
-    pub bytes: [u8; 32],
-    pub len: u8,
+struct Set {
+    bytes: [u8; 32],
+    len: u8,
 }
 
 // What the host has set.
-pub struct Host {
+struct Host {
     // Initiate was accepted
-    pub begun: bool,
-    pub switches: Switches,
-    pub attributes: [u8; 256],
+    begun: bool,
+    switches: Switches,
+    attributes: [u8; 256],
     // the last set given with ZZ 1
-    pub last_set: Set,
+    last_set: Set,
 }
 
 // What is known of the terminal.
-pub struct Terminal {
-    pub screen: Screen,
-    pub discarding: bool,
-    pub quoting: bool,
-    pub dropped: u16,
+struct Terminal {
+    screen: Screen,
+    discarding: bool,
+    quoting: bool,
+    dropped: u16,
 }
 
 // A key that waits.
-pub struct Key {
-    pub code: u8,
-    pub quoted: bool,
+struct Key {
+    code: u8,
+    quoted: bool,
 }
 
 // Typed and not yet in a read: type-ahead, and a partial or held token.
-pub struct Typed {
-    pub keys: [Key; rules::TYPE_AHEAD],
-    pub waiting: u8,
-    pub token: [u8; rules::TOKEN],
-    pub token_len: u8,
+struct Typed {
+    keys: [Key; rules::TYPE_AHEAD],
+    waiting: u8,
+    token: [u8; rules::TOKEN],
+    token_len: u8,
 }
 
 // What is fixed for the whole of a read.
-pub struct Terms {
-    pub underflow: u8,
-    pub disables: u8,
-    pub raises: bool,
-    pub recognises: bool,
-    pub echoes: bool,
-    pub terminator_echo: bool,
-    pub timed: bool,
-    pub timeout: u16,
-    pub set: Set,
-    pub max_length: u16,
-    pub end_of_prompt: u16,
+struct Terms {
+    underflow: u8,
+    disables: u8,
+    raises: bool,
+    recognises: bool,
+    echoes: bool,
+    terminator_echo: bool,
+    timed: bool,
+    timeout: u16,
+    set: Set,
+    max_length: u16,
+    end_of_prompt: u16,
     // the prompt as it is displayed
-    pub prompt: [u8; rules::INPUT],
-    pub prompt_len: u16,
+    prompt: [u8; rules::INPUT],
+    prompt_len: u16,
     // the note of column and line
-    pub column: u16,
-    pub line: u8,
+    column: u16,
+    line: u8,
 }
 
 // A read: what stands after its prompt, and how it goes on.
-pub struct Reading {
-    pub terms: Terms,
-    pub input: [u8; rules::INPUT],
-    pub count: u16,
-    pub low_water: u16,
+struct Reading {
+    terms: Terms,
+    input: [u8; rules::INPUT],
+    count: u16,
+    low_water: u16,
     // the first character is the LF that F hides
-    pub hidden: bool,
+    hidden: bool,
     // the column where the data's display last began
-    pub from: u16,
-    pub idle: u16,
+    from: u16,
+    idle: u16,
 }
 
 pub struct Line {
-    pub host: Host,
-    pub terminal: Terminal,
-    pub typed: Typed,
+    host: Host,
+    terminal: Terminal,
+    typed: Typed,
     // `reading` is a pending read
-    pub pending: bool,
-    pub reading: Reading,
+    pending: bool,
+    reading: Reading,
 }
 
 // A call's answer: the next line, the number, and the bytes written to the front of each area.
@@ -100,8 +104,8 @@ pub struct Answer {
 }
 
 // A call on its way: the line, and the next place in each area.
-pub struct Work {
-    pub line: Line,
-    pub at: usize,
-    pub sent: usize,
+struct Work {
+    line: Line,
+    at: usize,
+    sent: usize,
 }
