@@ -1,3 +1,4 @@
 -- Laws of the line.
 pub mod Works
 pub mod Keys
+pub mod Inputs

@@ -2,4 +2,5 @@ pub mod View
 pub mod Bounded
 pub mod With
 pub mod TypedParts
+pub mod ReadingParts
 pub mod Promise

@@ -4,6 +4,7 @@ mod shows;
 mod arrival;
 mod editing;
 mod ending;
+mod input;
 mod waiting;
 
 // The four characteristics that are switches.
