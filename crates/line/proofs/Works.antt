@@ -6,7 +6,7 @@ use lib.ListN.{length}
 use mathlib.Core.Bool.{Bool, true, false}
 use Rattle.rules.specs.Choice.{pick, joined}
 use Rattle.rules.proofs.Tests.{pick-true, pick-false}
-use Rattle.rules.specs.State.{State, codes, withTerminal, withScreen}
+use Rattle.rules.specs.State.{State, codes, withTerminal, withScreen, withRead}
 use Rattle.rules.specs.Turns.{Fate, Turn, Part, still, writes, tells, changes, behind, _then_, only}
 use Rattle.rules.specs.Calls.{messageBytes}
 use Rattle.screen.specs.Area.{puts, spot}
@@ -16,7 +16,11 @@ use Rattle.screen.proofs.Areas.{puts-append}
 use Rattle.line.specs.declared.Work.{Work}
 use Rattle.line.specs.View.{view, terminalOf}
 use Rattle.line.specs.Bounded.{Counted}
-use Rattle.line.specs.With.{afterShown}
+use Rattle.line.specs.With.{afterShown, onLine, onRead}
+use Rattle.line.specs.ReadingParts.{Becomes}
+use Rattle.line.specs.declared.Reading.{Reading}
+use Rattle.rules.specs.State as rules
+use mathlib.Core.Option.{some}
 use Rattle.line.specs.Promise.{Does}
 
 joined-append : (xs ys : List (List ℕ)) → joined (xs ++ ys) ≡ joined xs ++ joined ys
@@ -126,3 +130,10 @@ module _ {test : Bool} (f : Part ℕ) {w r : Work} {t t′ m m′ : List ℕ} wh
   pub not-does : test ≡ false → Does still w t m r t′ m′ → Does (only test f) w t m r t′ m′
   unfolding only
   not-does e h = second-does f still e h
+
+-- A read that stands for another goes on.
+module _ {w v : Work} {e : rules.Reading ℕ} (r : Reading) (b : Becomes e r) (c : Counted (w .line)) where
+  pub read-does : v ≡ onLine (onRead r (w .line)) w → (t m : List ℕ) → Does (changes (withRead (some e))) w t m v t m
+  read-does h t m =
+      rw h (changes-does t m (withRead (some e)) (λ i. withRead (some (b .view i)) (view (w .line))) refl refl
+      (record { table = c .table; set = c .set; typed = c .typed; reading = b .counted }))

@@ -18,7 +18,8 @@ impl Work {
         requires { ⌜ left ≤ r .count ⌝ }
         ensures { λ w. ⌜ ((fate : ℕ → Fate ℕ) (t m : List ℕ) → Does (rules.deletesUnseen fate left (readingOf r)) self t m w t m) ⌝ }
     {
-        self
+        let next = r.shortened(left);
+        self.with_read(next)
     }
 
     // Deletes them and, in a read that echoes, rubs them out.

@@ -5,6 +5,7 @@ mod arrival;
 mod editing;
 mod ending;
 mod input;
+mod parts;
 mod waiting;
 
 // The four characteristics that are switches.
