@@ -1,6 +1,7 @@
 // Parts of a call that only write to the terminal.
 ghost use Prim.Native.Nat.{ℕ};
 ghost use mathlib.Core.List.{List, [], _∷_};
+ghost use Rattle.rules.specs.Screen as rules;
 ghost use Rattle.rules.specs.Turns.{writes};
 ghost use mathlib.Core.Path.{_≡_};
 ghost use Rattle.line.specs.With.{afterShown};
@@ -37,6 +38,71 @@ impl Work {
         let screen = known.screen;
         let at = self.at;
         let shown = screen::put::write(screen, terminal, at, text);
+        self.showing(shown)
+    }
+
+    // One byte.
+    pub fn put(self, terminal: &mut [u8], b: u8) -> Work
+        requires { ⌜ Counted (self .line) ⌝ }
+        ensures { λ r. ⌜ ((m : List ℕ) → Does (writes (b ∷ [])) self (now (terminal .entry)) m r (now (terminal .exit)) m) ⌝ }
+    {
+        let line = self.line;
+        let known = line.terminal;
+        let screen = known.screen;
+        let at = self.at;
+        let shown = screen::put::put(screen, terminal, at, b);
+        self.showing(shown)
+    }
+
+    // A character's echo.
+    pub fn echo(self, terminal: &mut [u8], n: u8) -> Work
+        requires { ⌜ Counted (self .line) ⌝ }
+        ensures { λ r. ⌜ ((m : List ℕ) → Does (writes (rules.echo (self .line .terminal .screen .column) n)) self (now (terminal .entry)) m r (now (terminal .exit)) m) ⌝ }
+    {
+        let line = self.line;
+        let known = line.terminal;
+        let screen = known.screen;
+        let at = self.at;
+        let shown = screen::echo::echo(screen, terminal, at, n);
+        self.showing(shown)
+    }
+
+    // A terminator's echo.
+    pub fn echo_terminator(self, terminal: &mut [u8], n: u8) -> Work
+        requires { ⌜ Counted (self .line) ⌝ }
+        ensures { λ r. ⌜ ((m : List ℕ) → Does (writes (rules.terminatorEcho (self .line .terminal .screen .column) n)) self (now (terminal .entry)) m r (now (terminal .exit)) m) ⌝ }
+    {
+        let line = self.line;
+        let known = line.terminal;
+        let screen = known.screen;
+        let at = self.at;
+        let shown = screen::echo::terminator_echo(screen, terminal, at, n);
+        self.showing(shown)
+    }
+
+    // A text's echo.
+    pub fn echo_all(self, terminal: &mut [u8], text: &[u8]) -> Work
+        requires { ⌜ Counted (self .line) ⌝ }
+        ensures { λ r. ⌜ ((m : List ℕ) → Does (writes (rules.echoAll (self .line .terminal .screen .column) (now (text .entry)))) self (now (terminal .entry)) m r (now (terminal .exit)) m) ⌝ }
+    {
+        let line = self.line;
+        let known = line.terminal;
+        let screen = known.screen;
+        let at = self.at;
+        let shown = screen::echo::echo_all(screen, terminal, at, text);
+        self.showing(shown)
+    }
+
+    // Blanks over so many marks.
+    pub fn rub_out(self, terminal: &mut [u8], marks: usize) -> Work
+        requires { ⌜ Counted (self .line) ⌝ }
+        ensures { λ r. ⌜ ((m : List ℕ) → Does (writes (rules.rubOut marks)) self (now (terminal .entry)) m r (now (terminal .exit)) m) ⌝ }
+    {
+        let line = self.line;
+        let known = line.terminal;
+        let screen = known.screen;
+        let at = self.at;
+        let shown = screen::rub::rub_out(screen, terminal, at, marks);
         self.showing(shown)
     }
 }

@@ -4,13 +4,14 @@ use Prim.Native.Nat.{ℕ, _+_, _<_, _≤_}
 use mathlib.Core.List.{List, [], _∷_, _++_}
 use lib.ListN.{length, set, length-set}
 use borrow.Author.Tests.{lt-ltb, le-ltb}
+use Rattle.rules.specs.Calls.{areaAfter}
 use Rattle.rules.specs.Screen.{shown, shownAll, columnAfterAll}
 use Rattle.rules.proofs.Tests.{pick-true, pick-false}
 use Rattle.screen.specs.Area.{put, puts, spot}
 use Rattle.screen.specs.View.{Writes, view}
 use Rattle.screen.specs.declared.Screen.{Screen}
 use Rattle.screen.specs.declared.Shown.{Shown}
-use Rattle.screen.proofs.Areas.{puts-append}
+use Rattle.screen.proofs.Areas.{puts-append, puts-front}
 use Rattle.screen.proofs.Echoes.{shownAll-append, shownAll-column}
 
 module _ {before : List ℕ} {at : ℕ} {s : Screen} where
@@ -18,6 +19,9 @@ module _ {before : List ℕ} {at : ℕ} {s : Screen} where
   pub nothing : Writes [] before at s (record { screen = s; at = at }) before
   unfolding puts shownAll
   nothing = record { area = refl; screen = refl; same = refl }
+
+  pub equals : {xs ys after : List ℕ} {r : Shown} → xs ≡ ys → Writes xs before at s r after → Writes ys before at s r after
+  equals e w = rw e at w
 
   -- a byte where there is room, and where there is none
   pub stored : {next : Screen} {b : ℕ} → at < length before → view next ≡ shown (view s) b →
@@ -41,10 +45,21 @@ module _ {before : List ℕ} {at : ℕ} {s : Screen} where
         same = v .same ∙ w .same;
       }
 
+  -- what one more turn of a loop adds
+  pub adds : {xs ys zs mid after : List ℕ} {r q : Shown} → zs ≡ xs ++ ys → Writes xs before at s r mid →
+      Writes ys mid (r .at) (r .screen) q after → Writes zs before at s q after
+  adds e w v = equals (sym e) (joins w v)
+
   -- the column is that behind the bytes
   pub column-behind : {bs after : List ℕ} {r : Shown} → Writes bs before at s r after →
       r .screen .column ≡ columnAfterAll (s .column) bs
   column-behind {bs} w = ap (λ v. v .column) (w .screen) ∙ shownAll-column bs (view s)
 
-  pub equals : {xs ys after : List ℕ} {r : Shown} → xs ≡ ys → Writes xs before at s r after → Writes ys before at s r after
-  equals e w = rw e at w
+-- what was written from the front on, where there was room
+module _ {bytes before after : List ℕ} {s : Screen} {r : Shown} (w : Writes bytes before 0 s r after)
+    (room : length bytes ≤ length before) where
+  pub front-area : after ≡ areaAfter bytes before
+  front-area = ap (λ p. p .area) (w .area ∙ puts-front bytes before room)
+
+  pub front-count : r .at ≡ length bytes
+  front-count = ap (λ p. p .at) (w .area ∙ puts-front bytes before room)

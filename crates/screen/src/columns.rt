@@ -11,21 +11,21 @@ use crate::Screen;
 const TOP_COLUMN: u32 = 999;
 
 // A mark or a space: what takes a column.
-pub fn is_mark(b: u8) -> bool
+pub(crate) fn is_mark(b: u8) -> bool
     ensures { λ r. ⌜ r ≡ rules.isMark b ⌝ }
 {
     (32 <= b) & (b <= 126) | (160 <= b) & (b <= 254)
 }
 
 // Spaces from a column to the next multiple of 8.
-pub fn to_tab(column: u16) -> u16
+pub(crate) fn to_tab(column: u16) -> u16
     ensures { λ r. ⌜ r ≡ rules.toTab column ⌝ }
 {
     8 - column % 8
 }
 
 // A column so much further, up to the top.
-pub fn further(column: u16, by: u16) -> u16
+pub(crate) fn further(column: u16, by: u16) -> u16
     ensures { λ r. ⌜ r ≡ min topColumn (column + by) ⌝ }
 {
     let sum = column as u32 + by as u32;
@@ -35,7 +35,8 @@ pub fn further(column: u16, by: u16) -> u16
     TOP_COLUMN as u16
 }
 
-pub fn column_after(column: u16, b: u8) -> u16
+// The column after a byte.
+pub(crate) fn column_after(column: u16, b: u8) -> u16
     ensures { λ r. ⌜ r ≡ rules.columnAfter column b ⌝ }
 {
     if is_mark(b) {
@@ -71,7 +72,7 @@ fn line_after(line: u8, b: u8) -> u8
 }
 
 // The screen after a byte.
-pub fn shown(s: Screen, b: u8) -> Screen
+pub(crate) fn shown(s: Screen, b: u8) -> Screen
     ensures { λ r. ⌜ view r ≡ rules.shown (view s) b ⌝ }
 {
     Screen {
@@ -79,4 +80,11 @@ pub fn shown(s: Screen, b: u8) -> Screen
         line: line_after(s.line, b),
         after_cr: b == 13,
     }
+}
+
+// How far a position moved, modulo 256: 255 times a number is minus that number.
+pub fn change(now: u16, before: u16) -> u8
+    ensures { λ r. ⌜ r ≡ rules.change now before ⌝ }
+{
+    ((now as u32 + 255 * (before as u32)) % 256) as u8
 }

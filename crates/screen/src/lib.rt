@@ -1,7 +1,8 @@
-// What the terminal gets: bytes into its area, and where the cursor stands then.
-mod columns;
-pub mod put;
+// What the terminal gets: bytes into its area, and where the cursor stands then. Every function takes any input and promises the bytes and the
+// screen of crates/rules/specs/Screen.antt.
+pub mod columns;
 pub mod echo;
+pub mod put;
 pub mod rub;
 
 pub struct Screen {

@@ -32,7 +32,7 @@ pub fn write(s: Screen, area: &mut [u8], at: usize, text: &[u8]) -> Shown
 }
 
 // Two bytes.
-pub fn pair(s: Screen, area: &mut [u8], at: usize, first: u8, second: u8) -> Shown
+pub(crate) fn pair(s: Screen, area: &mut [u8], at: usize, first: u8, second: u8) -> Shown
     ensures { λ r. ⌜ Writes (first ∷ second ∷ []) (now (area .entry)) at s r (now (area .exit)) ⌝ }
 {
     let half = put(s, area, at, first);
@@ -41,15 +41,15 @@ pub fn pair(s: Screen, area: &mut [u8], at: usize, first: u8, second: u8) -> Sho
 }
 
 // One byte so many times.
-pub fn repeat(s: Screen, area: &mut [u8], at: usize, times: u16, b: u8) -> Shown
+pub(crate) fn repeat(s: Screen, area: &mut [u8], at: usize, times: u16, b: u8) -> Shown
     ensures { λ r. ⌜ Writes (replicate times b) (now (area .entry)) at s r (now (area .exit)) ⌝ }
 {
     let mut done = Shown { screen: s, at };
-    let mut i = 0;
-    while i < times {
+    let mut n = 0;
+    while n < times {
         let screen = done.screen;
         done = put(screen, area, done.at, b);
-        i += 1;
+        n += 1;
     }
     done
 }

@@ -1,12 +1,83 @@
 // Rubbing out: how many marks a text's end is on the screen, and blanks over them.
 ghost use mathlib.Core.Path.{_≡_};
+ghost use Prim.Native.Nat.{_+_, min};
+ghost use lib.Dec.{eqb};
+ghost use lib.ListN.{length};
 ghost use mathlib.Core.List.{[], _∷_};
+ghost use Rattle.rules.specs.Choice.{pick};
+ghost use Rattle.rules.specs.Numbers.{topColumn};
 ghost use Rattle.rules.specs.Screen as rules;
-ghost use Rattle.screen.specs.View.{Writes};
+ghost use Rattle.screen.specs.View.{Writes, counted};
 use crate::Screen;
 use crate::Shown;
+use crate::columns::further;
+use crate::columns::is_mark;
+use crate::columns::to_tab;
 use crate::put::pair;
 use crate::put::put;
+
+// A usize holds no more.
+const MOST: usize = 0xFFFF_FFFF_FFFF_FFFF;
+
+// How many marks and spaces a character echoes at a column.
+fn width(column: u16, n: u8) -> u16
+    ensures { λ r. ⌜ r ≡ length (rules.echo column n) ⌝ }
+{
+    if is_mark(n) {
+        return 1;
+    }
+    if n == 9 {
+        return to_tab(column);
+    }
+    if n <= 31 {
+        return 2;
+    }
+    if n == 127 {
+        return 2;
+    }
+    0
+}
+
+// The column behind so many marks and spaces.
+fn column_behind(column: u16, marks: u16) -> u16
+    ensures { λ r. ⌜ r ≡ pick (eqb marks 0) column (min topColumn (column + marks)) ⌝ }
+{
+    if marks == 0 {
+        return column;
+    }
+    further(column, marks)
+}
+
+// So many marks and more of them.
+fn count(marks: usize, more: u16) -> usize
+    ensures { λ r. ⌜ r ≡ counted (marks + more) ⌝ }
+{
+    let room = MOST - marks;
+    let by = more as usize;
+    if by <= room {
+        return marks + by;
+    }
+    MOST
+}
+
+// The marks and spaces that stand on the screen for a text behind its first characters, shown from a column on. One pass:
+// a tab's width goes by what stands before it.
+pub fn marks_behind(kept: usize, column: u16, text: &[u8]) -> usize
+    ensures { λ r. ⌜ r ≡ counted (rules.marksBehind kept column (now (text .entry))) ⌝ }
+{
+    let mut cursor = column;
+    let mut marks = 0;
+    let mut i = 0;
+    while i < text.len() {
+        let more = width(cursor, text[i]);
+        if kept <= i {
+            marks = count(marks, more);
+        }
+        cursor = column_behind(cursor, more);
+        i += 1;
+    }
+    marks
+}
 
 // Back, a space over the mark, and back again.
 fn rub_one(s: Screen, area: &mut [u8], at: usize) -> Shown
@@ -17,15 +88,16 @@ fn rub_one(s: Screen, area: &mut [u8], at: usize) -> Shown
     put(screen, area, blank.at, 8)
 }
 
+// A mark at a time, the last one first.
 pub fn rub_out(s: Screen, area: &mut [u8], at: usize, marks: usize) -> Shown
     ensures { λ r. ⌜ Writes (rules.rubOut marks) (now (area .entry)) at s r (now (area .exit)) ⌝ }
 {
     let mut done = Shown { screen: s, at };
-    let mut i = 0;
-    while i < marks {
+    let mut n = 0;
+    while n < marks {
         let screen = done.screen;
         done = rub_one(screen, area, done.at);
-        i += 1;
+        n += 1;
     }
     done
 }

@@ -1,5 +1,5 @@
-use borrow.Author.Needs.{needs}
 use native.Mathlib.Omega.{arith}
+use borrow.Author.Needs.{needs}
 use Rattle.screen.proofs.Tops.{top-column}
 use Rattle.screen.proofs.columns.further.Statement.{statement}
 use Rattle.screen.proofs.columns.further.Tie as tie

@@ -1,15 +1,13 @@
-use mathlib.Core.Path.{refl}
 use lib.Dec.{eqb}
-use borrow.Author.Needs.{needs}
 use Rattle.rules.specs.Screen.{CR, shown}
 use Rattle.screen.proofs.columns.shown.Statement.{statement}
 use Rattle.screen.proofs.columns.shown.Tie as tie
 
 column-after-requires : tie.Need-column-after-requires
-column-after-requires c κs = search needs
+column-after-requires c κs = tt
 
 line-after-requires : tie.Need-line-after-requires
-line-after-requires c κs = search needs
+line-after-requires c κs = tt
 
 returns : tie.Need-returns
 unfolding shown

@@ -1,10 +1,10 @@
-use Rattle.screen.proofs.Written.{stored, lost}
 use borrow.Author.Needs.{needs}
+use Rattle.screen.proofs.Written.{stored, lost}
 use Rattle.screen.proofs.put.put.Statement.{statement}
 use Rattle.screen.proofs.put.put.Tie as tie
 
 shown-requires : tie.Need-shown-requires
-shown-requires c κs = search needs
+shown-requires c κs = tt
 
 slice-write-area : tie.Need-slice-write-area
 slice-write-area c = search needs

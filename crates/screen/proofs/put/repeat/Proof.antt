@@ -1,29 +1,29 @@
+use mathlib.Core.Path.{ap}
 use Prim.Native.Nat.{_≤_, _-_}
 use native.Mathlib.Omega.{arith}
-use borrow.Author.Needs.{needs}
-use mathlib.Core.Path.{sym, ap}
 use native.Mathlib.Nat.{le-antisymm}
 use lib.ListN.{replicate}
-use Rattle.screen.proofs.Echoes.{replicate-more}
 use Rattle.screen.specs.View.{Writes}
-use Rattle.screen.proofs.Written.{nothing, joins, equals}
+use Rattle.screen.proofs.Echoes.{replicate-more}
+use Rattle.screen.proofs.Written.{nothing, equals, adds}
 use Rattle.screen.proofs.put.repeat.Statement.{statement}
 use Rattle.screen.proofs.put.repeat.Tie as tie
 
 abbrev Inv-loop : tie.InvT-loop
-Inv-loop area₀ at times b done₀ i₀ area done i = (i ≤ times) × Writes (replicate i b) area₀ (done₀ .at) (done₀ .screen) done area
+Inv-loop area₀ at times b done₀ n₀ area done n =
+    (n ≤ times) × Writes (replicate n b) area₀ (done₀ .at) (done₀ .screen) done area
 
 abbrev μ-loop : tie.MeasureT-loop
-μ-loop area₀ at times b done₀ i₀ area done i = times - i
+μ-loop area₀ at times b done₀ n₀ area done n = times - n
 
 loop-holds : tie.Need-loop-holds Inv-loop μ-loop
 loop-holds c = (omega arith, nothing)
 
 put-requires : tie.Need-put-requires Inv-loop μ-loop
-put-requires c κs = search needs
+put-requires c κs = tt
 
-add-i : tie.Need-add-i Inv-loop μ-loop
-add-i c = omega arith
+add-n : tie.Need-add-n Inv-loop μ-loop
+add-n c = omega arith
 
 loop-less : tie.Need-loop-less Inv-loop μ-loop
 loop-less c = omega arith
@@ -31,7 +31,8 @@ loop-less c = omega arith
 loop-again : tie.Need-loop-again Inv-loop μ-loop
 loop-again c =
     let a = c .before .before .before .before .before .before in
-    (omega arith, equals (sym (replicate-more (a .loop .i) (a .before .before .args .b))) (joins (a .loop .inv .1) (c .before .before .put .ensures)))
+    let more = replicate-more (a .loop .n) (a .before .before .args .b) in
+    (omega arith, adds more (a .loop .inv .1) (c .before .before .put .ensures))
 
 same-length : tie.Need-same-length Inv-loop μ-loop
 same-length c = c .before .loop .inv .1 .same
@@ -39,7 +40,8 @@ same-length c = c .before .loop .inv .1 .same
 returns : tie.Need-returns Inv-loop μ-loop
 returns c =
     let a = c .before in
-    equals (ap (λ n. replicate n (a .before .before .args .b)) (le-antisymm (a .loop .inv .0) (c .loop-test .left))) (a .loop .inv .1)
+    let all = le-antisymm (a .loop .inv .0) (c .loop-test .left) in
+    equals (ap (λ k. replicate k (a .before .before .args .b)) all) (a .loop .inv .1)
 
 pub repeat-spec : {M : Type 1} → statement M
 repeat-spec =
@@ -49,7 +51,7 @@ repeat-spec =
     μ-loop
     loop-holds
     put-requires
-    add-i
+    add-n
     loop-less
     loop-again
     same-length
