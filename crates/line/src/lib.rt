@@ -6,6 +6,7 @@ mod editing;
 mod ending;
 mod input;
 mod parts;
+mod sending;
 mod waiting;
 
 // The four characteristics that are switches.

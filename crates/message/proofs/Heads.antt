@@ -1,8 +1,12 @@
 -- The head of a message, group by group: from the numbers that the code reads to the fields that the definition has.
 use mathlib.Core.Path.{_≡_, refl, sym, ap, ap₂, _∙_}
-use Prim.Native.Nat.{ℕ, _+_, _/_, _%_, _^_, _<_}
+use Prim.Native.Nat.{ℕ, zero, suc, _+_, _%_, _^_, _<_, _≤_}
 use native.Mathlib.Nat.{mod-eq-of-lt}
+use native.Mathlib.Numerals.{add-one}
+use native.Mathlib.Omega.{arith}
 use mathlib.Core.List.{List, [], _∷_, _++_}
+use lib.ListN.{length, take, drop, replicate}
+use lib.Seq.{drop-cons}
 use Rattle.rules.specs.Messages.Layout.{Group, flags, byte, word, byteAt, fieldsIn, numberAt, readGroups}
 use Rattle.message.proofs.Numbers.{number-one}
 
@@ -26,10 +30,13 @@ module _ {gs : List Group} {at : ℕ} {s vs : List ℕ} where
   unfolding fieldsIn
   none-first h = flags-first 1 [] (numberAt 1 at s) refl h
 
-  -- one bit
+  -- fields in one byte, and a single bit
+  pub bits-first : (ws : List ℕ) (v : ℕ) → v ≡ byteAt s at → Head gs (at + 1) s vs → Head (flags 1 ws ∷ gs) at s (fieldsIn ws v ++ vs)
+  bits-first ws v e h = flags-first 1 ws v (e ∙ sym (number-one at s)) h
+
   pub bit-first : {v : ℕ} → v ≡ byteAt s at → Head gs (at + 1) s vs → Head (flags 1 (1 ∷ []) ∷ gs) at s (v % 2 ∷ vs)
   unfolding fieldsIn
-  bit-first {v} e h = flags-first 1 (1 ∷ []) v (e ∙ sym (number-one at s)) h
+  bit-first {v} e h = bits-first (1 ∷ []) v e h
 
   whole-field : (n w : ℕ) {v : ℕ} → v ≡ numberAt n at s → v < 2 ^ w → Head gs (at + n) s vs → Head (flags n (w ∷ []) ∷ gs) at s (v ∷ vs)
   unfolding fieldsIn
@@ -40,3 +47,10 @@ module _ {gs : List Group} {at : ℕ} {s vs : List ℕ} where
 
   pub word-first : {v : ℕ} → v ≡ numberAt 2 at s → v < 65536 → Head gs (at + 2) s vs → Head (word ∷ gs) at s (v ∷ vs)
   word-first e v< h = whole-field 2 16 e v< h
+
+-- a run of bytes
+pub bytes-run : (n at : ℕ) (s : List ℕ) → ((i : ℕ) → byteAt s i < 256) → at + n ≤ length s → Head (replicate n byte) at s (take n (drop at s))
+bytes-run zero at s small h = no-more
+bytes-run (suc n) at s small h =
+    let next = bytes-run n (at + 1) s small (omega arith) in
+    rw (drop-cons s at 0 (omega arith), ← add-one at) (byte-first refl (small at) next)

@@ -1,14 +1,14 @@
 -- Numbers in a slice, a byte at a time.
 use mathlib.Core.Path.{_≡_, refl, sym, ap, ap₂, _∙_}
-use Prim.Native.Nat.{ℕ, zero, suc, _+_, _*_}
+use Prim.Native.Nat.{ℕ, suc, _+_, _*_}
 use native.Mathlib.Nat.{add-zero}
-use mathlib.Core.List.{List, []}
-use lib.ListN.{drop, getD, replicate}
+use mathlib.Core.List.{List}
+use lib.ListN.{drop, replicate}
 use lib.Seq.{getD-drop, drop-drop}
 use native.Mathlib.Omega.{arith}
 use Rattle.rules.specs.Messages.Layout.{byteAt, numberOf, numberAt}
 
-byte-behind : (s : List ℕ) (at : ℕ) → byteAt (drop at s) 0 ≡ byteAt s at
+pub byte-behind : (s : List ℕ) (at : ℕ) → byteAt (drop at s) 0 ≡ byteAt s at
 byte-behind s at = getD-drop at s 0 0 ∙ ap (byteAt s) (add-zero at)
 
 -- one byte more is one digit more

@@ -1,18 +1,20 @@
 -- Reading as one type: each test that fails refuses, and a message that passes them all is its fields.
-use mathlib.Core.Path.{_≡_, refl, sym, ap, ap₂, _∙_}
-use Prim.Native.Nat.{ℕ, _+_, _-_, _≤_, _<_}
+use mathlib.Core.Path.{_≡_, refl, sym, ap, _∙_}
+use Prim.Native.Nat.{ℕ, _+_, _≤_, _<_}
 use native.Mathlib.Omega.{arith}
 use mathlib.Core.Bool.{Bool, true, false, not, _&&_, _||_, false≢true}
-use mathlib.Core.List.{List, [], _∷_}
+use mathlib.Core.List.{List, [], _∷_, map}
 use lib.Dec.{eqb, leb}
-use lib.ListN.{length, drop, drop-of-length-le, length-drop}
+use lib.ListN.{length, drop-of-length-le, length-drop}
 use borrow.Author.Tests.{le-leb, lt-leb, leb-true, leb-false}
 use Rattle.rules.specs.Choice.{pick, isEmpty}
-use Rattle.rules.specs.Messages.Layout.{byteAt, sizeOf, readGroups}
-use Rattle.rules.specs.Messages.Forms.{Message, Tail, nothing, Form, formOf, plain, startRead, readData, write}
-use Rattle.rules.specs.Messages.Codec.{message, sound, refused, definedFields, soundAs, fieldsAs, wholeTail, behindHead, setIn, parametersIn, textIn}
+use Rattle.rules.specs.Messages.Layout.{byteAt, sizeOf}
+use Rattle.rules.specs.Messages.Parameters.{Shape, cleaned, cut}
+use Rattle.rules.specs.Messages.Forms.{Message, Tail, nothing, text, list, formOf, startRead, readData, write}
+use Rattle.rules.specs.Messages.Codec.{Held, message, sound, refused, definedFields, soundAs, fieldsAs, wholeTail, behindHead, setIn, parametersIn, textIn}
 use Rattle.rules.proofs.Tests.{both, pick-true, pick-false}
-use Rattle.message.specs.Found.{bare, asHeld, readAs}
+use Rattle.message.specs.declared.Part.{Part}
+use Rattle.message.specs.Found.{RestFrom, partOf, parametersOf, bare, withText, withList, asHeld, readAs}
 use Rattle.message.proofs.Heads.{Head}
 
 no-first : (a b c : Bool) → a ≡ false → a && b && c ≡ false
@@ -56,60 +58,84 @@ module _ (kind : ℕ) (s : List ℕ) where
   abbrev whole : Bool
   whole = wholeTail (formOf kind .tail) rest
 
-  refused-by : soundAs (formOf kind) s ≡ false → readAs kind s ≡ refused 5
+  refused-by : soundAs (formOf kind) s ≡ false → refused 5 ≡ readAs kind s
   unfolding readAs asHeld
-  refused-by e = ap asHeld (pick-false _ _ e)
+  refused-by e = ap asHeld (sym (pick-false _ _ e))
 
   -- cut short in the head
-  pub head-cut : length s < head → readAs kind s ≡ refused 5
+  pub head-cut : length s < head → refused 5 ≡ readAs kind s
   unfolding soundAs
   head-cut h = refused-by (no-first (leb head (length s)) whole (definedFields fields) (lt-leb head (length s) h))
 
   -- cut short behind it, or with bytes left over
-  pub tail-unsound : whole ≡ false → readAs kind s ≡ refused 5
+  pub tail-unsound : whole ≡ false → refused 5 ≡ readAs kind s
   unfolding soundAs
   tail-unsound e = refused-by (no-second (leb head (length s)) whole (definedFields fields) e)
 
   -- a value that is not defined
-  pub field-undefined : definedFields fields ≡ false → readAs kind s ≡ refused 5
+  pub field-undefined : definedFields fields ≡ false → refused 5 ≡ readAs kind s
   unfolding soundAs
   field-undefined e = refused-by (no-third (leb head (length s)) whole (definedFields fields) e)
 
-  pub read-sound : head ≤ length s → whole ≡ true → definedFields fields ≡ true → readAs kind s ≡ sound (message fields)
+  pub read-sound : {h : Held} → h ≡ message fields → head ≤ length s → whole ≡ true → definedFields fields ≡ true →
+      sound h ≡ readAs kind s
   unfolding readAs asHeld soundAs
-  read-sound h w d = ap asHeld (pick-true _ _ (both (both (le-leb head (length s) h) w) d))
+  read-sound e n w d = ap sound e ∙ ap asHeld (sym (pick-true _ _ (both (both (le-leb head (length s) n) w) d)))
+
+  -- a test of the fields, made of what the code holds
+  pub defined-as : {m : Message ℕ} → message m ≡ message fields → {t : Bool} → definedFields m ≡ t → definedFields fields ≡ t
+  defined-as {m} e d = let same : m ≡ fields = cc in ap definedFields (sym same) ∙ d
 
   module _ (k : byteAt s 0 ≡ kind) where
     pub free-defined : isFree kind ≡ true → definedFields fields ≡ true
     unfolding definedFields isFree fieldsAs
     free-defined e = rw k (free-choice (eqb kind startRead) (eqb kind readData) (eqb kind write) _ _ _ e)
 
-  -- Messages of a fixed length.
-  module _ (t : formOf kind .tail ≡ nothing) where
-    nothing-behind : isEmpty rest ≡ whole
-    unfolding wholeTail
-    nothing-behind = ap (λ u. wholeTail u rest) (sym t)
+    -- the fields, part by part; the tail by its name
+    module _ {vs : List ℕ} (v : Head (formOf kind .head) 1 s vs) (t : Tail) (is : formOf kind .tail ≡ t) where
+      pub fields-are : record { kind = kind; numbers = vs; set = setIn t rest; parameters = parametersIn t rest; text = textIn t rest } ≡ fields
+      unfolding fieldsAs
+      fields-are =
+          λ i. record {
+            kind = sym k i;
+            numbers = sym (v .same) i;
+            set = setIn (sym is i) rest;
+            parameters = parametersIn (sym is i) rest;
+            text = textIn (sym is i) rest;
+          }
 
-    pub fixed-refused : (length s ≡ head → ⊥) → readAs kind s ≡ refused 5
+    -- by a part that reaches to the end
+    module _ {vs : List ℕ} (v : Head (formOf kind .head) 1 s vs) {p : Part} (e : RestFrom head s p) where
+      pub text-fields : formOf kind .tail ≡ text → withText kind vs [] (partOf s p) ≡ message fields
+      unfolding behindHead setIn parametersIn textIn
+      text-fields is = ap (withText kind vs []) (e .same) ∙ ap message (fields-are v text is)
+
+      pub list-fields : (shape : Shape) → formOf kind .tail ≡ list shape → withList kind vs (parametersOf shape s p) ≡ message fields
+      unfolding behindHead parametersOf setIn parametersIn textIn
+      list-fields shape is =
+          ap (λ bytes. withList kind vs (map (cleaned shape) (cut shape 0 bytes))) (e .same) ∙ ap message (fields-are v (list shape) is)
+
+  -- Messages of a fixed length.
+  module _ (is : formOf kind .tail ≡ nothing) where
+    nothing-behind : whole ≡ isEmpty rest
+    unfolding wholeTail
+    nothing-behind = ap (λ t. wholeTail t rest) is
+
+    pub fixed-refused : (length s ≡ head → ⊥) → refused 5 ≡ readAs kind s
     unfolding behindHead
     fixed-refused e = by-length (leb head (length s)) refl
       where
-        by-length : (b : Bool) → leb head (length s) ≡ b → readAs kind s ≡ refused 5
+        by-length : (b : Bool) → leb head (length s) ≡ b → refused 5 ≡ readAs kind s
         by-length false h = head-cut (leb-false head (length s) h)
         by-length true h =
             let l = leb-true head (length s) h in
             let d = length-drop head s in
-            let m : length s ≡ head → ⊥ = e in
-            tail-unsound (sym nothing-behind ∙ some-not-empty rest (omega arith))
+            let other : length s ≡ head → ⊥ = e in
+            tail-unsound (nothing-behind ∙ some-not-empty rest (omega arith))
 
     pub fixed-sound : byteAt s 0 ≡ kind → isFree kind ≡ true → length s ≡ head →
-        {vs : List ℕ} → Head (formOf kind .head) 1 s vs → readAs kind s ≡ sound (bare kind vs)
-    unfolding behindHead isEmpty fieldsAs setIn parametersIn textIn
+        {vs : List ℕ} → Head (formOf kind .head) 1 s vs → sound (bare kind vs) ≡ readAs kind s
+    unfolding behindHead isEmpty setIn parametersIn textIn
     fixed-sound k e h {vs} v =
-        read-sound (omega arith) (sym nothing-behind ∙ empty) (free-defined k e) ∙ ap (λ m. sound (message m)) as-plain
-      where
-        empty : isEmpty rest ≡ true
-        empty = ap isEmpty (drop-of-length-le s {i = head} (omega arith))
-
-        as-plain : fields ≡ plain kind vs
-        as-plain = λ i. record { kind = k i; numbers = v .same i; set = setIn (t i) rest; parameters = parametersIn (t i) rest; text = textIn (t i) rest }
+        let empty = drop-of-length-le s {i = head} (omega arith) in
+        read-sound (ap message (fields-are k v nothing is)) (omega arith) (nothing-behind ∙ ap isEmpty empty) (free-defined k e)

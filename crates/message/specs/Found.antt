@@ -1,23 +1,19 @@
 -- What a decoded message means: its fields, read off the slice that it was found in; a number for each refusal.
-use Prim.Native.Nat.{ℕ, _≤_}
+use Prim.Native.Nat.{ℕ, _-_, _≤_}
 use mathlib.Core.Path.{_≡_}
 use mathlib.Core.List.{List, [], _∷_, _++_, map}
 use lib.ListN.{length, take, drop}
 use Rattle.rules.specs.Choice.{pick}
 use Rattle.rules.specs.Numbers.{unsound}
-use Rattle.rules.specs.Messages.Layout.{byteAt}
+use Rattle.rules.specs.Messages.Layout.{byteAt, fieldsIn, numberAt}
 use Rattle.rules.specs.Messages.Parameters.{Shape, initiation, question, setting, cleaned, cut}
 use Rattle.rules.specs.Messages.Forms as forms
 use Rattle.rules.specs.Messages.Forms.{formOf, plain}
 use Rattle.rules.specs.Messages.Codec as codec
 use Rattle.rules.specs.Messages.Codec.{Outcome, Held, soundAs, fieldsAs}
 use Rattle.message.specs.declared.Part.{Part}
-use Rattle.message.specs.declared.InitiateFields.{InitiateFields}
 use Rattle.message.specs.declared.StartReadFields.{StartReadFields}
-use Rattle.message.specs.declared.ReadDataFields.{ReadDataFields}
-use Rattle.message.specs.declared.WriteFields.{WriteFields}
 use Rattle.message.specs.declared.Message.{Message}
-use Rattle.message.specs.declared.Message.the-variants as variants
 use Rattle.message.specs.declared.Message.the-variants.{Initiate, StartRead, ReadData, OutOfBand, Unread, ClearInput, Write}
 use Rattle.message.specs.declared.Message.the-variants.{WriteCompletion, DiscardState, ReadCharacteristics, Characteristics}
 use Rattle.message.specs.declared.Message.the-variants.{CheckInput, InputCount, InputState, Other}
@@ -43,16 +39,32 @@ abbrev pub withList : ℕ → List ℕ → List (List ℕ) → Held
 withList kind numbers parameters =
     codec.message (record { kind = kind; numbers = numbers; set = []; parameters = parameters; text = [] })
 
+-- Start Read: its flags and their widths, and all of it
+abbrev pub flagWidths : List ℕ
+flagWidths = 2 ∷ 1 ∷ 1 ∷ 1 ∷ 1 ∷ 2 ∷ 3 ∷ 1 ∷ 1 ∷ 1 ∷ 2 ∷ 2 ∷ []
+
+abbrev pub flagsOf : StartReadFields → List ℕ
+flagsOf f =
+    f .underflow ∷ f .clears ∷ f .formats ∷ f .vertical ∷ f .continues ∷ f .raises ∷ f .disables ∷ f .silent ∷
+    f .«terminator_echo» ∷ f .timed ∷ f .«set_choice» ∷ f .escapes ∷ []
+
+unfoldable pub startReadIn : List ℕ → StartReadFields → forms.Message ℕ
+startReadIn s f =
+    record {
+      kind = forms.startRead;
+      numbers =
+          flagsOf f ++
+          (f .«max_length» ∷ f .«end_of_data» ∷ f .timeout ∷ f .«end_of_prompt» ∷ f .«start_of_display» ∷ f .«low_water» ∷ []);
+      set = partOf s (f .set);
+      parameters = [];
+      text = partOf s (f .text);
+    }
+
 -- the fields of each case
 unfoldable pub heldIn : List ℕ → Message → Held
 heldIn s (Initiate f) =
     withList forms.initiate (f .version ∷ f .eco ∷ f .modification ∷ partOf s (f .revision)) (parametersOf initiation s (f .parameters))
-heldIn s (StartRead f) =
-    withText forms.startRead
-    (f .underflow ∷ f .clears ∷ f .formats ∷ f .vertical ∷ f .continues ∷ f .raises ∷ f .disables ∷ f .silent ∷
-    f .«terminator_echo» ∷ f .timed ∷ f .«set_choice» ∷ f .escapes ∷
-    f .«max_length» ∷ f .«end_of_data» ∷ f .timeout ∷ f .«end_of_prompt» ∷ f .«start_of_display» ∷ f .«low_water» ∷ [])
-    (partOf s (f .set)) (partOf s (f .text))
+heldIn s (StartRead f) = codec.message (startReadIn s f)
 heldIn s (ReadData f) =
     withText forms.readData
     (f .code ∷ f .more ∷ f .«low_water» ∷ f .vertical ∷ f .horizontal ∷ f .terminator ∷ []) [] (partOf s (f .text))
@@ -90,3 +102,19 @@ readAs kind s =
 pub record IsType (kind : ℕ) (s : List ℕ) : Type 0 where
   pub typed : byteAt s 0 ≡ kind
   pub short : length s ≤ 256
+
+-- what stands behind a place
+pub record RestFrom (at : ℕ) (s : List ℕ) (p : Part) : Type 0 where
+  pub same : partOf s p ≡ drop at s
+  pub long : p .len ≡ length s - at
+
+-- the flags of a Start Read, with parts that are given
+pub record FlagsAre (s : List ℕ) (set text : Part) (f : StartReadFields) : Type 0 where
+  pub flags : flagsOf f ≡ fieldsIn flagWidths (numberAt 3 1 s)
+  pub set-kept : f .set ≡ set
+  pub text-kept : f .text ≡ text
+
+-- the fields of a Start Read
+pub record StartReadIs (s : List ℕ) (f : StartReadFields) : Type 0 where
+  pub fields : startReadIn s f ≡ fieldsAs (formOf forms.startRead) s
+  pub long : length (partOf s (f .text)) ≡ f .text .len

@@ -30,18 +30,22 @@ parametersFrom kind at s = map (cleaned (shapeOf kind)) (cut (shapeOf kind) zero
 
 -- how many limits these are, and the first three; 1, under which only 0 is, for one that is not there
 pub record LimitsAre (ls : List ℕ) (l : Limits) : Type 0 where
-  pub counted : l .count ≡ length ls
-  pub one : l .first ≡ getD ls 0 1
-  pub two : l .second ≡ getD ls 1 1
-  pub three : l .third ≡ getD ls 2 1
+  pub counted : l .0 ≡ length ls
+  pub one : l .1 ≡ getD ls 0 1
+  pub two : l .2 ≡ getD ls 1 1
+  pub three : l .3 ≡ getD ls 2 1
+
+-- the parameter at a place, unused bits set to 0
+abbrev pub usedAt : ℕ → ℕ → List ℕ → List ℕ
+usedAt kind at s = cleaned (shapeOf kind) (parameterAt kind at s)
 
 -- one parameter of a list: its selector, the three bytes behind it that a line looks at, and where the next one begins
 pub record ParameterIs (kind at : ℕ) (s : List ℕ) (p : Parameter) : Type 0 where
-  pub selected : p .selector ≡ selector (cleaned (shapeOf kind) (parameterAt kind at s))
-  pub one : p .first ≡ byteAt (cleaned (shapeOf kind) (parameterAt kind at s)) 2
-  pub two : p .second ≡ byteAt (cleaned (shapeOf kind) (parameterAt kind at s)) 3
-  pub three : p .third ≡ byteAt (cleaned (shapeOf kind) (parameterAt kind at s)) 4
+  pub selected : p .selector ≡ selector (usedAt kind at s)
+  pub one : p .first ≡ byteAt (usedAt kind at s) 2
+  pub two : p .second ≡ byteAt (usedAt kind at s) 3
+  pub three : p .third ≡ byteAt (usedAt kind at s) 4
   pub behind : p .next ≡ at + sizeOf (shapeOf kind) (drop at s)
   pub further : at < p .next
   -- the list from here on is this parameter and the list from the next one on
-  pub list : parametersFrom kind at s ≡ cleaned (shapeOf kind) (parameterAt kind at s) ∷ parametersFrom kind (p .next) s
+  pub list : parametersFrom kind at s ≡ usedAt kind at s ∷ parametersFrom kind (p .next) s

@@ -29,7 +29,9 @@ pub fn read_unread(s: &[u8]) -> Found
         return Found::Refused(5);
     }
     let flags = byte_at(s, 1);
-    Found::Message(Message::Unread { condition: flags % 2 })
+    Found::Message(Message::Unread {
+        condition: flags % 2,
+    })
 }
 
 pub fn read_clear_input(s: &[u8]) -> Found

@@ -1,9 +1,18 @@
 // The fourteen messages of the Network Command Terminal protocol: their fields, and reading them from bytes.
+ghost use mathlib.Core.Path.{_≡_};
+ghost use Rattle.rules.specs.Messages.Codec as codec;
+ghost use Rattle.message.specs.Found.{asHeld, foundIn};
+
 mod bytes;
-mod parts;
-mod lists;
 mod fixed;
-mod varying;
+mod listed;
+mod lists;
+mod parts;
+mod start_read;
+mod texts;
+
+pub use crate::lists::parameter_at;
+pub use crate::parts::bytes_of;
 
 // A part of the lent slice.
 pub struct Part {
@@ -72,19 +81,41 @@ pub enum Message {
     Initiate(InitiateFields),
     StartRead(StartReadFields),
     ReadData(ReadDataFields),
-    OutOfBand { discard: u8, character: u8 },
-    Unread { condition: u8 },
+    OutOfBand {
+        discard: u8,
+        character: u8,
+    },
+    Unread {
+        condition: u8,
+    },
     ClearInput,
     Write(WriteFields),
-    WriteCompletion { lost: u8, horizontal: u16, vertical: u16 },
-    DiscardState { kept: u8 },
-    ReadCharacteristics { parameters: Part },
-    Characteristics { parameters: Part },
+    WriteCompletion {
+        lost: u8,
+        horizontal: u16,
+        vertical: u16,
+    },
+    DiscardState {
+        kept: u8,
+    },
+    ReadCharacteristics {
+        parameters: Part,
+    },
+    Characteristics {
+        parameters: Part,
+    },
     CheckInput,
-    InputCount { count: u16 },
-    InputState { nonzero: u8 },
+    InputCount {
+        count: u16,
+    },
+    InputState {
+        nonzero: u8,
+    },
     // a message of another type, which can be held and is never written
-    Other { kind: u8, body: Part },
+    Other {
+        kind: u8,
+        body: Part,
+    },
 }
 
 // What reading finds: a message, or the number of a refusal.
@@ -104,3 +135,30 @@ pub struct Parameter {
 }
 
 // Reads a message without a line: 2, 3 or 5 in that order, else its fields.
+pub fn read(s: &[u8]) -> Found
+    ensures { λ r. ⌜ foundIn (now (s .entry)) r ≡ asHeld (codec.read (now (s .entry))) ⌝ }
+{
+    let size = s.len();
+    let fits = (1 <= size) & (size <= rules::MESSAGE);
+    if !fits {
+        return Found::Refused(2);
+    }
+    let kind = bytes::byte_at(s, 0);
+    match kind {
+        1 => listed::read_initiate(s),
+        2 => start_read::read_start_read(s),
+        3 => texts::read_read_data(s),
+        4 => fixed::read_out_of_band(s),
+        5 => fixed::read_unread(s),
+        6 => fixed::read_clear_input(s),
+        7 => texts::read_write(s),
+        8 => fixed::read_write_completion(s),
+        9 => fixed::read_discard_state(s),
+        10 => listed::read_read_characteristics(s),
+        11 => listed::read_characteristics(s),
+        12 => fixed::read_check_input(s),
+        13 => fixed::read_input_count(s),
+        14 => fixed::read_input_state(s),
+        _ => Found::Refused(3),
+    }
+}

@@ -1,14 +1,14 @@
 // Parts of the lent slice.
 ghost use mathlib.Core.Path.{_≡_};
 ghost use Prim.Native.Nat.{_≤_};
-ghost use lib.ListN.{length, drop};
-ghost use Rattle.message.specs.Found.{partOf};
+ghost use lib.ListN.{length};
+ghost use Rattle.message.specs.Found.{RestFrom, partOf};
 use crate::Part;
 
 // What stands behind a place, up to the end.
 pub fn rest_from(s: &[u8], at: u16) -> Part
     requires { ⌜ length (now s) ≤ 256 ⌝ }
-    ensures { λ r. ⌜ partOf (now (s .entry)) r ≡ drop at (now (s .entry)) ⌝ }
+    ensures { λ r. ⌜ RestFrom at (now (s .entry)) r ⌝ }
 {
     let size = s.len() as u16;
     if at < size {
@@ -21,7 +21,7 @@ pub fn rest_from(s: &[u8], at: u16) -> Part
 }
 
 // The bytes of a part; what would lie past the end is left out.
-pub fn part(s: &[u8], p: Part) -> &[u8]
+pub fn bytes_of(s: &[u8], p: Part) -> &[u8]
     ensures { λ r. ⌜ now r ≡ partOf (now (s .entry)) p ⌝ }
 {
     let start = p.start as usize;

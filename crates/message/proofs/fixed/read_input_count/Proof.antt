@@ -1,4 +1,4 @@
-use mathlib.Core.Path.{refl, sym}
+use mathlib.Core.Path.{refl}
 use native.Mathlib.Omega.{arith}
 use borrow.Author.Needs.{needs}
 use Rattle.rules.specs.Messages.Layout.{sizeOf}
@@ -11,7 +11,7 @@ use Rattle.message.proofs.fixed.read_input_count.Tie as tie
 
 returns : tie.Need-returns
 unfolding foundIn formOf forms sizeOf
-returns c = sym (fixed-refused 13 (c .before .before .args .s .now) refl (c .if1 .taken))
+returns c = fixed-refused 13 (c .before .before .args .s .now) refl (c .if1 .taken)
 
 word-at-requires : tie.Need-word-at-requires
 word-at-requires c κs = search needs
@@ -20,7 +20,8 @@ returns-2 : tie.Need-returns-2
 unfolding foundIn heldIn formOf forms sizeOf isFree
 returns-2 c =
     let a = c .before .before .before in
-    sym (fixed-sound 13 (a .args .s .now) refl (a .pre .typed) refl (c .before .if1 .left) (none-first (word-first (c .word-at .ensures) (omega arith) no-more)))
+    fixed-sound 13 (a .args .s .now) refl (a .pre .typed) refl (c .before .if1 .left)
+    (none-first (word-first (c .word-at .ensures) (omega arith) no-more))
 
 pub read-input-count-spec : {M : Type 1} → statement M
 read-input-count-spec = tie.close (tie.spec returns word-at-requires returns-2)

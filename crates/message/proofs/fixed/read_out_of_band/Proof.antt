@@ -1,4 +1,4 @@
-use mathlib.Core.Path.{refl, sym}
+use mathlib.Core.Path.{refl}
 use native.Mathlib.Omega.{arith}
 use borrow.Author.Needs.{needs}
 use Rattle.rules.specs.Messages.Layout.{sizeOf}
@@ -11,7 +11,7 @@ use Rattle.message.proofs.fixed.read_out_of_band.Tie as tie
 
 returns : tie.Need-returns
 unfolding foundIn formOf forms sizeOf
-returns c = sym (fixed-refused 4 (c .before .before .args .s .now) refl (c .if1 .taken))
+returns c = fixed-refused 4 (c .before .before .args .s .now) refl (c .if1 .taken)
 
 byte-at-requires : tie.Need-byte-at-requires
 byte-at-requires c κs = search needs
@@ -23,7 +23,8 @@ returns-2 : tie.Need-returns-2
 unfolding foundIn heldIn formOf forms sizeOf isFree
 returns-2 c =
     let a = c .before .before .before .before in
-    sym (fixed-sound 4 (a .args .s .now) refl (a .pre .typed) refl (c .before .before .if1 .left) (bit-first (c .before .byte-at .ensures) (byte-first (c .byte-at2 .ensures) (omega arith) no-more)))
+    fixed-sound 4 (a .args .s .now) refl (a .pre .typed) refl (c .before .before .if1 .left)
+    (bit-first (c .before .byte-at .ensures) (byte-first (c .byte-at2 .ensures) (omega arith) no-more))
 
 pub read-out-of-band-spec : {M : Type 1} → statement M
 read-out-of-band-spec = tie.close (tie.spec returns byte-at-requires byte-at-requires-2 returns-2)

@@ -1,4 +1,4 @@
-use mathlib.Core.Path.{refl, sym}
+use mathlib.Core.Path.{refl}
 use native.Mathlib.Omega.{arith}
 use borrow.Author.Needs.{needs}
 use Rattle.rules.specs.Messages.Layout.{sizeOf}
@@ -11,7 +11,7 @@ use Rattle.message.proofs.fixed.read_write_completion.Tie as tie
 
 returns : tie.Need-returns
 unfolding foundIn formOf forms sizeOf
-returns c = sym (fixed-refused 8 (c .before .before .args .s .now) refl (c .if1 .taken))
+returns c = fixed-refused 8 (c .before .before .args .s .now) refl (c .if1 .taken)
 
 byte-at-requires : tie.Need-byte-at-requires
 byte-at-requires c κs = search needs
@@ -26,7 +26,9 @@ returns-2 : tie.Need-returns-2
 unfolding foundIn heldIn formOf forms sizeOf isFree
 returns-2 c =
     let a = c .before .before .before .before .before in
-    sym (fixed-sound 8 (a .args .s .now) refl (a .pre .typed) refl (c .before .before .before .if1 .left) (bit-first (c .before .before .byte-at .ensures) (word-first (c .before .word-at .ensures) (omega arith) (word-first (c .word-at2 .ensures) (omega arith) no-more))))
+    fixed-sound 8 (a .args .s .now) refl (a .pre .typed) refl (c .before .before .before .if1 .left)
+    (bit-first (c .before .before .byte-at .ensures) (word-first (c .before .word-at .ensures) (omega arith)
+    (word-first (c .word-at2 .ensures) (omega arith) no-more)))
 
 pub read-write-completion-spec : {M : Type 1} → statement M
 read-write-completion-spec = tie.close (tie.spec returns byte-at-requires word-at-requires word-at-requires-2 returns-2)

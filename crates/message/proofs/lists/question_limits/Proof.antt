@@ -1,15 +1,18 @@
+use mathlib.Core.List.{[], _∷_}
+use borrow.Author.Tests.{eq-eqb, ne-eqb}
+use Rattle.rules.specs.Messages.Parameters.{questionLimits}
+use Rattle.rules.proofs.Tests.{pick-true, pick-false}
+use Rattle.message.proofs.Shapes.{limits-are}
 use Rattle.message.proofs.lists.question_limits.Statement.{statement}
 use Rattle.message.proofs.lists.question_limits.Tie as tie
-use Rattle.message.proofs.lists.question_limits.Reads as reads
-use Rattle.message.proofs.lists.question_limits.Lts as lts
 
--- src/lists.rt:54:9
 returns : tie.Need-returns
-returns c = ?
+unfolding questionLimits
+returns c = limits-are (256 ∷ []) (pick-true _ _ (eq-eqb _ _ (c .if1 .taken)))
 
--- src/lists.rt:50:1
 returns-2 : tie.Need-returns-2
-returns-2 c = ?
+unfolding questionLimits
+returns-2 c = limits-are [] (pick-false _ _ (ne-eqb _ _ (c .if1 .left)))
 
 pub question-limits-spec : {M : Type 1} → statement M
 question-limits-spec = tie.close (tie.spec returns returns-2)

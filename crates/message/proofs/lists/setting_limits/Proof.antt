@@ -1,33 +1,53 @@
+use mathlib.Core.Path.{sym, _∙_}
+use mathlib.Core.List.{[], _∷_}
 use borrow.Author.Needs.{needs}
+use borrow.Author.Tests.{eq-eqb, ne-eqb}
+use Rattle.rules.specs.Messages.Parameters.{valueLimits}
+use Rattle.rules.proofs.Tests.{pick-true, pick-false}
+use Rattle.message.proofs.Shapes.{limits-are}
 use Rattle.message.proofs.lists.setting_limits.Statement.{statement}
 use Rattle.message.proofs.lists.setting_limits.Tie as tie
-use Rattle.message.proofs.lists.setting_limits.Reads as reads
-use Rattle.message.proofs.lists.setting_limits.Lts as lts
-use Rattle.message.proofs.lists.defined_selector.Reads as defined-selector-reads
 
--- src/lists.rt:73:9
 returns : tie.Need-returns
-returns c = ?
+unfolding valueLimits
+returns c = limits-are (256 ∷ 256 ∷ 128 ∷ []) (pick-true _ _ (eq-eqb _ _ (c .if1 .taken)))
 
--- src/lists.rt:81:9
 returns-2 : tie.Need-returns-2
-returns-2 c = ?
+unfolding valueLimits
+returns-2 c =
+    limits-are (256 ∷ 256 ∷ [])
+    (pick-false _ _ (ne-eqb _ _ (c .before .if1 .left)) ∙ pick-true _ _ (eq-eqb _ _ (c .if2 .taken)))
 
--- src/lists.rt:89:9
 returns-3 : tie.Need-returns-3
-returns-3 c = ?
+unfolding valueLimits
+returns-3 c =
+    limits-are (16 ∷ [])
+    (pick-false _ _ (ne-eqb _ _ (c .before .before .if1 .left)) ∙
+    pick-false _ _ (ne-eqb _ _ (c .before .if2 .left)) ∙
+    pick-true _ _ (eq-eqb _ _ (c .if3 .taken)))
 
--- src/lists.rt:96:8
 defined-selector-requires : tie.Need-defined-selector-requires
 defined-selector-requires c κs = search needs
 
--- src/lists.rt:97:9
 returns-4 : tie.Need-returns-4
-returns-4 c = ?
+unfolding valueLimits
+returns-4 c =
+    let b = c .before .before in
+    limits-are (2 ∷ [])
+    (pick-false _ _ (ne-eqb _ _ (b .before .before .if1 .left)) ∙
+    pick-false _ _ (ne-eqb _ _ (b .before .if2 .left)) ∙
+    pick-false _ _ (ne-eqb _ _ (b .if3 .left)) ∙
+    pick-true _ _ (sym (c .before .defined-selector .ensures) ∙ c .if4 .taken))
 
--- src/lists.rt:69:1
 returns-5 : tie.Need-returns-5
-returns-5 c = ?
+unfolding valueLimits
+returns-5 c =
+    let b = c .before .before in
+    limits-are []
+    (pick-false _ _ (ne-eqb _ _ (b .before .before .if1 .left)) ∙
+    pick-false _ _ (ne-eqb _ _ (b .before .if2 .left)) ∙
+    pick-false _ _ (ne-eqb _ _ (b .if3 .left)) ∙
+    pick-false _ _ (sym (c .before .defined-selector .ensures) ∙ c .if4 .left))
 
 pub setting-limits-spec : {M : Type 1} → statement M
 setting-limits-spec =

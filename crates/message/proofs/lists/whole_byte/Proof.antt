@@ -1,15 +1,17 @@
+use mathlib.Core.Path.{sym}
+use Prim.Native.Nat.{ℕ}
+use native.Mathlib.Omega.{arith}
+use lib.ListN.{replicate, length-replicate, getD-replicate, List·getD-eq-default}
 use Rattle.message.proofs.lists.whole_byte.Statement.{statement}
 use Rattle.message.proofs.lists.whole_byte.Tie as tie
-use Rattle.message.proofs.lists.whole_byte.Reads as reads
-use Rattle.message.proofs.lists.whole_byte.Lts as lts
 
--- src/lists.rt:31:9
 returns : tie.Need-returns
-returns c = ?
+returns c = sym (getD-replicate _ _ 256 1 (c .if1 .taken))
 
--- src/lists.rt:27:1
 returns-2 : tie.Need-returns-2
-returns-2 c = ?
+returns-2 c =
+    let n = length-replicate {A = ℕ} (c .before .args .count) 256 in
+    sym (List·getD-eq-default (replicate (c .before .args .count) 256) 1 {n = c .before .args .at} (omega arith))
 
 pub whole-byte-spec : {M : Type 1} → statement M
 whole-byte-spec = tie.close (tie.spec returns returns-2)

@@ -1,0 +1,88 @@
+-- Start Read: its fields, made of what the code reads, and its tail.
+use mathlib.Core.Path.{_≡_, refl, sym, ap, ap₂, _∙_}
+use Prim.Native.Nat.{ℕ, _+_, _-_}
+use mathlib.Core.Bool.{_&&_}
+use mathlib.Core.List.{List, [], _∷_, _++_}
+use lib.Dec.{leb, ltb}
+use lib.ListN.{length, take, drop, length-drop}
+use lib.Seq.{drop-drop}
+use Rattle.rules.specs.Messages.Layout.{word, byteAt, sizeOf, numberAt}
+use Rattle.rules.specs.Messages.Forms.{setAndText, forms, formOf}
+use Rattle.rules.specs.Messages.Codec.{behindHead, wholeTail, setIn, parametersIn, textIn}
+use Rattle.message.specs.declared.Part.{Part}
+use Rattle.message.specs.declared.StartReadFields.{StartReadFields}
+use Rattle.message.specs.Found.{RestFrom, FlagsAre, StartReadIs, partOf, flagWidths, startReadIn}
+use Rattle.message.proofs.Numbers.{byte-behind}
+use Rattle.message.proofs.Heads.{Head, flags-first}
+use Rattle.message.proofs.Reading.{fields-are}
+
+-- the flags and parts of one, with these numbers
+abbrev pub withNumbers : ℕ → ℕ → ℕ → ℕ → ℕ → ℕ → StartReadFields → StartReadFields
+withNumbers max end time prompt display low f =
+    record {
+      underflow = f .underflow;
+      clears = f .clears;
+      formats = f .formats;
+      vertical = f .vertical;
+      continues = f .continues;
+      raises = f .raises;
+      disables = f .disables;
+      silent = f .silent;
+      «terminator_echo» = f .«terminator_echo»;
+      timed = f .timed;
+      «set_choice» = f .«set_choice»;
+      escapes = f .escapes;
+      «max_length» = max;
+      «end_of_data» = end;
+      timeout = time;
+      «end_of_prompt» = prompt;
+      «start_of_display» = display;
+      «low_water» = low;
+      set = f .set;
+      text = f .text;
+    }
+
+module _ (s : List ℕ) {count : ℕ} (counted : count ≡ byteAt s 16) where
+  abbrev rest : List ℕ
+  rest = drop 16 s
+
+  count-behind : byteAt rest 0 ≡ count
+  count-behind = byte-behind s 16 ∙ sym counted
+
+  pub whole-set : wholeTail (formOf 2 .tail) (behindHead (formOf 2) s) ≡ ltb count (length s - 16) && leb count 32
+  unfolding formOf forms sizeOf behindHead wholeTail
+  whole-set = ap₂ (λ n l. ltb n l && leb n 32) count-behind (length-drop 16 s)
+
+  module _ {text : Part} (behind : RestFrom (17 + count) s text) where
+    set-behind : take count (drop 17 s) ≡ setIn setAndText rest
+    unfolding setIn
+    set-behind = ap₂ take (sym count-behind) (sym (drop-drop 1 16 s))
+
+    text-behind : partOf s text ≡ textIn setAndText rest
+    unfolding textIn
+    text-behind = behind .same ∙ sym (drop-drop count 17 s) ∙ ap₂ drop (sym count-behind) (sym (drop-drop 1 16 s))
+
+    pub start-read-is : byteAt s 0 ≡ 2 → {f : StartReadFields} → FlagsAre s (record { start = 17; len = count }) text f →
+        {max end time prompt display low : ℕ} →
+        Head (word ∷ word ∷ word ∷ word ∷ word ∷ word ∷ []) 4 s (max ∷ end ∷ time ∷ prompt ∷ display ∷ low ∷ []) →
+        StartReadIs s (withNumbers max end time prompt display low f)
+    unfolding startReadIn partOf formOf forms sizeOf behindHead setIn parametersIn textIn
+    start-read-is k {f} are {max} {end} {time} {prompt} {display} {low} words =
+        let flags = flags-first 3 flagWidths (numberAt 3 1 s) refl words in
+        let set = ap (partOf s) (are .set-kept) ∙ set-behind in
+        let text = ap (partOf s) (are .text-kept) ∙ text-behind in
+        let size = length-drop (17 + count) s in
+        record {
+          fields =
+              (λ i. record {
+                kind = 2;
+                numbers = are .flags i ++ max ∷ end ∷ time ∷ prompt ∷ display ∷ low ∷ [];
+                set = set i;
+                parameters = [];
+                text = text i;
+              }) ∙
+              fields-are 2 s k flags setAndText refl;
+          long =
+              ap (λ p. length (partOf s p)) (are .text-kept) ∙ ap length (behind .same) ∙ size ∙ sym (behind .long) ∙
+              ap (λ (p : Part). p .len) (sym (are .text-kept));
+        }

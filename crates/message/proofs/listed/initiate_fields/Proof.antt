@@ -1,0 +1,42 @@
+use mathlib.Core.Path.{refl}
+use native.Mathlib.Omega.{arith}
+use borrow.Author.Needs.{needs}
+use Rattle.rules.specs.Messages.Layout.{sizeOf}
+use Rattle.rules.specs.Messages.Parameters.{initiation}
+use Rattle.rules.specs.Messages.Forms.{forms, formOf}
+use Rattle.message.specs.Found.{partOf, heldIn}
+use Rattle.message.proofs.Heads.{none-first, byte-first, bytes-run}
+use Rattle.message.proofs.Reading.{list-fields}
+use Rattle.message.proofs.listed.initiate_fields.Statement.{statement}
+use Rattle.message.proofs.listed.initiate_fields.Tie as tie
+
+byte-at-requires : tie.Need-byte-at-requires
+byte-at-requires c κs = search needs
+
+byte-at-requires-2 : tie.Need-byte-at-requires-2
+byte-at-requires-2 c κs = search needs
+
+byte-at-requires-3 : tie.Need-byte-at-requires-3
+byte-at-requires-3 c κs = search needs
+
+rest-from-requires : tie.Need-rest-from-requires
+rest-from-requires c κs = search needs
+
+returns : tie.Need-returns
+unfolding partOf heldIn formOf forms sizeOf
+returns c =
+    let b = c .before .before .before .before in
+    let a = b .before in
+    let s = a .args .s .now in
+    list-fields 1 s (a .pre .0 .typed)
+    (none-first
+    (byte-first (c .before .before .before .byte-at .ensures) (omega arith)
+    (byte-first (c .before .before .byte-at2 .ensures) (omega arith)
+    (byte-first (c .before .byte-at3 .ensures) (omega arith)
+    (bytes-run 8 5 s (λ i. omega (arith, b .shared-slice-known .given i)) (omega arith))))))
+    (c .rest-from .ensures) initiation refl
+
+pub initiate-fields-spec : {M : Type 1} → statement M
+initiate-fields-spec =
+    tie.close
+    (tie.spec byte-at-requires byte-at-requires-2 byte-at-requires-3 rest-from-requires returns)

@@ -1,0 +1,19 @@
+use borrow.Author.Needs.{needs}
+use Rattle.rules.specs.Numbers.{inputSize}
+use Rattle.rules.specs.StartRead.{soundStartRead}
+use Rattle.message.specs.Found.{startReadIn}
+use Rattle.message.proofs.start_read.start_read_test.Statement.{statement}
+use Rattle.message.proofs.start_read.start_read_test.Tie as tie
+
+cast-largest : tie.Need-cast-largest
+cast-largest c = search needs
+
+less-requires : tie.Need-less-requires
+less-requires c κs = search needs
+
+returns : tie.Need-returns
+unfolding soundStartRead startReadIn inputSize
+returns c = λ s e. rw (e, c .before .before .before .before .before .before .before .before .before .before .less .ensures)
+
+pub start-read-test-spec : {M : Type 1} → statement M
+start-read-test-spec = tie.close (tie.spec cast-largest less-requires returns)

@@ -1,0 +1,74 @@
+// Messages that end in a parameter list.
+ghost use mathlib.Core.Path.{_≡_};
+ghost use Prim.Native.Nat.{_≤_};
+ghost use lib.ListN.{length};
+ghost use Rattle.rules.specs.Messages.Forms.{formOf};
+ghost use Rattle.rules.specs.Messages.Codec.{fieldsAs, message};
+ghost use Rattle.message.specs.declared.Message.the-variants as variants;
+ghost use Rattle.message.specs.Found.{IsType, heldIn, foundIn, readAs};
+use crate::Found;
+use crate::InitiateFields;
+use crate::Message;
+use crate::Part;
+use crate::bytes::byte_at;
+use crate::lists::whole_list;
+use crate::parts::rest_from;
+
+fn initiate_fields(s: &[u8]) -> InitiateFields
+    requires { ⌜ IsType 1 (now s) × (13 ≤ length (now s)) ⌝ }
+    ensures { λ r. ⌜ heldIn (now (s .entry)) (variants.Initiate r) ≡ message (fieldsAs (formOf 1) (now (s .entry))) ⌝ }
+{
+    let version = byte_at(s, 2);
+    let eco = byte_at(s, 3);
+    let modification = byte_at(s, 4);
+    let parameters = rest_from(s, 13);
+    InitiateFields {
+        version,
+        eco,
+        modification,
+        revision: Part { start: 5, len: 8 },
+        parameters,
+    }
+}
+
+pub fn read_initiate(s: &[u8]) -> Found
+    requires { ⌜ IsType 1 (now s) ⌝ }
+    ensures { λ r. ⌜ foundIn (now (s .entry)) r ≡ readAs 1 (now (s .entry)) ⌝ }
+{
+    if s.len() < 13 {
+        return Found::Refused(5);
+    }
+    if !whole_list(1, s, 13) {
+        return Found::Refused(5);
+    }
+    let f = initiate_fields(s);
+    Found::Message(Message::Initiate(f))
+}
+
+pub fn read_read_characteristics(s: &[u8]) -> Found
+    requires { ⌜ IsType 10 (now s) ⌝ }
+    ensures { λ r. ⌜ foundIn (now (s .entry)) r ≡ readAs 10 (now (s .entry)) ⌝ }
+{
+    if s.len() < 2 {
+        return Found::Refused(5);
+    }
+    if !whole_list(10, s, 2) {
+        return Found::Refused(5);
+    }
+    let parameters = rest_from(s, 2);
+    Found::Message(Message::ReadCharacteristics { parameters })
+}
+
+pub fn read_characteristics(s: &[u8]) -> Found
+    requires { ⌜ IsType 11 (now s) ⌝ }
+    ensures { λ r. ⌜ foundIn (now (s .entry)) r ≡ readAs 11 (now (s .entry)) ⌝ }
+{
+    if s.len() < 2 {
+        return Found::Refused(5);
+    }
+    if !whole_list(11, s, 2) {
+        return Found::Refused(5);
+    }
+    let parameters = rest_from(s, 2);
+    Found::Message(Message::Characteristics { parameters })
+}
