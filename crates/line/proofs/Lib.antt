@@ -2,3 +2,5 @@
 pub mod Works
 pub mod Keys
 pub mod Inputs
+pub mod Sizes
+pub mod Arrivals
