@@ -11,5 +11,6 @@ run:
 	@$(CARGO) run $(TESTS) --bin second < tests/scripts/case-b.script
 
 bench:
+	@mkdir -p target
 	@$(CARGO) run $(TESTS) --bin generate -- 1 1000000 > target/bench.script
 	@time $(CARGO) run $(TESTS) --bin second < target/bench.script > target/bench.answers

@@ -9,10 +9,10 @@ use Rattle.rules.proofs.Tests.{pick-true, pick-false}
 use Rattle.rules.specs.State.{State, codes, withTerminal, withScreen, withRead}
 use Rattle.rules.specs.Turns.{Fate, Turn, Part, still, writes, tells, changes, behind, _then_, only}
 use Rattle.rules.specs.Calls.{messageBytes}
-use Rattle.screen.specs.Area.{puts, spot}
+use Rattle.rules.specs.Area.{puts, spot}
 use Rattle.screen.specs.declared.Shown.{Shown}
 use Rattle.screen.specs.View.{Writes}
-use Rattle.screen.proofs.Areas.{puts-append}
+use Rattle.rules.proofs.Areas.{puts-append}
 use Rattle.line.specs.declared.Work.{Work}
 use Rattle.line.specs.View.{view, terminalOf}
 use Rattle.line.specs.Bounded.{Counted}

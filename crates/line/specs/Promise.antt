@@ -6,7 +6,7 @@ use lib.ListN.{length}
 use Rattle.rules.specs.State.{codes}
 use Rattle.rules.specs.Turns.{Part}
 use Rattle.rules.specs.Calls.{messageBytes}
-use Rattle.screen.specs.Area.{puts, spot}
+use Rattle.rules.specs.Area.{puts, spot}
 use Rattle.line.specs.declared.Work.{Work}
 use Rattle.line.specs.View.{view}
 use Rattle.line.specs.Bounded.{Counted}

@@ -11,3 +11,4 @@ pub mod Sizes
 pub mod Bounds
 pub mod Erasure
 pub mod TwoRuns
+pub mod Areas

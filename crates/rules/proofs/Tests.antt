@@ -2,12 +2,12 @@
 use mathlib.Core.Path.{_≡_, refl, sym, ap, _∙_}
 use Prim.Native.Nat.{ℕ, zero, suc, _≤_, _<_}
 use mathlib.Core.Bool.{Bool, true, false, not, _&&_, _||_, false≢true, and-assoc, or-assoc, or-true}
-use mathlib.Core.List.{List, [], _∷_, _++_, map}
-use lib.Dec.{leb}
+use mathlib.Core.List.{List, [], _∷_, _++_, map, List·Memᴰ, List·Memᴰ·head, List·Memᴰ·tail}
+use lib.Dec.{leb, eqb}
 use lib.ListN.{length, getD, set, take, drop, take-append-drop}
 use native.Mathlib.Omega.{arith}
-use borrow.Author.Tests.{leb-true, le-leb}
-use Rattle.rules.specs.Choice.{pick, within, isEmpty, all, any, joined}
+use borrow.Author.Tests.{leb-true, le-leb, eqb-true, eq-eqb}
+use Rattle.rules.specs.Choice.{pick, within, isEmpty, all, any, joined, same}
 
 -- The choice.
 module _ {A : Type 0} where
@@ -25,11 +25,15 @@ module _ {A : Type 0} where
   pick-case P true f g = f refl
   pick-case P false f g = g refl
 
-  -- what relates both relates the choices by one test
-  pub pick-both : {B : Type 0} (R : A → B → Type 0) (t : Bool) {a b : A} {c d : B} → R a c → R b d → R (pick t a b) (pick t c d)
+  -- what relates both relates the choices by one test, each under it
+  pub pick-cases : {B : Type 0} (R : A → B → Type 0) (t : Bool) {a b : A} {c d : B} → (t ≡ true → R a c) → (t ≡ false → R b d) →
+      R (pick t a b) (pick t c d)
   unfolding pick
-  pick-both R true p q = p
-  pick-both R false p q = q
+  pick-cases R true p q = p refl
+  pick-cases R false p q = q refl
+
+  pub pick-both : {B : Type 0} (R : A → B → Type 0) (t : Bool) {a b : A} {c d : B} → R a c → R b d → R (pick t a b) (pick t c d)
+  pick-both R t p q = pick-cases R t (λ e. p) (λ e. q)
 
   -- choices by one test, of equal things where it holds
   pub pick-same : (t : Bool) {a a′ : A} (b : A) → (t ≡ true → a ≡ a′) → pick t a b ≡ pick t a′ b
@@ -73,6 +77,10 @@ pub or-case : (P : Type 0) (a b : Bool) → (a ≡ true → P) → (b ≡ true �
 or-case P true b f g e = f refl
 or-case P false b f g e = g e
 
+pub or-none : (a b : Bool) → a || b ≡ false → (a ≡ false) × (b ≡ false)
+or-none true b e = absurd (false≢true (sym e))
+or-none false b e = (refl, e)
+
 -- Low to high.
 pub within-bounds : (low high n : ℕ) → within low high n ≡ true → (low ≤ n) × (n ≤ high)
 unfolding within
@@ -83,6 +91,21 @@ within-bounds low high n e =
 pub within-true : (low high n : ℕ) → low ≤ n → n ≤ high → within low high n ≡ true
 unfolding within
 within-true low high n p q = both (le-leb low n p) (le-leb n high q)
+
+-- Equal lists.
+pub same-equal : (xs ys : List ℕ) → same xs ys ≡ true → xs ≡ ys
+unfolding same
+same-equal [] [] e = refl
+same-equal [] (y ∷ ys) e = absurd (false≢true e)
+same-equal (x ∷ xs) [] e = absurd (false≢true e)
+same-equal (x ∷ xs) (y ∷ ys) e =
+    let h = halves (eqb x y) (same xs ys) e in
+    λ i. eqb-true x y (h .0) i ∷ same-equal xs ys (h .1) i
+
+pub same-itself : (xs : List ℕ) → same xs xs ≡ true
+unfolding same
+same-itself [] = refl
+same-itself (x ∷ xs) = both (eq-eqb x x refl) (same-itself xs)
 
 -- Lists of tests.
 module _ {A : Type 0} where
@@ -105,18 +128,27 @@ module _ {A : Type 0} where
     all-append [] ys = refl
     all-append (x ∷ xs) ys = ap (λ b. test x && b) (all-append xs ys) ∙ sym (and-assoc (test x) (all test xs) (all test ys))
 
+    pub all-behind : (xs ys : List A) → all test xs ≡ true → all test ys ≡ true → all test (xs ++ ys) ≡ true
+    all-behind xs ys p q = all-append xs ys ∙ both p q
+
     pub all-snoc : (xs : List A) (x : A) → all test xs ≡ true → test x ≡ true → all test (xs ++ x ∷ []) ≡ true
     unfolding all
-    all-snoc xs x p q = all-append xs (x ∷ []) ∙ both p (both q refl)
+    all-snoc xs x p q = all-behind xs (x ∷ []) p (both q refl)
+
+    pub all-halves : (xs ys : List A) → all test (xs ++ ys) ≡ true → (all test xs ≡ true) × (all test ys ≡ true)
+    all-halves xs ys e = halves (all test xs) (all test ys) (rw all-append at e)
 
     pub all-split : (n : ℕ) (xs : List A) → all test xs ≡ true → (all test (take n xs) ≡ true) × (all test (drop n xs) ≡ true)
-    all-split n xs e =
-        halves (all test (take n xs)) (all test (drop n xs)) (rw (← take-append-drop n xs, all-append) at e)
+    all-split n xs e = all-halves (take n xs) (drop n xs) (rw (← take-append-drop n xs) at e)
 
     pub all-joined : (xss : List (List A)) → all test (joined xss) ≡ all (all test) xss
     unfolding all joined
     all-joined [] = refl
     all-joined (xs ∷ xss) = all-append xs (joined xss) ∙ ap (λ b. all test xs && b) (all-joined xss)
+
+    pub all-member : {x : A} {xs : List A} → List·Memᴰ x xs → all test xs ≡ true → test x ≡ true
+    all-member (List·Memᴰ·head {x = y} {xs = ys} q) e = ap test q ∙ all-cons y ys e .0
+    all-member (List·Memᴰ·tail {x = y} {xs = ys} m) e = all-member m (all-cons y ys e .1)
 
     -- at any place, and past the end if the default passes
     pub all-at : (xs : List A) (d : A) → all test xs ≡ true → test d ≡ true → (k : ℕ) → test (getD xs k d) ≡ true
@@ -179,6 +211,12 @@ module _ {A : Type 0} where
   unfolding all
   all-map p q f h [] e = refl
   all-map p q f h (x ∷ xs) e = let t = all-cons p x xs e in both (h x (t .0)) (all-map p q f h xs (t .1))
+
+  pub all-unmap : {B : Type 0} (p : A → Bool) (q : B → Bool) (f : A → B) → ((x : A) → q (f x) ≡ true → p x ≡ true) →
+      (xs : List A) → all q (map f xs) ≡ true → all p xs ≡ true
+  unfolding all
+  all-unmap p q f h [] e = refl
+  all-unmap p q f h (x ∷ xs) e = let t = halves (q (f x)) (all q (map f xs)) e in both (h x (t .0)) (all-unmap p q f h xs (t .1))
 
   pub all-both : (p q : A → Bool) (xs : List A) → all p xs ≡ true → all q xs ≡ true → all (λ x. p x && q x) xs ≡ true
   unfolding all

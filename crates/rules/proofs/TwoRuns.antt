@@ -4,7 +4,15 @@ pub mod Twins
 pub mod Parts
 pub mod Fates
 pub mod Reads
+pub mod Bands
 pub mod Arrivals
 pub mod Words
 pub mod Steps
 pub mod Answers
+pub mod Pairing
+pub mod Sides
+pub mod Carried
+pub mod Looks
+pub mod Runs
+pub mod Claim
+pub mod Shown

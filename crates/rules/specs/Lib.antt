@@ -13,6 +13,7 @@ pub mod Steps
 pub mod Characteristics
 pub mod Host
 pub mod Calls
+pub mod Area
 pub mod Bounds
 pub mod Bench
 pub mod TwoRuns

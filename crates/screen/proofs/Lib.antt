@@ -1,7 +1,6 @@
--- Laws of areas, screens and echoes. Crates above cite Areas, Echoes, Written and Marks.
-pub mod Tops
-pub mod Cases
-pub mod Areas
+-- Laws of areas, screens and echoes. Crates above cite the public ones.
+mod Tops
+mod Cases
 pub mod Echoes
 pub mod Written
 pub mod Marks

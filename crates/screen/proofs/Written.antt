@@ -7,11 +7,11 @@ use borrow.Author.Tests.{lt-ltb, le-ltb}
 use Rattle.rules.specs.Calls.{areaAfter}
 use Rattle.rules.specs.Screen.{shown, shownAll, columnAfterAll}
 use Rattle.rules.proofs.Tests.{pick-true, pick-false}
-use Rattle.screen.specs.Area.{put, puts, spot}
+use Rattle.rules.specs.Area.{put, puts, spot}
 use Rattle.screen.specs.View.{Writes, view}
 use Rattle.screen.specs.declared.Screen.{Screen}
 use Rattle.screen.specs.declared.Shown.{Shown}
-use Rattle.screen.proofs.Areas.{puts-append, puts-front}
+use Rattle.rules.proofs.Areas.{puts-append, puts-front}
 use Rattle.screen.proofs.Echoes.{shownAll-append, shownAll-column}
 
 module _ {before : List ℕ} {at : ℕ} {s : Screen} where

@@ -7,7 +7,7 @@ use Rattle.rules.specs.Screen as rules
 use Rattle.rules.specs.Screen.{shownAll}
 use Rattle.screen.specs.declared.Screen.{Screen}
 use Rattle.screen.specs.declared.Shown.{Shown}
-use Rattle.screen.specs.Area.{puts, spot}
+use Rattle.rules.specs.Area.{puts, spot}
 
 abbrev pub view : Screen → rules.Screen
 view s = record { column = s .column; line = s .line; afterCR = s .«after_cr» }
@@ -18,6 +18,6 @@ pub record Writes (bytes : List ℕ) (before : List ℕ) (at : ℕ) (s : Screen)
   pub screen : view (r .screen) ≡ shownAll (view s) bytes
   pub same : length after ≡ length before
 
--- as far as a usize counts
+-- a count, as far as a usize goes
 abbrev pub counted : ℕ → ℕ
 counted n = min n 0xFFFF_FFFF_FFFF_FFFF

@@ -1,5 +1,5 @@
-// What the terminal gets: bytes into its area, and where the cursor stands then. Every function takes any input and promises the bytes and the
-// screen of crates/rules/specs/Screen.antt.
+// What the terminal gets: bytes into its area, and where the cursor stands then. Every function takes any input, and promises the
+// bytes and the screen of the rules.
 pub mod columns;
 pub mod echo;
 pub mod put;

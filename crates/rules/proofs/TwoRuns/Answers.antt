@@ -1,25 +1,28 @@
 -- Agreement of two runs: host messages, and a call's answer.
 use Prim.Native.Nat.{ℕ}
 use mathlib.Core.Path.{_≡_, refl}
-use mathlib.Core.Bool.{Bool, true}
+use mathlib.Core.Bool.{Bool, true, false}
 use mathlib.Core.List.{List, [], _∷_, map}
 use lib.ListN.{drop}
 use Rattle.rules.specs.Choice.{all}
 use Rattle.rules.specs.Messages.Forms.{Message}
 use Rattle.rules.specs.Messages.Codec.{Outcome, refused, sound}
-use Rattle.rules.specs.State.{Reading, State, fresh}
-use Rattle.rules.specs.Turns.{Part}
+use Rattle.rules.specs.State.{Characters, Reading, State, fresh}
+use Rattle.rules.specs.Turns.{Fate, Part}
+use Rattle.rules.specs.Arrival.{arrives}
 use Rattle.rules.specs.TwoRuns.{preloaded}
 use Rattle.rules.specs.ReadData.{checksInput}
 use Rattle.rules.specs.StartRead.{endOfPrompt}
 use Rattle.rules.specs.StartRead.Acceptance.{termsOf, readingOf, remembersSet, begins, startsRead}
-use Rattle.rules.specs.Host.{initiates, writesOut, reports, setsCharacteristics, obeys}
+use Rattle.rules.specs.Characteristics.{report}
+use Rattle.rules.specs.Host.{ourInitiate, initiates, completion, writesOut, reports, setsCharacteristics, obeys}
 use Rattle.rules.specs.Calls.{Event, key, step, tick, message, Call, Answer, refuses, does, considered, isRoomy, hears, answers, answer}
 use Rattle.rules.proofs.Tests.{pick-both}
 use Rattle.rules.proofs.TwoRuns.Twins.{Twin, both, isBoth, code₁, code₂, first-chars, second-chars, LevelReading, Level}
-use Rattle.rules.proofs.TwoRuns.Twins.{Spared, Agree, Agrees, Parts, Agreeing}
+use Rattle.rules.proofs.TwoRuns.Twins.{Spared, isGuarded, Agree, Parts, Agreeing}
 use Rattle.rules.proofs.TwoRuns.Parts.{agrees-terminal, agrees-host, agrees-then, agrees-still, agrees-writes, agrees-sends, agrees-pick, agrees-only}
 use Rattle.rules.proofs.TwoRuns.Reads.{completes-agrees, unreads-agrees, displays-agrees}
+use Rattle.rules.proofs.TwoRuns.Bands.{Passed, Begun}
 use Rattle.rules.proofs.TwoRuns.Arrivals.{emptiesTyped-agrees, clears-agrees, arrives-agrees}
 use Rattle.rules.proofs.TwoRuns.Steps.{steps-agrees, ticks-agrees}
 
@@ -58,27 +61,27 @@ module _ {changed : ℕ → Bool} where
   -- The other messages.
 
   initiates-agrees : Agreeing {changed = changed} (λ chars. initiates)
-  unfolding initiates
-  initiates-agrees = agrees-then (agrees-host _) (agrees-sends refl)
+  unfolding initiates ourInitiate isGuarded
+  initiates-agrees = agrees-then (agrees-host _) (agrees-sends refl refl)
 
   writesOut-agrees : (m : Message ℕ) → Agreeing {changed = changed} (λ chars. writesOut m)
-  unfolding writesOut
+  unfolding writesOut completion isGuarded
   writesOut-agrees m before =
       agrees-then (agrees-only refl (agrees-terminal _))
       (agrees-then (λ s. agrees-only refl (agrees-writes refl) s)
-      (agrees-only refl (λ s. agrees-sends refl s))) before
+      (agrees-only refl (λ s. agrees-sends refl refl s))) before
 
   reports-agrees : (m : Message ℕ) → Agreeing {changed = changed} (λ chars. reports m)
-  unfolding reports
-  reports-agrees m s = agrees-sends refl s
+  unfolding reports report isGuarded
+  reports-agrees m s = agrees-sends refl refl s
 
   setsCharacteristics-agrees : (m : Message ℕ) → Agreeing {changed = changed} (λ chars. setsCharacteristics m)
   unfolding setsCharacteristics
   setsCharacteristics-agrees m = agrees-host _
 
   checksInput-agrees : Agreeing {changed = changed} (λ chars. checksInput)
-  unfolding checksInput
-  checksInput-agrees s = agrees-sends refl s
+  unfolding checksInput isGuarded
+  checksInput-agrees s = agrees-sends refl refl s
 
   obeys-agrees : (m : Message ℕ) → Agreeing {changed = changed} (λ chars. obeys chars m)
   unfolding obeys
@@ -92,11 +95,21 @@ module _ {changed : ℕ → Bool} where
       (agrees-pick refl (setsCharacteristics-agrees m)
       checksInput-agrees))))))
 
-  -- A call.
+-- What is supposed of a key's arrival: a test of each of its fates, in one run.
+module _ {changed : ℕ → Bool} (arrival : (Twin changed → ℕ) → Fate (Twin changed) → Bool) where
+  -- rule 2 then passes a changed key over
+  abbrev pub Heeded : Type 0
+  Heeded = (chars : Characters (Twin changed)) (c : Twin changed) (s : State (Twin changed)) → isBoth c ≡ false → Begun s →
+      all (arrival (chars .code)) (arrives chars c s .fates) ≡ true → Passed s (chars .code c)
+
+  -- all that is supposed of a run's fates
+  pub record Supposed (code : Twin changed → ℕ) (fs : List (Fate (Twin changed))) : Type 0 where
+    pub arrived : all (arrival code) fs ≡ true
+    pub spared : Spared code fs
 
   record SameAnswer (a b : Answer (Twin changed)) : Type 0 where
     number : a .number ≡ b .number
-    turn : Agrees (a .turn) (b .turn)
+    turn : Supposed code₁ (a .turn .fates) → Supposed code₂ (b .turn .fates) → Agree (a .turn) (b .turn)
 
   -- from any level state
   abbrev SameAnswers : (State (Twin changed) → Answer (Twin changed)) → (State (Twin changed) → Answer (Twin changed)) → Type 0
@@ -104,30 +117,44 @@ module _ {changed : ℕ → Bool} where
 
   does-same : {f g : Part (Twin changed)} → Parts f g → SameAnswers (does f) (does g)
   unfolding does
-  does-same p s l = record { number = refl; turn = p s l }
+  does-same p s l = record { number = refl; turn = λ x y. p s l .agreed (x .spared) (y .spared) }
 
   refuses-same : (n : ℕ) → SameAnswers (refuses n) (refuses n)
   unfolding refuses
-  refuses-same n s l = record { number = refl; turn = agrees-still s l }
+  refuses-same n s l = record { number = refl; turn = λ x y. agrees-still s l .agreed (x .spared) (y .spared) }
 
   hears-same : (o : Outcome (Message ℕ)) → SameAnswers (hears first-chars o) (hears second-chars o)
   unfolding hears
   hears-same (refused n) = refuses-same n
   hears-same (sound m) = does-same (obeys-agrees m)
 
-  answers-same : (e : Event (Twin changed)) → SameAnswers (answers first-chars e) (answers second-chars e)
-  unfolding answers
-  answers-same (key c) s l = does-same (arrives-agrees c) s l
-  answers-same step s l = does-same steps-agrees s l
-  answers-same tick s l = does-same ticks-agrees s l
-  answers-same (message bytes) s l = hears-same (considered s bytes) s l
+  key-same : Heeded → (c : Twin changed) → SameAnswers (does (arrives first-chars c)) (does (arrives second-chars c))
+  unfolding does
+  key-same heeded c s l =
+      record {
+        number = refl;
+        turn = λ x y.
+            arrives-agrees c s
+            (record {
+              first = λ a b. heeded first-chars c s a b (x .arrived);
+              second = λ a b. heeded second-chars c s a b (y .arrived);
+            })
+            l .agreed (x .spared) (y .spared);
+      }
 
-  pub agree-answer : (c : Call (Twin changed)) (s : State (Twin changed)) → Level s →
-      Spared code₁ (answer first-chars c s .turn .fates) →
-      Spared code₂ (answer second-chars c s .turn .fates) →
+  answers-same : Heeded → (e : Event (Twin changed)) → SameAnswers (answers first-chars e) (answers second-chars e)
+  unfolding answers
+  answers-same heeded (key c) s l = key-same heeded c s l
+  answers-same heeded step s l = does-same steps-agrees s l
+  answers-same heeded tick s l = does-same ticks-agrees s l
+  answers-same heeded (message bytes) s l = hears-same (considered s bytes) s l
+
+  pub agree-answer : Heeded → (c : Call (Twin changed)) (s : State (Twin changed)) → Level s →
+      Supposed code₁ (answer first-chars c s .turn .fates) →
+      Supposed code₂ (answer second-chars c s .turn .fates) →
       (answer first-chars c s .number ≡ answer second-chars c s .number) ×
       Agree (answer first-chars c s .turn) (answer second-chars c s .turn)
   unfolding answer
-  agree-answer c s l x y =
-      let a = pick-both SameAnswers (isRoomy c) (answers-same (c .event)) (refuses-same _) s l in
-      (a .number, a .turn .agreed x y)
+  agree-answer heeded c s l x y =
+      let a = pick-both SameAnswers (isRoomy c) (answers-same heeded (c .event)) (refuses-same _) s l in
+      (a .number, a .turn x y)

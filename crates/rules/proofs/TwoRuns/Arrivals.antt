@@ -1,23 +1,23 @@
 -- Agreement of two runs: a key arrives, and the clear rule.
 use Prim.Native.Nat.{ℕ}
-use mathlib.Core.Path.{_≡_, refl, sym, ap, _∙_}
-use mathlib.Core.Bool.{Bool, true, false, false≢true}
+use mathlib.Core.Path.{_≡_, refl, ap}
+use mathlib.Core.Bool.{Bool, true, false}
 use mathlib.Core.List.{[], _∷_}
 use mathlib.Core.Option.{Option, none, some}
-use lib.ListN.{getD}
 use Rattle.rules.specs.Messages.Forms as forms
 use Rattle.rules.specs.Messages.Forms.{plain}
-use Rattle.rules.specs.State.{Characters, Reading}
-use Rattle.rules.specs.Turns.{outOfBand, cleared}
+use Rattle.rules.specs.State.{Reading, State}
+use Rattle.rules.specs.Turns.{cleared}
 use Rattle.rules.specs.Arrival.{isHello, isImmediateClear, idleAgain, keeps, drops, stores, storesQuoted, quotes, flipsDiscard}
 use Rattle.rules.specs.Arrival.{emptiesTyped, clearsUnseen, clearsSeen, clears, clearsBy}
 use Rattle.rules.specs.Arrival.{sendsOutOfBand, endsOutOfBand, clearsAtOnce, controlled, ruled, arrives}
+use Rattle.rules.proofs.Tests.{pick-cases}
 use Rattle.rules.proofs.TwoRuns.Printing.{printing}
-use Rattle.rules.proofs.TwoRuns.Twins.{Twin, isBoth, first-chars, second-chars, same-code}
-use Rattle.rules.proofs.TwoRuns.Twins.{LevelRead, Agreeing}
-use Rattle.rules.proofs.TwoRuns.Parts.{level-emptied, agrees-terminal, agrees-then, agrees-still, agrees-changes, agrees-writes, agrees-sends, told}
-use Rattle.rules.proofs.TwoRuns.Parts.{agrees-pick, by-cell, by-code, Barred, barred-tells, barred-then}
-use Rattle.rules.proofs.TwoRuns.Fates.{band-both}
+use Rattle.rules.proofs.TwoRuns.Twins.{Twin, isBoth, code₁, code₂, first-chars, second-chars, same-code}
+use Rattle.rules.proofs.TwoRuns.Twins.{LevelRead, Level, isGuarded, PartsAt, Agreeing}
+use Rattle.rules.proofs.TwoRuns.Parts.{level-emptied, agrees-terminal, agrees-then, agrees-still, agrees-changes, agrees-writes, agrees-sends, told-at, told}
+use Rattle.rules.proofs.TwoRuns.Parts.{agrees-pick, by-test, by-code}
+use Rattle.rules.proofs.TwoRuns.Bands.{attributeAt, Passed, Begun}
 use Rattle.rules.proofs.TwoRuns.Reads.{completes-agrees, deletesUnseen-agrees, deletes-agrees}
 
 module _ {changed : ℕ → Bool} where
@@ -51,8 +51,8 @@ module _ {changed : ℕ → Bool} where
   quotes-agrees c = told _ _ (λ x y. agrees-terminal _)
 
   flipsDiscard-agrees : (c : Twin changed) → Agreeing (λ chars. flipsDiscard c)
-  unfolding flipsDiscard
-  flipsDiscard-agrees c = told _ _ (λ x y. agrees-then (agrees-terminal _) (λ s. agrees-sends refl s))
+  unfolding flipsDiscard isGuarded
+  flipsDiscard-agrees c = told _ _ (λ x y. agrees-then (agrees-terminal _) (λ s. agrees-sends refl refl s))
 
   -- The clear rule.
 
@@ -81,9 +81,9 @@ module _ {changed : ℕ → Bool} where
   -- Out of band: never a changed key.
 
   sendsOutOfBand-agrees : (c : Twin changed) → isBoth c ≡ true → Agreeing (λ chars. sendsOutOfBand chars c)
-  unfolding sendsOutOfBand
+  unfolding sendsOutOfBand isGuarded
   sendsOutOfBand-agrees c b =
-      told _ _ (λ x y. agrees-sends (ap (λ n. plain forms.outOfBand (0 ∷ n ∷ [])) (same-code c b)))
+      told _ _ (λ x y. agrees-sends (ap (λ n. plain forms.outOfBand (0 ∷ n ∷ [])) (same-code c b)) refl)
 
   endsOutOfBand-agrees : (o : Option (Reading (Twin changed))) → Agreeing (λ chars. endsOutOfBand chars o)
   unfolding endsOutOfBand
@@ -98,16 +98,6 @@ module _ {changed : ℕ → Bool} where
       (agrees-then (λ s l. clearsUnseen-agrees (s .read) (l .read) s l)
       (λ s. endsOutOfBand-agrees (s .read) s)))
 
-  sendsOutOfBand-barred : {code : Twin changed → ℕ} {t : Bool} (chars : Characters (Twin changed)) (c : Twin changed) →
-      isBoth c ≡ false → Barred code t (sendsOutOfBand chars c)
-  unfolding sendsOutOfBand
-  sendsOutOfBand-barred {code} chars c a = barred-then _ (barred-tells _ (λ x. false≢true (sym a ∙ band-both code c x)))
-
-  clearsAtOnce-barred : {code : Twin changed → ℕ} {t : Bool} (chars : Characters (Twin changed)) (c : Twin changed) →
-      isBoth c ≡ false → Barred code t (clearsAtOnce chars c)
-  unfolding clearsAtOnce
-  clearsAtOnce-barred chars c a = barred-then _ (sendsOutOfBand-barred chars c a)
-
   -- The rules of arrival.
 
   controlled-agrees : (c : Twin changed) → Agreeing (λ chars. controlled chars c)
@@ -118,18 +108,28 @@ module _ {changed : ℕ → Bool} where
       (by-code 15 refl c (λ b. flipsDiscard-agrees c)
       (stores-agrees _ false c)))
 
-  ruled-agrees : (c : Twin changed) → Agreeing (λ chars. ruled chars c)
-  unfolding ruled
-  ruled-agrees c s =
-      let attribute : ℕ → ℕ = λ n. getD (s .host .attributes) n 0 in
-      agrees-pick refl (storesQuoted-agrees c)
-      (by-cell (λ n. isHello (attribute n)) c
-      (sendsOutOfBand-barred first-chars c) (sendsOutOfBand-barred second-chars c) (sendsOutOfBand-agrees c)
-      (by-cell (λ n. isImmediateClear (attribute n)) c
-      (clearsAtOnce-barred first-chars c) (clearsAtOnce-barred second-chars c) (clearsAtOnce-agrees c)
-      (agrees-pick refl (stores-agrees _ false c)
-      (controlled-agrees c)))) s
+  -- rule 2 passes a changed key over, by its code in each run
+  pub record Unacted (c : Twin changed) (s : State (Twin changed)) : Type 0 where
+    pub first : isBoth c ≡ false → Begun s → Passed s (code₁ c)
+    pub second : isBoth c ≡ false → Begun s → Passed s (code₂ c)
 
-  pub arrives-agrees : (c : Twin changed) → Agreeing (λ chars. arrives chars c)
+  ruled-agrees : (c : Twin changed) (s : State (Twin changed)) → s .host .begun ≡ true → Unacted c s → Level s →
+      PartsAt s (ruled first-chars c) (ruled second-chars c)
+  unfolding ruled
+  ruled-agrees c s b unacted l =
+      pick-cases (PartsAt s) (s .terminal .quoting) (λ q. storesQuoted-agrees c s l) (λ q.
+      let first : isBoth c ≡ false → Passed s (code₁ c) = λ a. unacted .first a (b, q) in
+      let second : isBoth c ≡ false → Passed s (code₂ c) = λ a. unacted .second a (b, q) in
+      by-test (λ n. isHello (attributeAt s n)) c (record { first = λ a. first a .hello; second = λ a. second a .hello })
+      (sendsOutOfBand-agrees c)
+      (by-test (λ n. isImmediateClear (attributeAt s n)) c (record { first = λ a. first a .clear; second = λ a. second a .clear })
+      (clearsAtOnce-agrees c)
+      (agrees-pick refl (stores-agrees _ false c)
+      (controlled-agrees c))) s l)
+
+  pub arrives-agrees : (c : Twin changed) (s : State (Twin changed)) → Unacted c s → Level s →
+      PartsAt s (arrives first-chars c) (arrives second-chars c)
   unfolding arrives
-  arrives-agrees c s = told _ _ (λ x y. agrees-pick refl (ruled-agrees c) (stores-agrees _ false c)) s
+  arrives-agrees c s unacted l =
+      told-at _ _ _ _ l (λ x y.
+      pick-cases (PartsAt s) (s .host .begun) (λ b. ruled-agrees c s b unacted l) (λ b. stores-agrees _ false c s l))

@@ -1,22 +1,20 @@
 -- What is known of a cell whose fate spared changed keys.
 use Prim.Native.Nat.{ℕ}
 use mathlib.Core.Path.{_≡_, refl, sym, _∙_}
-use mathlib.Core.Bool.{Bool, true, false, _&&_, false≢true}
+use mathlib.Core.Bool.{Bool, true, false, false≢true}
 use mathlib.Core.List.{[], _∷_}
 use borrow.Author.Tests.{not-true}
 use Rattle.rules.specs.State.{Terms}
 use Rattle.rules.specs.StartRead.{inSet}
-use Rattle.rules.specs.Turns.{Fate, outOfBand, control, taken, tokened}
-use Rattle.rules.specs.TwoRuns.{codeIn, raisedIn, fateTest, isOutOfBand}
-use Rattle.rules.specs.TwoRuns.{unacted, unechoed, untokened, unset, unsetRaised}
-use Rattle.rules.proofs.Tests.{halves, quarters, all-cons}
+use Rattle.rules.specs.Turns.{Fate, taken, tokened}
+use Rattle.rules.specs.TwoRuns.{codeIn, raisedIn, fateTest, unechoed, untokened, unset, unsetRaised}
+use Rattle.rules.proofs.Tests.{quarters, all-cons}
 use Rattle.rules.proofs.TwoRuns.Twins.{Twin, both, apart, isBoth, isApart, raise, code₁, code₂, Settled, spared, Spared}
 
 module _ {changed : ℕ → Bool} where
   -- in one run
   module _ (code : Twin changed → ℕ) where
     record Sparing (f : Fate (Twin changed)) : Type 0 where
-      unacted : unacted code isApart f ≡ true
       unechoed : unechoed code isApart f ≡ true
       untokened : untokened code isApart f ≡ true
       unset : unset code isApart f ≡ true
@@ -25,23 +23,15 @@ module _ {changed : ℕ → Bool} where
     sparing : (f : Fate (Twin changed)) → Spared code (f ∷ []) → Sparing f
     unfolding spared
     sparing f e =
-        let a = unacted code isApart f in
-        let b = unechoed code isApart f in
-        let c = untokened code isApart f in
-        let d = unset code isApart f in
-        let h = halves (a && b && c && d) (unsetRaised code isApart f) (all-cons (spared code) f [] e .0) in
-        let k = quarters a b c d (h .0) in
-        record { unacted = k .0; unechoed = k .1; untokened = k .2; unset = k .3; unsetRaised = h .1 }
+        let k =
+        quarters (unechoed code isApart f) (untokened code isApart f) (unset code isApart f) (unsetRaised code isApart f)
+        (all-cons (spared code) f [] e .0) in
+        record { unechoed = k .0; untokened = k .1; unset = k .2; unsetRaised = k .3 }
 
     pub tokened-both : (c : Twin changed) → Spared code (tokened c ∷ []) → isBoth c ≡ true
     unfolding untokened fateTest
     tokened-both (both p) e = refl
     tokened-both (apart place m n d h) e = sparing (tokened (apart place m n d h)) e .untokened
-
-    pub band-both : (c : Twin changed) → Spared code (control outOfBand c ∷ []) → isBoth c ≡ true
-    unfolding unacted fateTest isOutOfBand
-    band-both (both p) e = refl
-    band-both (apart place m n d h) e = sparing (control outOfBand (apart place m n d h)) e .unacted
 
   -- a read with these terms may take the cell: it shows no changed key, and none is in its set
   pub record Safe (terms : Terms) (c : Twin changed) : Type 0 where

@@ -15,7 +15,7 @@ use Rattle.rules.specs.ReadData.{tokenCodes, moreData, answerOf, losesPa
 use Rattle.rules.specs.Editing.{hiddenCount, shortened, deletesUnseen, displayed, rubbing, deletes, displays, redisplays}
 use Rattle.rules.proofs.Tests.{pick-same, all-split}
 use Rattle.rules.proofs.TwoRuns.Twins.{Twin, isBoth, first-chars, second-chars, same-codes, LevelReading, Level}
-use Rattle.rules.proofs.TwoRuns.Twins.{Parts, Agreeing}
+use Rattle.rules.proofs.TwoRuns.Twins.{isGuarded, Parts, Agreeing}
 use Rattle.rules.proofs.TwoRuns.Parts.{level-emptied, level-read, agrees-then, agrees-still, agrees-changes, agrees-writes, agrees-sends, told}
 use Rattle.rules.proofs.TwoRuns.Parts.{agrees-only}
 
@@ -39,13 +39,18 @@ module _ {changed : ℕ → Bool} where
   unfolding answerOf
   same-answer e ending r l = rw (e, same-more l)
 
+  answer-guarded : (code ending : ℕ) (r : Reading (Twin changed)) (s : State (Twin changed)) →
+      isGuarded (answerOf first-chars code ending r s) ≡ true
+  unfolding answerOf isGuarded
+  answer-guarded code ending r s = refl
+
   -- a read that completes is not pending: nothing is asked of its input
   pub completes-agrees : {code code′ : ℕ} → code ≡ code′ → (ending : ℕ) (r : Reading (Twin changed)) →
       Parts (completes first-chars code ending r) (completes second-chars code′ ending r)
   unfolding completes
   completes-agrees e ending r =
       agrees-then losesPartial-agrees
-      (agrees-then (λ s l. agrees-sends (same-answer e ending r l) s l)
+      (agrees-then (λ s l. agrees-sends (same-answer e ending r l) (answer-guarded _ ending r s) s l)
       (agrees-changes (λ s. level-read tt)))
 
   unreadsWhile-agrees : (o : Option (Reading (Twin changed))) (m : Message ℕ) → Agreeing (λ chars. unreadsWhile chars o m)

@@ -8,9 +8,9 @@ use mathlib.Core.List.{List, [], _∷_, _++_}
 use lib.ListN.{length, set, length-set}
 use lib.Seq.{sets, sets-eq}
 use borrow.Author.Tests.{lt-ltb}
 use Rattle.rules.specs.Calls.{areaAfter}
 use Rattle.rules.proofs.Tests.{pick-true}
-use Rattle.screen.specs.Area.{Spot, put, puts, spot}
+use Rattle.rules.specs.Area.{Spot, put, puts, spot}
 
 pub puts-append : (xs ys : List ℕ) (s : Spot) → puts (xs ++ ys) s ≡ puts ys (puts xs s)
 unfolding puts
