@@ -4,3 +4,4 @@ pub mod Keys
 pub mod Inputs
 pub mod Sizes
 pub mod Arrivals
+pub mod FreshLine

@@ -3,7 +3,9 @@ use Prim.Native.Nat.{ℕ, _≤_}
 use mathlib.Core.Path.{_≡_}
 use lib.ListN.{length}
 use Rattle.rules.specs.Bounds as rules
+use Rattle.rules.specs.State as state
 use Rattle.line.specs.declared.Set.{Set}
+use Rattle.line.specs.declared.Host.{Host}
 use Rattle.line.specs.declared.Typed.{Typed}
 use Rattle.line.specs.declared.Terms.{Terms}
 use Rattle.line.specs.declared.Reading.{Reading}
@@ -31,6 +33,10 @@ pub record CountedReading (r : Reading) : Type 0 where
   pub input : length (r .input) ≡ 132
   pub within : r .count ≤ 132
 
+pub record CountedHost (h : Host) : Type 0 where
+  pub table : length (h .attributes) ≡ 256
+  pub set : CountedSet (h .«last_set»)
+
 pub record Counted (l : Line) : Type 0 where
   pub table : length (l .host .attributes) ≡ 256
   pub set : CountedSet (l .host .«last_set»)
@@ -40,3 +46,8 @@ pub record Counted (l : Line) : Type 0 where
 pub record Bounded (l : Line) : Type 0 where
   pub state : rules.Bounded (view l)
   pub counted : Counted l
+
+-- a fresh line
+pub record IsFresh (l : Line) : Type 0 where
+  pub state : view l ≡ state.fresh
+  pub bounded : Bounded l

@@ -4,6 +4,7 @@ mod shows;
 mod arrival;
 mod editing;
 mod ending;
+mod fresh;
 mod input;
 mod parts;
 mod sending;
