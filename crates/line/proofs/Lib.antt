@@ -5,3 +5,4 @@ pub mod Inputs
 pub mod Sizes
 pub mod Arrivals
 pub mod FreshLine
+pub mod Answering

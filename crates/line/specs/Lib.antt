@@ -4,3 +4,5 @@ pub mod With
 pub mod TypedParts
 pub mod ReadingParts
 pub mod Promise
+pub mod Answers
+pub mod Events

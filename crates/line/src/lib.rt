@@ -2,7 +2,9 @@
 use screen::Screen;
 mod shows;
 mod arrival;
+mod calls;
 mod editing;
+mod events;
 mod ending;
 mod fresh;
 mod input;

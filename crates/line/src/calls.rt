@@ -1,0 +1,50 @@
+// The four calls.
+ghost use mathlib.Core.Path.{_≡_};
+ghost use mathlib.Core.List.{List, []};
+ghost use Prim.Native.Nat.{ℕ};
+ghost use Rattle.rules.specs.Calls as rules;
+ghost use Rattle.line.specs.Bounded.{Bounded};
+ghost use Rattle.line.specs.Answers.{Answers, refusal};
+use crate::Answer;
+use crate::Line;
+use crate::Work;
+
+impl Line {
+    // A refusal writes nothing and hands the line back as it was.
+    fn refuse(self, number: u8) -> Answer
+        ensures { λ r. ⌜ r ≡ refusal number self ⌝ }
+    {
+        Answer {
+            line: self,
+            number,
+            terminal: 0,
+            messages: 0,
+        }
+    }
+
+    // A keystroke arrives.
+    pub fn key(self, code: u8, terminal: &mut [u8], messages: &mut [u8]) -> Answer
+        requires { ⌜ Bounded self ⌝ }
+        ensures { λ r. ⌜ Answers (rules.key code) self (now (terminal .entry)) (now (messages .entry)) r (now (terminal .exit)) (now (messages .exit)) ⌝ }
+    {
+        if terminal.len() < rules::TERMINAL_AREA {
+            return self.refuse(1);
+        }
+        if messages.len() < rules::MESSAGE_AREA {
+            return self.refuse(1);
+        }
+        let begun = Work {
+            line: self,
+            at: 0,
+            sent: 0,
+        };
+        let done = begun.arrives(terminal, messages, code);
+        let line = done.line;
+        Answer {
+            line,
+            number: 0,
+            terminal: done.at,
+            messages: done.sent,
+        }
+    }
+}
