@@ -6,3 +6,4 @@ pub mod Sizes
 pub mod Arrivals
 pub mod FreshLine
 pub mod Answering
+pub mod Evented

@@ -1,88 +1,72 @@
+use mathlib.Core.Path.{subst}
 use borrow.Author.Needs.{needs}
+use Rattle.line.specs.Events.{Admitted, eventPart}
+use Rattle.line.proofs.Evented.{arrives-event, ticks-event, steps-event, obeys-event}
 use Rattle.line.proofs.Work.does.Statement.{statement}
 use Rattle.line.proofs.Work.does.Tie as tie
-use Rattle.line.proofs.Work.does.Reads as reads
-use Rattle.line.proofs.Work.does.Lts as lts
-use Rattle.line.proofs.Work.arrives.Reads as arrives-reads
-use Rattle.line.proofs.Work.obeys.Reads as obeys-reads
-use Rattle.line.proofs.Work.steps.Reads as steps-reads
-use Rattle.line.proofs.Work.ticks.Reads as ticks-reads
 
--- src/events.rt:55:24
 enum-known-e : tie.Need-enum-known-e
 enum-known-e c = search needs
 
--- src/events.rt:55:30
 arrives-requires : tie.Need-arrives-requires
 arrives-requires c κs = search needs
 
--- src/events.rt:56:39
 enum-told : tie.Need-enum-told
 enum-told c = search needs
 
--- src/events.rt:56:28
 ticks-requires : tie.Need-ticks-requires
 ticks-requires c κs = search needs
 
--- src/events.rt:57:39
 enum-told-2 : tie.Need-enum-told-2
 enum-told-2 c = search needs
 
--- src/events.rt:57:28
 steps-requires : tie.Need-steps-requires
 steps-requires c κs = search needs
 
--- src/events.rt:58:25
 enum-known-e-2 : tie.Need-enum-known-e-2
 enum-known-e-2 c = search needs
 
--- src/events.rt:58:31
 obeys-requires : tie.Need-obeys-requires
-obeys-requires c κs = ?
+obeys-requires c κs =
+    let start = c .before .before .before .before .before .before .before .before in
+    (start .pre .0, subst (Admitted (start .args .self .line) (start .args .s .now)) (c .before .before .before .e2 .given .1) (start .pre .1))
 
--- src/events.rt:49:5
 same-length : tie.Need-same-length
 same-length c = search needs
 
--- src/events.rt:49:5
 same-length-2 : tie.Need-same-length-2
 same-length-2 c = search needs
 
--- src/events.rt:49:5
 returns : tie.Need-returns
-returns c = ?
+returns c = arrives-event _ (c .before .before .before .before .before .before .before .before .e .given .1) (c .before .before .before .before .arrives .ensures)
 
--- src/events.rt:49:5
 same-length-3 : tie.Need-same-length-3
 same-length-3 c = search needs
 
--- src/events.rt:49:5
 returns-2 : tie.Need-returns-2
-returns-2 c = ?
+returns-2 c = ticks-event _ (c .before .before .before .before .enum-told .given .1) (c .before .before .ticks .ensures _)
 
--- src/events.rt:49:5
 same-length-4 : tie.Need-same-length-4
 same-length-4 c = search needs
 
--- src/events.rt:49:5
 same-length-5 : tie.Need-same-length-5
 same-length-5 c = search needs
 
--- src/events.rt:49:5
 returns-3 : tie.Need-returns-3
-returns-3 c = ?
+returns-3 c = steps-event _ (c .before .before .before .before .before .before .before .enum-told2 .given .1) (c .before .before .before .before .steps .ensures)
 
--- src/events.rt:49:5
 same-length-6 : tie.Need-same-length-6
 same-length-6 c = search needs
 
--- src/events.rt:49:5
 same-length-7 : tie.Need-same-length-7
 same-length-7 c = search needs
 
--- src/events.rt:49:5
 returns-4 : tie.Need-returns-4
-returns-4 c = ?
+returns-4 c =
+    let start = c .before .before .before .before .before .before .before .before .before .before .before .before .before in
+    let e = c .before .before .before .before .before .before .before .before .e2 .given .1 in
+    let a = subst (Admitted (start .args .self .line) (start .args .s .now)) e (start .pre .1) in
+    obeys-event _ e (a .held) (c .before .before .before .before .obeys .ensures (a .fields) (a .held))
 
 pub does-spec : {M : Type 1} → statement M
 does-spec =
