@@ -1,5 +1,5 @@
 -- What the parts of an arrival leave of the line.
-use mathlib.Core.Path.{_≡_, refl, sym, ap, _∙_}
+use mathlib.Core.Path.{_≡_, refl}
 use Prim.Native.Nat.{ℕ, _+_, _%_, min}
 use lib.Dec.{eqb}
 use borrow.Author.Tests.{eq-eqb, ne-eqb}
@@ -8,7 +8,7 @@ use mathlib.Core.Bool.{Bool, true, false}
 use mathlib.Core.List.{List, [], _∷_, _++_}
 use mathlib.Core.Option.{Option, none, some}
 use Rattle.rules.specs.State as state
-use Rattle.rules.specs.State.{withTyped, withRead, withIdle, withTerminal, withDropped, State}
+use Rattle.rules.specs.State.{withTyped, withTerminal, withDropped}
 use Rattle.rules.specs.Arrival as rules
 use Rattle.rules.specs.Turns.{Part, changes}
 use Rattle.line.specs.declared.Terminal.{Terminal}
@@ -50,7 +50,8 @@ module _ (w : Work) (k : ℕ) (quoted : Bool) (next : Typed) (c : Counted (w .li
         host = view (w .line) .host;
         terminal = view (w .line) .terminal;
         typed = record { typeAhead = s .keys i; token = s .token i };
-        read = rest-view (w .line .pending) (w .line .reading) i })
+        read = rest-view (w .line .pending) (w .line .reading) i;
+      })
       refl refl
       (record { table = c .table; set = c .set; typed = s .counted; reading = record { terms = c .reading .terms; input = c .reading .input; within = c .reading .within } })
 
@@ -58,7 +59,7 @@ module _ (w : Work) (k : ℕ) (quoted : Bool) (next : Typed) (c : Counted (w .li
 abbrev pub withCount : ℕ → Terminal → Terminal
 withCount n t = record { screen = t .screen; discarding = t .discarding; quoting = t .quoting; dropped = n }
 
--- a line with another terminal
+-- A line with another terminal.
 pub terminal-counted : (w : Work) {v : Work} (x : Terminal) → Counted (w .line) → v ≡ onLine (onTerminal x (w .line)) w → Counted (v .line)
 terminal-counted w x c h = rw h (record { table = c .table; set = c .set; typed = c .typed; reading = c .reading })
 

@@ -1,7 +1,6 @@
 // A key arrives; the clear rule.
 ghost use mathlib.Core.List.{List};
 ghost use Rattle.rules.specs.State.{codes};
-ghost use mathlib.Core.Bool.{Bool};
 ghost use Prim.Native.Nat.{ℕ, _+_, _<_, min};
 ghost use Rattle.rules.specs.Arrival as rules;
 ghost use Rattle.rules.specs.Choice.{bit};
@@ -82,9 +81,9 @@ impl Work {
     }
 
     // No room: BEL, and the dropped count rises up to its top.
-    fn drops(self, terminal: &mut [u8], c: u8) -> Work
+    fn drops(self, terminal: &mut [u8]) -> Work
         requires { ⌜ Counted (self .line) ⌝ }
-        ensures { λ w. ⌜ ((m : List ℕ) → Does (rules.drops c) self (now (terminal .entry)) m w (now (terminal .exit)) m) ⌝ }
+        ensures { λ w. ⌜ ((c : ℕ) (m : List ℕ) → Does (rules.drops c) self (now (terminal .entry)) m w (now (terminal .exit)) m) ⌝ }
     {
         let belled = self.put(terminal, 7);
         let line = belled.line;
@@ -103,7 +102,7 @@ impl Work {
         if (typed.waiting as usize) < rules::TYPE_AHEAD {
             return self.keeps(quoted, c);
         }
-        self.drops(terminal, c)
+        self.drops(terminal)
     }
 
     // Rule 1.
@@ -210,7 +209,13 @@ impl Work {
         requires { ⌜ Counted (self .line) ⌝ }
         ensures { λ w. ⌜ ((t : List ℕ) → Does (rules.sendsOutOfBand codes c) self t (now (messages .entry)) w t (now (messages .exit))) ⌝ }
     {
-        self.sends_plain(messages, Message::OutOfBand { discard: 0, character: c })
+        self.sends_plain(
+            messages,
+            Message::OutOfBand {
+                discard: 0,
+                character: c,
+            },
+        )
     }
 
     // Rule 2, immediate clear: a pending read completes, returning no data.
@@ -225,6 +230,7 @@ impl Work {
         self
     }
 
+    // Both of these, with the clear rule between them, unseen.
     fn clears_at_once(self, messages: &mut [u8], c: u8) -> Work
         requires { ⌜ Counted (self .line) ⌝ }
         ensures { λ w. ⌜ ((t : List ℕ) → Does (rules.clearsAtOnce codes c) self t (now (messages .entry)) w t (now (messages .exit))) ⌝ }

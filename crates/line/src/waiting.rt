@@ -1,7 +1,6 @@
 // Type-ahead and the token.
-ghost use mathlib.Core.Path.{_≡_};
 ghost use Prim.Native.Nat.{_<_};
-ghost use mathlib.Core.List.{List, [], _∷_, _++_};
+ghost use mathlib.Core.List.{[], _∷_, _++_};
 ghost use Rattle.line.specs.Bounded.{CountedTyped};
 ghost use Rattle.line.specs.View.{keysOf, tokenOf};
 ghost use Rattle.line.specs.TypedParts.{Holds};
@@ -23,6 +22,7 @@ impl Typed {
         next.waiting = self.waiting + 1;
         next
     }
+
     // Neither keys nor a token.
     pub fn emptied(self) -> Typed
         requires { ⌜ CountedTyped self ⌝ }

@@ -46,7 +46,7 @@ returns-2 c =
     let x = start .args in
     λ m.
     here-does (byRoom (x .quoted) (x .c))
-    (second-does _ _ (no-room (x .self .line .typed) (start .pre .typed) (b .before .before .if1 .left)) (b .drops .ensures m))
+    (second-does _ _ (no-room (x .self .line .typed) (start .pre .typed) (b .before .before .if1 .left)) (b .drops .ensures _ m))
 
 pub stores-spec : {M : Type 1} → statement M
 stores-spec =
