@@ -1,9 +1,9 @@
 // Type-ahead and the token.
-ghost use mathlib.Core.Path.{_≡_};
 ghost use Prim.Native.Nat.{_<_};
-ghost use mathlib.Core.List.{List, [], _∷_, _++_};
+ghost use mathlib.Core.List.{[], _∷_, _++_};
 ghost use Rattle.line.specs.Bounded.{CountedTyped};
-ghost use Rattle.line.specs.TypedParts.{Stored};
+ghost use Rattle.line.specs.View.{keysOf, tokenOf};
+ghost use Rattle.line.specs.TypedParts.{Holds};
 use crate::Key;
 use crate::Typed;
 
@@ -12,7 +12,7 @@ impl Typed {
     pub fn store(self, c: u8, quoted: bool) -> Typed
         requires { ⌜ CountedTyped self ⌝ }
         requires { ⌜ self .waiting < 64 ⌝ }
-        ensures { λ r. ⌜ Stored c quoted self r ⌝ }
+        ensures { λ r. ⌜ Holds (keysOf self ++ (record { char = c; quoted = quoted } ∷ [])) (tokenOf self) r ⌝ }
     {
         let at = self.waiting as usize;
         let mut keys = self.keys;
@@ -20,6 +20,17 @@ impl Typed {
         let mut next = self;
         next.keys = keys;
         next.waiting = self.waiting + 1;
+        next
+    }
+
+    // Neither keys nor a token.
+    pub fn emptied(self) -> Typed
+        requires { ⌜ CountedTyped self ⌝ }
+        ensures { λ r. ⌜ Holds [] [] r ⌝ }
+    {
+        let mut next = self;
+        next.waiting = 0;
+        next.token_len = 0;
         next
     }
 }

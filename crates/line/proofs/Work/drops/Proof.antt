@@ -22,7 +22,7 @@ unfolding drops
 returns c =
     let b = c .before .before .before .before .before .before in
     let belled = b .put .ensures in
-    λ m. told-does _ (then-does (belled m) (count-does (b .put .result) _ (c .before .one-more .ensures) (belled m .counted) (c .with-terminal .ensures) _ m))
+    λ k m. told-does _ (then-does (belled m) (count-does (b .put .result) _ (c .before .one-more .ensures) (belled m .counted) (c .with-terminal .ensures) _ m))
 
 pub drops-spec : {M : Type 1} → statement M
 drops-spec =
