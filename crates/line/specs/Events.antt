@@ -1,5 +1,5 @@
 -- Events: what each is of the rules, and what is known of a host message that was accepted.
-use Prim.Native.Nat.{ℕ}
+use Prim.Native.Nat.{ℕ, _<_}
 use mathlib.Core.Path.{_≡_}
 use mathlib.Core.Bool.{true}
 use mathlib.Core.List.{List}
@@ -28,7 +28,7 @@ pub record Accepted (l : Line) (s : List ℕ) (m : Message) : Type 0 where
   pub bytes : allBytes s ≡ true
 
 abbrev pub Admitted : Line → List ℕ → Event → Type 0
-Admitted l s (Key c) = Unit {0}
+Admitted l s (Key c) = c < 256
 Admitted l s Tick = Unit {0}
 Admitted l s Step = Unit {0}
 Admitted l s (Host m) = Accepted l s m

@@ -1,13 +1,15 @@
-// The four calls.
+// The four calls: each makes an event, which goes through one method.
 ghost use mathlib.Core.Path.{_≡_};
 ghost use mathlib.Core.List.{List, []};
 ghost use Prim.Native.Nat.{ℕ};
 ghost use Rattle.rules.specs.Calls as rules;
 ghost use Rattle.line.specs.Bounded.{Bounded};
+ghost use Rattle.line.specs.Events.{Admitted, eventOf};
 ghost use Rattle.line.specs.Answers.{Answers, refusal};
 use crate::Answer;
 use crate::Line;
 use crate::Work;
+use crate::events::Event;
 
 impl Line {
     // A refusal writes nothing and hands the line back as it was.
@@ -22,10 +24,11 @@ impl Line {
         }
     }
 
-    // A keystroke arrives.
-    pub fn key(self, code: u8, terminal: &mut [u8], messages: &mut [u8]) -> Answer
+    // An event in areas that are large enough; a host message's parts stand in the slice.
+    fn take(self, e: Event, s: &[u8], terminal: &mut [u8], messages: &mut [u8]) -> Answer
         requires { ⌜ Bounded self ⌝ }
-        ensures { λ r. ⌜ Answers (rules.key code) self (now (terminal .entry)) (now (messages .entry)) r (now (terminal .exit)) (now (messages .exit)) ⌝ }
+        requires { ⌜ Admitted self (now s) e ⌝ }
+        ensures { λ r. ⌜ Answers (eventOf (now (s .entry)) e) self (now (terminal .entry)) (now (messages .entry)) r (now (terminal .exit)) (now (messages .exit)) ⌝ }
     {
         if terminal.len() < rules::TERMINAL_AREA {
             return self.refuse(1);
@@ -38,7 +41,7 @@ impl Line {
             at: 0,
             sent: 0,
         };
-        let done = begun.arrives(terminal, messages, code);
+        let done = begun.does(e, s, terminal, messages);
         let line = done.line;
         Answer {
             line,
@@ -46,5 +49,29 @@ impl Line {
             terminal: done.at,
             messages: done.sent,
         }
+    }
+
+    // A keystroke arrives.
+    pub fn key(self, code: u8, terminal: &mut [u8], messages: &mut [u8]) -> Answer
+        requires { ⌜ Bounded self ⌝ }
+        ensures { λ r. ⌜ Answers (rules.key code) self (now (terminal .entry)) (now (messages .entry)) r (now (terminal .exit)) (now (messages .exit)) ⌝ }
+    {
+        self.take(Event::Key(code), b"", terminal, messages)
+    }
+
+    // One step.
+    pub fn step(self, terminal: &mut [u8], messages: &mut [u8]) -> Answer
+        requires { ⌜ Bounded self ⌝ }
+        ensures { λ r. ⌜ Answers rules.step self (now (terminal .entry)) (now (messages .entry)) r (now (terminal .exit)) (now (messages .exit)) ⌝ }
+    {
+        self.take(Event::Step, b"", terminal, messages)
+    }
+
+    // A second has passed.
+    pub fn tick(self, terminal: &mut [u8], messages: &mut [u8]) -> Answer
+        requires { ⌜ Bounded self ⌝ }
+        ensures { λ r. ⌜ Answers rules.tick self (now (terminal .entry)) (now (messages .entry)) r (now (terminal .exit)) (now (messages .exit)) ⌝ }
+    {
+        self.take(Event::Tick, b"", terminal, messages)
     }
 }
