@@ -7,8 +7,11 @@ use mathlib.Core.List.{List, [], _∷_, _++_}
 use lib.ListN.{length, drop, replicate}
 use lib.Seq.{drop-drop}
 use Rattle.rules.specs.Messages.Layout.{Group, flags, byte, word, byteAt, fieldsIn, numberOf, bytesOf, writeGroups}
+use Rattle.message.specs.declared.Message.{Message}
+use Rattle.message.specs.Found.{heldIn}
 use Rattle.message.proofs.Numbers.{byte-behind}
 use Rattle.writing.specs.Puts.{Puts}
+use Rattle.writing.specs.Front.{frontBytes}
 use Rattle.writing.proofs.Putting.{equals}
 
 -- the bytes of these groups with these fields
@@ -38,6 +41,10 @@ module _ {gs : List Group} {vs bytes : List ℕ} where
   unfolding writeGroups
   field-first n w v h = record { same = ap₂ (λ k r. bytesOf n k ++ r) (one-field w vs v) (h .same) }
 
+-- the definition's own bytes
+pub others : {gs : List Group} {vs : List ℕ} → Head gs vs (writeGroups gs vs)
+others = record { same = refl }
+
 -- fields of any widths
 pub flags-first : (n : ℕ) (ws : List ℕ) (v : ℕ) {gs : List Group} {vs bytes : List ℕ} → v ≡ numberOf ws vs →
     Head gs (drop (length ws) vs) bytes → Head (flags n ws ∷ gs) vs (bytesOf n v ++ bytes)
@@ -48,6 +55,11 @@ flags-first n ws v e h = record { same = ap₂ (λ k r. bytesOf n k ++ r) (sym e
 pub headed : (kind : ℕ) (tail : List ℕ) {gs : List Group} {vs bytes before after : List ℕ} {at next : ℕ} → Head gs vs bytes →
     Puts (kind ∷ (bytes ++ tail)) before at next after → Puts (kind ∷ (writeGroups gs vs ++ tail)) before at next after
 headed kind tail h w = equals (ap (λ b. kind ∷ (b ++ tail)) (sym (h .same))) w
+
+-- the bytes that a message of one case has are those of the message
+pub held-as : (s : List ℕ) {m n : Message} {before after : List ℕ} {at next : ℕ} → m ≡ n →
+    Puts (frontBytes (heldIn s n)) before at next after → Puts (frontBytes (heldIn s m)) before at next after
+held-as s e w = equals (ap (λ m. frontBytes (heldIn s m)) (sym e)) w
 
 -- A run of bytes, from a place on.
 module _ (s : List ℕ) (count i : ℕ) where
