@@ -82,7 +82,7 @@ fn less(a: u16, b: u16) -> u16
     if b <= a { a - b } else { 0 }
 }
 
-fn start_read_test(f: StartReadFields) -> bool
+pub fn start_read_test(f: StartReadFields) -> bool
     ensures { λ r. ⌜ ((s : List ℕ) → length (partOf s (f .text)) ≡ f .text .len → r ≡ soundStartRead inputSize (startReadIn s f)) ⌝ }
 {
     let text = f.text;
