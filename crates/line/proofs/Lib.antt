@@ -7,3 +7,4 @@ pub mod Arrivals
 pub mod FreshLine
 pub mod Answering
 pub mod Evented
+pub mod Sends

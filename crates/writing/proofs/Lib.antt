@@ -2,3 +2,5 @@
 pub mod Putting
 pub mod Groups
 pub mod Lengths
+pub mod Settings
+pub mod Fitting

@@ -1,3 +1,4 @@
 pub mod Puts
 pub mod Front
 pub mod Parts
+pub mod Fits

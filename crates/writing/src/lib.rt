@@ -1,5 +1,7 @@
 // Writing the fourteen messages into a lent area.
+mod fits;
 mod heads;
+mod lists;
 mod parts;
 mod put;
 mod send;
