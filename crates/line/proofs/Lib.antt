@@ -2,3 +2,6 @@
 pub mod Works
 pub mod Keys
 pub mod Inputs
+pub mod Appends
+pub mod Words
+pub mod Places

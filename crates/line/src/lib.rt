@@ -1,6 +1,7 @@
 // One line of the console end: its state by value, and the four calls on it.
 use screen::Screen;
 mod shows;
+mod tokens;
 mod arrival;
 mod editing;
 mod ending;
