@@ -5,3 +5,5 @@ pub mod Inputs
 pub mod Appends
 pub mod Words
 pub mod Places
+pub mod Held
+pub mod Joints

@@ -1,0 +1,33 @@
+use mathlib.Core.Path.{refl}
+use borrow.Author.Needs.{needs}
+use Rattle.rules.specs.State.{codes}
+use Rattle.rules.specs.Turns.{sends}
+use Rattle.rules.specs.ReadData.{answerOf}
+use Rattle.line.specs.View.{readingOf}
+use Rattle.line.proofs.Works.{here-does}
+use Rattle.line.proofs.Work.answers.Statement.{statement}
+use Rattle.line.proofs.Work.answers.Tie as tie
+
+answer-requires : tie.Need-answer-requires
+answer-requires c κs = search needs
+
+slice-aggregate-send : tie.Need-slice-aggregate-send
+slice-aggregate-send c = search needs
+
+send-requires : tie.Need-send-requires
+send-requires c κs = search needs
+
+same-length : tie.Need-same-length
+same-length c = search needs
+
+
+returns : tie.Need-returns
+unfolding answerOf
+returns c =
+    let a = c .before .before .before .before .before .before .before .before .args in
+    λ t. here-does (λ s. sends (answerOf codes (a .code) (a .ending) (readingOf (a .r)) s))
+    (c .before .before .send .ensures _ (c .before .before .before .before .before .before .answer .ensures) refl t)
+
+pub answers-spec : {M : Type 1} → statement M
+answers-spec =
+    tie.close (tie.spec answer-requires slice-aggregate-send send-requires same-length returns)
