@@ -80,6 +80,9 @@ module _ (t : Typed) (c : CountedTyped t) where
   tokened-counted b h =
       record { keys = c .keys; waiting = c .waiting; token = length-set (t .token) (t .«token_len») b ∙ c .token; begun = omega arith }
 
+  pub grown-counted : (b : ℕ) {next : Typed} → t .«token_len» < 16 → next ≡ tokened b t → CountedTyped next
+  grown-counted b h e = rw e (tokened-counted b h)
+
 -- the first key and those behind it
 first-of : (n : ℕ) (keys : List Key) (d : Key) → 0 < n → n ≤ length keys →
     map keyOf (take n keys) ≡ keyOf (getD keys 0 d) ∷ drop 1 (map keyOf (take n keys))

@@ -2,18 +2,18 @@
 use mathlib.Core.Path.{_≡_, refl, sym, ap, _∙_}
 use Prim.Native.Nat.{ℕ, _+_, _-_, _<_}
 use native.Mathlib.Omega.{arith}
-use mathlib.Core.Bool.{true, false, not, _||_}
+use mathlib.Core.Bool.{Bool, true, false, not, _||_}
 use mathlib.Core.List.{List, [], _∷_, _++_}
 use mathlib.Core.Option.{none, some}
 use lib.ListN.{length, take}
-use Rattle.rules.specs.Choice.{bit, isEmpty, joined}
-use Rattle.screen.specs.Area.{puts}
+use Rattle.rules.specs.Choice.{pick, bit, isEmpty, joined}
+use Rattle.screen.specs.Area.{puts, spot}
 use Rattle.rules.specs.State as rules
 use Rattle.rules.specs.State.{State, codes, withTyped, withRead, withFrom, withIdle}
 use Rattle.rules.specs.Screen.{shownAll, change}
-use Rattle.rules.specs.Turns.{Part, writes, changes, behind, _then_}
+use Rattle.rules.specs.Turns.{Part, still, writes, changes, behind, _then_, only}
 use Rattle.rules.specs.Token.{isWhole}
-use Rattle.rules.specs.ReadData.{moreData, answerOf}
+use Rattle.rules.specs.ReadData.{moreData, answerOf, completes}
 use Rattle.rules.specs.Calls.{messageBytes}
 use Rattle.rules.specs.Messages.Codec as codec
 use Rattle.rules.specs.Messages.Forms as forms
@@ -28,7 +28,8 @@ use Rattle.line.specs.With.{onLine, onRead, onTyped, offRead}
 use Rattle.line.specs.ReadingParts.{Becomes, idling, shownAt}
 use Rattle.line.specs.TokenParts.{codesOf, untokened, tokened}
 use Rattle.line.specs.Promise.{Does}
-use Rattle.line.proofs.Works.{changes-does}
+use Rattle.rules.proofs.Tests.{pick-true, pick-false}
+use Rattle.line.proofs.Works.{changes-does, still-does}
 use Rattle.line.proofs.Appends.{input-length}
 use Rattle.line.proofs.Held.{tokened-keys, tokened-token, tokened-counted}
 
@@ -37,10 +38,13 @@ module _ {w r : Work} {t t′ m m′ : List ℕ} where
   pub same-writes : {bs cs : List ℕ} → bs ≡ cs → Does (writes bs) w t m r t′ m′ → Does (writes cs) w t m r t′ m′
   same-writes e h = rw (sym e) h
 
-  -- a rule for the read that a read stands for
-  pub for-read : (F : rules.Reading ℕ → Part ℕ) {e : rules.Reading ℕ} (x : Reading) → readingOf x ≡ e →
-      Does (F (readingOf x)) w t m r t′ m′ → Does (F e) w t m r t′ m′
-  for-read F x e h = rw (sym e) h
+  -- a rule for what equals its argument
+  pub for-equal : {A : Type 0} (F : A → Part ℕ) {a b : A} → a ≡ b → Does (F a) w t m r t′ m′ → Does (F b) w t m r t′ m′
+  for-equal F e h = rw (sym e) h
+
+  pub completes-as : {code code′ n n′ : ℕ} {e e′ : rules.Reading ℕ} → code ≡ code′ → n ≡ n′ → e ≡ e′ →
+      Does (completes codes code n e) w t m r t′ m′ → Does (completes codes code′ n′ e′) w t m r t′ m′
+  completes-as p q e h = rw (sym p, sym q, sym e) h
 
   nothing-does : {g : Part ℕ} → Does g w t m r t′ m′ → Does (writes [] then g) w t m r t′ m′
   unfolding _then_ behind writes messageBytes shownAll
@@ -64,6 +68,36 @@ none-does w t m c =
 
 pub blank-does : (w : Work) (t m : List ℕ) {bs : List ℕ} → bs ≡ [] → Counted (w .line) → Does (writes bs) w t m w t m
 blank-does w t m e c = rw e (none-does w t m c)
+
+-- A rule that looks at its state, and chooses there.
+module _ {rule f : Part ℕ} {w r : Work} {t t′ m m′ : List ℕ} where
+  pub here-part : rule (view (w .line)) ≡ f (view (w .line)) → Does f w t m r t′ m′ → Does rule w t m r t′ m′
+  here-part e h =
+      record {
+        state = h .state ∙ ap (λ u. u .state) (sym e);
+        shows = h .shows ∙ ap (λ u. puts (u .bytes) (spot t (w .at))) (sym e);
+        sends = h .sends ∙ ap (λ u. puts (messageBytes codes u) (spot m (w .sent))) (sym e);
+        counted = h .counted;
+        terminalLength = h .terminalLength;
+        messagesLength = h .messagesLength;
+      }
+
+  module _ {test : Bool} (g : Part ℕ) where
+    pub here-first : rule (view (w .line)) ≡ pick test f g (view (w .line)) → test ≡ true → Does f w t m r t′ m′ → Does rule w t m r t′ m′
+    here-first e b h = here-part (e ∙ ap (λ p. p (view (w .line))) (pick-true f g b)) h
+
+    pub here-second : rule (view (w .line)) ≡ pick test g f (view (w .line)) → test ≡ false → Does f w t m r t′ m′ → Does rule w t m r t′ m′
+    here-second e b h = here-part (e ∙ ap (λ p. p (view (w .line))) (pick-false g f b)) h
+
+module _ {rule : Part ℕ} {w : Work} {test : Bool} (f : Part ℕ) where
+  pub here-only : {r : Work} {t t′ m m′ : List ℕ} → rule (view (w .line)) ≡ only test f (view (w .line)) → test ≡ true →
+      Does f w t m r t′ m′ → Does rule w t m r t′ m′
+  unfolding only
+  here-only e b h = here-first still e b h
+
+  pub here-not : (t m : List ℕ) → rule (view (w .line)) ≡ only test f (view (w .line)) → test ≡ false → Counted (w .line) → Does rule w t m w t m
+  unfolding only
+  here-not t m e b c = here-second f e b (still-does w t m c)
 
 -- A line with another read, or another token, is counted.
 module _ {w v : Work} (c : Counted (w .line)) where

@@ -7,3 +7,4 @@ pub mod Words
 pub mod Places
 pub mod Held
 pub mod Joints
+pub mod Room

@@ -4,4 +4,5 @@ pub mod With
 pub mod TypedParts
 pub mod TokenParts
 pub mod ReadingParts
+pub mod StepParts
 pub mod Promise

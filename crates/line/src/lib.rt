@@ -3,11 +3,14 @@ use screen::Screen;
 mod shows;
 mod tokens;
 mod arrival;
+mod choices;
 mod editing;
 mod ending;
 mod input;
 mod parts;
 mod sending;
+mod steps;
+mod taking;
 mod waiting;
 
 // The four characteristics that are switches.
