@@ -6,7 +6,7 @@ use native.Mathlib.Omega.{arith}
 use mathlib.Core.Bool.{Bool, true, false, not, _&&_, _||_}
 use mathlib.Core.List.{List, [], _∷_, _++_, map, map-id}
 use lib.Dec.{eqb}
-use lib.ListN.{length, getD, take, drop, set, length-set}
+use lib.ListN.{length, getD, take, drop, set, length-set, length-map}
 use lib.Seq.{take-suc, take-suc-set, take-nil, length-take-le}
 use borrow.Author.Tests.{ne-eqb}
 use Rattle.rules.specs.Choice.{isEmpty, bit}
@@ -18,6 +18,7 @@ use Rattle.line.specs.declared.Typed.{Typed}
 use Rattle.line.specs.View.{keyOf, keysOf, tokenOf}
 use Rattle.line.specs.Bounded.{CountedTyped}
 use Rattle.line.specs.TokenParts.{codesOf, tokened, FirstTaken}
+use Rattle.line.proofs.Places.{whole-room}
 
 -- a list counted into an array is empty where its count is 0
 pub empty-take : {A : Type 0} (n : ℕ) (xs : List A) → n ≤ length xs → isEmpty (take n xs) ≡ eqb n 0
@@ -64,6 +65,19 @@ module _ (t : Typed) (c : CountedTyped t) where
     pub none-remains : not (eqb (t .waiting) 0) || held ≡ false → 0 ≡ bit (not (isEmpty (keysOf t)) || isWhole (codesOf t))
     unfolding bit
     none-remains h = sym (pick-false 1 0 (sym (remains-is e) ∙ h))
+
+  -- nothing to take: the test of a tick
+  pub nothing-waits : (timed due : Bool) {held : Bool} → held ≡ isWhole (codesOf t) →
+      timed && due && eqb (t .waiting) 0 && not held ≡ timed && due && isEmpty (keysOf t) && not (isWhole (codesOf t))
+  nothing-waits timed due e = ap₂ (λ a b. timed && due && a && not b) (sym keys-empty) e
+
+  -- a token that is not whole has room
+  pub token-short : isWhole (codesOf t) ≡ false → t .«token_len» < 16
+  token-short e =
+      let room = whole-room (codesOf t) e in
+      let same = length-map (tokenOf t) (rules.codes .code) in
+      let long = token-counted in
+      omega arith
 
   -- one byte more
   pub tokened-token : (b : ℕ) → t .«token_len» < 16 → tokenOf (tokened b t) ≡ tokenOf t ++ b ∷ []

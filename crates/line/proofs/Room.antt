@@ -1,28 +1,28 @@
 -- What a step knows of a pending read, and the key that it takes.
-use mathlib.Core.Path.{_≡_, refl, sym, ap, ap₂, _∙_}
-use Prim.Native.Nat.{ℕ, _+_, _≤_, _<_}
+use mathlib.Core.Path.{_≡_, refl, ap, _∙_}
+use Prim.Native.Nat.{ℕ, _<_}
 use native.Mathlib.Omega.{arith}
-use mathlib.Core.Bool.{Bool, true, not, _&&_}
+use mathlib.Core.Bool.{true}
 use mathlib.Core.List.{List}
 use mathlib.Core.Option.{some}
 use lib.Dec.{eqb}
 use lib.ListN.{drop}
 use Rattle.rules.specs.Choice.{isEmpty}
 use Rattle.rules.specs.Numbers.{inputSize}
-use Rattle.rules.specs.Bounds.{BoundedRead}
 use Rattle.rules.specs.State.{withTyped, withRead, withIdle}
 use Rattle.rules.specs.Turns.{changes}
 use Rattle.line.specs.declared.Line.{Line}
 use Rattle.line.specs.declared.Work.{Work}
 use Rattle.line.specs.declared.Reading.{Reading}
 use Rattle.line.specs.declared.Typed.{Typed}
-use Rattle.line.specs.View.{view, keysOf, readingOf, pendingOf}
-use Rattle.line.specs.Bounded.{Counted, Bounded}
+use Rattle.line.specs.View.{view, keysOf, inputOf, readingOf}
+use Rattle.line.specs.Bounded.{Counted, CountedReading, Bounded}
 use Rattle.line.specs.With.{onLine, onRead, onTyped}
 use Rattle.line.specs.ReadingParts.{Becomes, HasRoom, idling}
 use Rattle.line.specs.TokenParts.{FirstTaken}
 use Rattle.line.specs.Promise.{Does}
 use Rattle.line.proofs.Appends.{end-is}
+use Rattle.line.proofs.Held.{empty-take}
 use Rattle.line.proofs.Works.{changes-does}
 
 pub pending-room : (l : Line) → Bounded l → l .pending ≡ true → HasRoom (l .reading)
@@ -45,6 +45,10 @@ idle-room h e =
       largest = h .largest;
       room = h .room;
     })
+
+pub input-empty : (r : Reading) → CountedReading r → isEmpty (inputOf r) ≡ eqb (r .count) 0
+unfolding inputOf
+input-empty r c = empty-take (r .count) (r .input) (omega arith)
 
 -- the first key goes, and the read is no longer idle
 module _ {w v u : Work} (rest : Typed) (next : Reading) (r : Reading) (f : FirstTaken (w .line .typed) rest) (c : Counted (w .line))

@@ -44,8 +44,7 @@ completes-requires c κs =
     let next = c .before .before .before .before .push-all .ensures in
     let long = token-length (start .args .self .line .typed) (start .pre .0 .typed) in (
       cleared-does (start .pre .0) (c .before .before .without-token .ensures) (c .before .with-typed .ensures) [] [] .counted,
-      next .becomes .counted,
-      omega (arith, next .count),
+      (next .becomes .counted, omega (arith, next .count)),
     )
 
 same-length : tie.Need-same-length

@@ -1,63 +1,82 @@
+use mathlib.Core.Path.{sym, _∙_}
+use mathlib.Core.List.{[]}
 use borrow.Author.Needs.{needs}
+use borrow.Author.Tests.{eq-eqb}
+use Rattle.rules.specs.State.{codes}
+use Rattle.rules.specs.Steps.{takes, takesFirst}
+use Rattle.rules.proofs.Tests.{isEmpty-nil}
+use Rattle.line.specs.View.{keyOf, readingOf}
+use Rattle.line.proofs.Held.{keys-empty}
+use Rattle.line.proofs.Works.{told-does, then-does}
+use Rattle.line.proofs.Joints.{for-equal, idle-becomes}
+use Rattle.line.proofs.Room.{idle-room, taken-does, taken-short}
 use Rattle.line.proofs.Work.takes_first.Statement.{statement}
 use Rattle.line.proofs.Work.takes_first.Tie as tie
-use Rattle.line.proofs.Work.takes_first.Reads as reads
-use Rattle.line.proofs.Work.takes_first.Lts as lts
-use Rattle.line.proofs.Reading.with_idle.Reads as with-idle-reads
-use Rattle.line.proofs.Typed.first.Reads as first-reads
-use Rattle.line.proofs.Typed.without_first.Reads as without-first-reads
-use Rattle.line.proofs.Work.takes.Reads as takes-reads
-use Rattle.line.proofs.Work.waits.Reads as waits-reads
-use Rattle.line.proofs.Work.with_read.Reads as with-read-reads
-use Rattle.line.proofs.Work.with_typed.Reads as with-typed-reads
 
--- src/taking.rt:63:13
 waits-requires : tie.Need-waits-requires
 waits-requires c κs = search needs
 
--- src/taking.rt:63:13
 same-length : tie.Need-same-length
 same-length c = search needs
 
--- src/taking.rt:63:13
-returns : tie.Need-returns
-returns c = ?
 
--- src/taking.rt:65:13
+returns : tie.Need-returns
+returns c =
+    let start = c .before .before .before .before .before .before .before .before .before in
+    let typed = start .args .self .line .typed in
+    let none = isEmpty-nil _ (keys-empty typed (start .pre .0 .typed) ∙ eq-eqb _ 0 (c .before .before .before .before .if1 .taken)) in
+    for-equal (λ ks. takesFirst codes ks (readingOf (start .args .r))) (sym none) (c .before .before .waits .ensures _)
+
 first-requires : tie.Need-first-requires
 first-requires c κs = search needs
 
--- src/taking.rt:66:13
 without-first-requires : tie.Need-without-first-requires
 without-first-requires c κs = search needs
 
--- src/taking.rt:67:13
 with-idle-requires : tie.Need-with-idle-requires
 with-idle-requires c κs = search needs
 
--- src/taking.rt:68:21
 with-typed-requires : tie.Need-with-typed-requires
 with-typed-requires c κs = search needs
 
--- src/taking.rt:68:13
 with-read-requires : tie.Need-with-read-requires
 with-read-requires c κs = search needs
 
--- src/taking.rt:69:9
-takes-requires : tie.Need-takes-requires
-takes-requires c κs = ?
 
--- src/taking.rt:53:5
+takes-requires : tie.Need-takes-requires
+takes-requires c κs =
+    let start = c .before .before .before .before .before .before .before .before .before .before .before .before in
+    let room = start .pre .1 .0 in
+    let rest = c .before .before .before .before .before .without-first in
+    let next = c .before .before .before .before .with-idle in
+    let becomes = idle-becomes (room .counted) (next .ensures) in
+    let typed = c .before .before .before .with-typed .ensures in
+    let read = c .before .before .with-read .ensures in (
+      taken-does (rest .result) (next .result) (start .args .r) (rest .ensures) (start .pre .0) becomes typed read [] [] .counted,
+      (idle-room room (next .ensures), taken-short (rest .result) (next .result) (start .args .r) (rest .ensures) (start .pre .0) becomes typed read (start .pre .1 .1)),
+    )
+
 same-length-2 : tie.Need-same-length-2
 same-length-2 c = search needs
 
--- src/taking.rt:53:5
 same-length-3 : tie.Need-same-length-3
 same-length-3 c = search needs
 
--- src/taking.rt:53:5
+
 returns-2 : tie.Need-returns-2
-returns-2 c = ?
+unfolding takesFirst
+returns-2 c =
+    let start = c .before .before .before .before .before .before .before .before .before .before .before .before .before .before .before .before .before in
+    let r = start .args .r in
+    let rest = c .before .before .before .before .before .before .before .before .before .before .without-first in
+    let next = c .before .before .before .before .before .before .before .before .before .with-idle in
+    let first = c .before .before .before .before .before .before .before .before .before .before .before .first in
+    let becomes = idle-becomes (start .pre .1 .0 .counted) (next .ensures) in
+    for-equal (λ ks. takesFirst codes ks (readingOf r)) (sym (first .ensures))
+    (told-does _
+    (then-does
+    (taken-does (rest .result) (next .result) r (rest .ensures) (start .pre .0) becomes (c .before .before .before .before .before .before .before .before .with-typed .ensures) (c .before .before .before .before .before .before .before .with-read .ensures) _ _)
+    (for-equal (takes codes (keyOf (first .result))) (becomes .view) (c .before .before .before .before .takes .ensures))))
 
 pub takes-first-spec : {M : Type 1} → statement M
 takes-first-spec =

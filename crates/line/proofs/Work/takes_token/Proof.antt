@@ -38,7 +38,7 @@ ends-by-token-requires c κs =
     let start = c .before .before .before .before .before .before .before .before .before in
     let room = start .pre .1 in
     let is = end-is (start .args .r) (room .counted) in
-    (start .pre .0, room .counted, omega (arith, c .before .before .before .before .end .ensures, c .before .if1 .taken, room .largest))
+    (start .pre .0, (room .counted, omega (arith, c .before .before .before .before .end .ensures, c .before .if1 .taken, room .largest)))
 
 same-length : tie.Need-same-length
 same-length c = search needs

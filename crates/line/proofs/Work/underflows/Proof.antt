@@ -1,53 +1,47 @@
+use mathlib.Core.Path.{refl}
 use borrow.Author.Needs.{needs}
+use borrow.Author.Tests.{eq-eqb, ne-eqb}
+use Rattle.rules.specs.Steps.{underflows}
+use Rattle.line.proofs.Works.{first-does, second-does, told-does, only-does, not-does, still-does}
+use Rattle.line.proofs.Joints.{completes-as}
 use Rattle.line.proofs.Work.underflows.Statement.{statement}
 use Rattle.line.proofs.Work.underflows.Tie as tie
-use Rattle.line.proofs.Work.underflows.Reads as reads
-use Rattle.line.proofs.Work.underflows.Lts as lts
-use Rattle.line.proofs.Reading.push.Reads as push-reads
-use Rattle.line.proofs.Work.completes.Reads as completes-reads
-use Rattle.line.proofs.Work.put.Reads as put-reads
 
--- src/steps.rt:122:17
 push-requires : tie.Need-push-requires
 push-requires c κs = search needs
 
--- src/steps.rt:123:13
 completes-requires : tie.Need-completes-requires
 completes-requires c κs = search needs
 
--- src/steps.rt:123:13
 same-length : tie.Need-same-length
 same-length c = search needs
 
--- src/steps.rt:123:13
-returns : tie.Need-returns
-returns c = ?
 
--- src/steps.rt:126:13
+returns : tie.Need-returns
+unfolding underflows
+returns c =
+    first-does _ _ (eq-eqb _ 2 (c .before .before .before .before .before .if1 .taken))
+    (completes-as refl refl (c .before .before .before .before .push .ensures .becomes .view) (c .before .before .completes .ensures _))
+
 put-requires : tie.Need-put-requires
 put-requires c κs = search needs
 
--- src/steps.rt:126:13
 same-length-2 : tie.Need-same-length-2
 same-length-2 c = search needs
 
--- src/steps.rt:126:13
-returns-2 : tie.Need-returns-2
-returns-2 c = ?
 
--- src/steps.rt:114:5
+returns-2 : tie.Need-returns-2
+unfolding underflows
+returns-2 c =
+    second-does _ _ (ne-eqb _ 2 (c .before .before .before .before .before .if1 .left)) (told-does _ (only-does _ (eq-eqb _ 1 (c .before .before .before .before .if2 .taken)) (c .before .before .put .ensures _)))
+
 returns-3 : tie.Need-returns-3
-returns-3 c = ?
+unfolding underflows
+returns-3 c =
+    let start = c .before .before .before .before .before in
+    second-does _ _ (ne-eqb _ 2 (c .before .if1 .left))
+    (told-does _ (not-does _ (ne-eqb _ 1 (c .if2 .left)) (still-does (start .args .self) _ _ (start .pre .0))))
 
 pub underflows-spec : {M : Type 1} → statement M
 underflows-spec =
-    tie.close
-    (tie.spec
-    push-requires
-    completes-requires
-    same-length
-    returns
-    put-requires
-    same-length-2
-    returns-2
-    returns-3)
+    tie.close (tie.spec push-requires completes-requires same-length returns put-requires same-length-2 returns-2 returns-3)
