@@ -15,9 +15,9 @@ use Rattle.rules.specs.Editing.{endOf, hiddenCount, displayed}
 use Rattle.rules.specs.Steps.{appended}
 use Rattle.rules.proofs.Tests.{pick-true, pick-false, halves}
 use Rattle.line.specs.declared.Reading.{Reading}
-use Rattle.line.specs.View.{inputOf, termsOf, readingOf}
+use Rattle.line.specs.View.{inputOf, readingOf}
 use Rattle.line.specs.Bounded.{CountedReading}
-use Rattle.line.specs.ReadingParts.{Becomes, Appends, ShownFrom}
+use Rattle.line.specs.ReadingParts.{Appends, ShownFrom}
 
 pub input-length : (r : Reading) → CountedReading r → length (inputOf r) ≡ r .count
 unfolding inputOf

@@ -1,15 +1,15 @@
 -- More parts of a call as parts of the rules: nothing written, another read or token, no read.
 use mathlib.Core.Path.{_≡_, refl, sym, ap, _∙_}
-use Prim.Native.Nat.{ℕ, _+_, _-_, _<_}
+use Prim.Native.Nat.{ℕ, _-_, _<_}
 use native.Mathlib.Omega.{arith}
 use mathlib.Core.Bool.{Bool, true, false, not, _||_}
 use mathlib.Core.List.{List, [], _∷_, _++_}
-use mathlib.Core.Option.{none, some}
+use mathlib.Core.Option.{none}
 use lib.ListN.{length, take}
 use Rattle.rules.specs.Choice.{pick, bit, isEmpty, joined}
 use Rattle.screen.specs.Area.{puts, spot}
 use Rattle.rules.specs.State as rules
-use Rattle.rules.specs.State.{State, codes, withTyped, withRead, withFrom, withIdle}
+use Rattle.rules.specs.State.{codes, withTyped, withRead, withFrom, withIdle}
 use Rattle.rules.specs.Screen.{shownAll, change}
 use Rattle.rules.specs.Turns.{Part, still, writes, changes, behind, _then_, only}
 use Rattle.rules.specs.Token.{isWhole}

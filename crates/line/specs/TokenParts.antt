@@ -1,7 +1,7 @@
 -- Tokens: the number of a place in their grammar, and what the methods on a token and on the first key promise.
 use Prim.Native.Nat.{ℕ, zero, suc, _+_}
 use mathlib.Core.Path.{_≡_}
-use mathlib.Core.List.{List, [], _∷_, map}
+use mathlib.Core.List.{List, map}
 use lib.ListN.{set, drop}
 use Rattle.rules.specs.State.{codes}
 use Rattle.rules.specs.Token.{Place, empty, escape, middle, parameters, intermediates, valid, invalid}

@@ -1,10 +1,7 @@
 use mathlib.Core.Path.{refl}
 use borrow.Author.Needs.{needs}
-use Rattle.rules.specs.State.{codes}
-use Rattle.rules.specs.Turns.{sends}
 use Rattle.rules.specs.ReadData.{answerOf}
-use Rattle.line.specs.View.{readingOf}
-use Rattle.line.proofs.Works.{here-does}
+use Rattle.line.proofs.Joints.{here-part}
 use Rattle.line.proofs.Work.answers.Statement.{statement}
 use Rattle.line.proofs.Work.answers.Tie as tie
 
@@ -23,10 +20,7 @@ same-length c = search needs
 
 returns : tie.Need-returns
 unfolding answerOf
-returns c =
-    let a = c .before .before .before .before .before .before .before .before .args in
-    λ t. here-does (λ s. sends (answerOf codes (a .code) (a .ending) (readingOf (a .r)) s))
-    (c .before .before .send .ensures _ (c .before .before .before .before .before .before .answer .ensures) refl t)
+returns c = λ t. here-part refl (c .before .before .send .ensures _ (c .before .before .before .before .before .before .answer .ensures) refl t)
 
 pub answers-spec : {M : Type 1} → statement M
 answers-spec =

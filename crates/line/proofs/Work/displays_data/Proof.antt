@@ -1,19 +1,13 @@
-use mathlib.Core.Path.{sym, ap, _∙_}
-use Prim.Native.Nat.{ℕ, _-_}
+use mathlib.Core.Path.{refl, sym, ap, _∙_}
+use Prim.Native.Nat.{_-_}
 use mathlib.Core.List.{[]}
-use mathlib.Core.Option.{some}
 use lib.ListN.{take, drop}
 use borrow.Author.Needs.{needs}
-use Rattle.rules.specs.Choice.{pick}
 use Rattle.rules.specs.Screen.{echoAll}
-use Rattle.rules.specs.State.{Reading, State, codes, withRead, withFrom}
-use Rattle.rules.specs.Turns.{Part, writes, changes, _then_}
-use Rattle.rules.specs.Editing.{displayed}
 use Rattle.rules.proofs.Tests.{pick-true, pick-false}
-use Rattle.line.specs.View.{readingOf}
 use Rattle.line.specs.ReadingParts.{displaysData}
-use Rattle.line.proofs.Works.{here-does, then-does, read-does}
-use Rattle.line.proofs.Joints.{same-writes, blank-does, read-counted, from-becomes}
+use Rattle.line.proofs.Works.{then-does, read-does}
+use Rattle.line.proofs.Joints.{same-writes, blank-does, here-part, read-counted, from-becomes}
 use Rattle.line.proofs.Work.displays_data.Statement.{statement}
 use Rattle.line.proofs.Work.displays_data.Tie as tie
 
@@ -50,11 +44,6 @@ same-length : tie.Need-same-length
 same-length c = search needs
 
 
-abbrev displaying : Reading ℕ → State ℕ → Part ℕ
-displaying r s =
-    changes (withRead (some (withFrom (s .terminal .screen .column) r))) then
-    writes (pick (r .terms .echoes) (echoAll (s .terminal .screen .column) (displayed codes r)) [])
-
 returns : tie.Need-returns
 unfolding displaysData
 returns c =
@@ -68,7 +57,7 @@ returns c =
     let text =
         ap (λ x. echoAll (x .line .terminal .screen .column) (take (r .count - from) (drop from (r .input)))) (begun .with-read .ensures)
         ∙ ap (echoAll column) (shown .first-shown .ensures .text) ∙ sym (pick-true _ [] (shown .before .before .if1 .taken)) in
-    λ m. here-does (displaying (readingOf r))
+    λ m. here-part refl
     (then-does (read-does (next .result) (from-becomes (start .pre .1) (next .ensures)) (start .pre .0) (begun .with-read .ensures) _ m)
     (same-writes text (c .before .before .echo-all .ensures m)))
 
@@ -78,10 +67,9 @@ returns-2 c =
     let begun = c .before .before in
     let start = begun .before .before .before .before .before .before in
     let next = begun .before .with-from in
-    let r = start .args .r in
     let becomes = from-becomes (start .pre .1) (next .ensures) in
     let counted = read-counted (start .pre .0) (next .result) (becomes .counted) (begun .with-read .ensures) in
-    λ m. here-does (displaying (readingOf r))
+    λ m. here-part refl
     (then-does (read-does (next .result) becomes (start .pre .0) (begun .with-read .ensures) _ m)
     (blank-does (begun .with-read .result) _ m (pick-false _ _ (c .if1 .left)) counted))
 

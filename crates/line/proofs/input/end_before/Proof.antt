@@ -3,7 +3,6 @@ use Prim.Native.Nat.{suc, _-_, _≤_}
 use native.Mathlib.Omega.{arith}
 use borrow.Author.Tests.{not-true, not-false}
 use lib.ListN.{length}
-use Rattle.rules.specs.Editing.{leading}
 use Rattle.line.specs.ReadingParts.{ofClass}
 use Rattle.line.proofs.Words.{before, before-more, before-stop}
 use Rattle.line.proofs.input.end_before.Statement.{statement}

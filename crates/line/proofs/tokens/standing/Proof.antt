@@ -1,5 +1,4 @@
-use mathlib.Core.Path.{sym, _∙_}
-use borrow.Author.Needs.{needs}
+use mathlib.Core.Path.{sym}
 use Rattle.line.specs.TokenParts.{placeOf}
 use Rattle.line.proofs.Places.{standing-cut, standing-kept}
 use Rattle.line.proofs.tokens.standing.Statement.{statement}
