@@ -30,21 +30,22 @@ end-is r c = ap (λ n. r .terms .«end_of_prompt» + n) (sym (input-length r c))
 -- the character behind the others, as the program stores it
 abbrev withPushed : ℕ → Reading → Reading
 withPushed c r =
-    record
-    { terms = r .terms;
+    record {
+      terms = r .terms;
       input = set (r .input) (r .count) c;
       count = r .count + 1;
       «low_water» = r .«low_water»;
       hidden = r .hidden;
       from = r .from;
-      idle = r .idle }
+      idle = r .idle;
+    }
 
 pub pushed : (r : Reading) (c : ℕ) → CountedReading r → r .count < 132 → Appends (c ∷ []) r (withPushed c r)
 unfolding appended inputOf
 pushed r c k h =
     let room : r .count < length (r .input) = omega arith in
     let more : take (r .count + 1) (set (r .input) (r .count) c) ≡ take (r .count) (r .input) ++ (c ∷ []) =
-        ap (λ n. take n (set (r .input) (r .count) c)) (add-one (r .count)) ∙ take-suc-set (r .input) (r .count) c room in
+    ap (λ n. take n (set (r .input) (r .count) c)) (add-one (r .count)) ∙ take-suc-set (r .input) (r .count) c room in
     record {
       becomes = record {
         view = λ i. withInput (more i) (readingOf r);

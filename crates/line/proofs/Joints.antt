@@ -152,8 +152,14 @@ module _ (w : Work) (r : Reading) (code ending : ℕ) {more vertical horizontal 
       horizontal ≡ change (w .line .terminal .screen .column) (r .terms .column) →
       heldIn (r .input)
       (ReadData (record {
-        code = code; more = more; «low_water» = r .«low_water»; vertical = vertical; horizontal = horizontal;
-        terminator = r .count - ending; text = record { start = 0; len = r .count } }))
+        code = code;
+        more = more;
+        «low_water» = r .«low_water»;
+        vertical = vertical;
+        horizontal = horizontal;
+        terminator = r .count - ending;
+        text = record { start = 0; len = r .count };
+      }))
       ≡ codec.message (answerOf codes code ending (readingOf r) (view (w .line)))
   unfolding heldIn partOf answerOf moreData inputOf
   answer-held m v h =

@@ -27,14 +27,14 @@ module _ (test : ℕ → Bool) (text : List ℕ) (at last : ℕ) (e : at ≡ suc
   unfolding leading
   before-more t =
       let more : leading test (reverse (take at text)) ≡ 1 + leading test (reverse (take last text)) =
-          ap (λ k. leading test (reverse (take k text))) e ∙ ap (leading test) (back text last h) ∙ pick-true _ _ t in
+      ap (λ k. leading test (reverse (take k text))) e ∙ ap (leading test) (back text last h) ∙ pick-true _ _ t in
       omega arith
 
   pub before-stop : test (getD text last 0) ≡ false → at ≡ before test at text
   unfolding leading
   before-stop t =
       let none : leading test (reverse (take at text)) ≡ 0 =
-          ap (λ k. leading test (reverse (take k text))) e ∙ ap (leading test) (back text last h) ∙ pick-false _ _ t in
+      ap (λ k. leading test (reverse (take k text))) e ∙ ap (leading test) (back text last h) ∙ pick-false _ _ t in
       omega arith
 
 leading-most : (test : ℕ → Bool) (ns : List ℕ) → leading test ns ≤ length ns
@@ -63,7 +63,7 @@ left-by text end spaces left h e f =
     let most : k ≤ length ns = omega (arith, leading-most (λ n. not (isWord n)) (reverse ns), length-reverse ns) in
     let there : length ns - k ≡ spaces = omega arith in
     let behind : drop k (reverse ns) ≡ reverse (take spaces text) =
-        drop-reverse ns k most ∙ ap (λ j. reverse (take j ns)) there ∙ ap reverse (take-take spaces end text (omega arith)) in
+    drop-reverse ns k most ∙ ap (λ j. reverse (take j ns)) there ∙ ap reverse (take-take spaces end text (omega arith)) in
     let word : leading isWord (drop k (reverse ns)) ≡ leading isWord (reverse (take spaces text)) = ap (leading isWord) behind in
     omega arith
 

@@ -46,7 +46,10 @@ impl Work {
         let more = typed.remains();
         let vertical = screen::columns::change(cursor.line as u16, terms.line as u16);
         let horizontal = screen::columns::change(cursor.column, terms.column);
-        let text = Part { start: 0, len: r.count };
+        let text = Part {
+            start: 0,
+            len: r.count,
+        };
         Message::ReadData(ReadDataFields {
             code,
             more,

@@ -16,10 +16,15 @@ use crate::Typed;
 
 // The places of the grammar, in its order.
 const ESCAPE: u8 = 1;
+
 const MIDDLE: u8 = 2;
+
 const PARAMETERS: u8 = 3;
+
 const INTERMEDIATES: u8 = 4;
+
 const VALID: u8 = 5;
+
 const INVALID: u8 = 6;
 
 // The first byte.

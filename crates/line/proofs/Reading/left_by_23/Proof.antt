@@ -21,7 +21,6 @@ end-before-requires-2 c κs = search needs
 cast-result : tie.Need-cast-result
 cast-result c = search needs
 
-
 returns : tie.Need-returns
 returns c =
     let start = c .before .before .before .before .before .before in

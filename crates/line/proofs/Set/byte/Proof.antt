@@ -13,7 +13,6 @@ cast-if1 c = search needs
 array-read-result : tie.Need-array-read-result
 array-read-result c = search needs
 
-
 returns : tie.Need-returns
 unfolding setOf
 returns c =

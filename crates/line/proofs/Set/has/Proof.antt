@@ -15,7 +15,6 @@ byte-requires c κs = search needs
 shr-result : tie.Need-shr-result
 shr-result c = search needs
 
-
 returns : tie.Need-returns
 unfolding inSet
 returns c = ap (λ b. eqb (b / 2 ^ (c .before .args .c % 8) % 2) 1) (c .byte .ensures)

@@ -6,7 +6,6 @@ use Rattle.line.proofs.Typed.first.Tie as tie
 array-copy-out-result : tie.Need-array-copy-out-result
 array-copy-out-result c = search needs
 
-
 returns : tie.Need-returns
 returns c = let start = c .before .before in first-key (start .args .self) _ (start .pre .0) (start .pre .1)
 

@@ -13,7 +13,6 @@ cast-size c = search needs
 array-share-prefix-token : tie.Need-array-share-prefix-token
 array-share-prefix-token c = search needs
 
-
 slice-aggregate-is-whole : tie.Need-slice-aggregate-is-whole
 slice-aggregate-is-whole c = let start = c .before .before .before in token-length (start .args .self) (start .pre)
 

@@ -15,7 +15,6 @@ cast-size c = search needs
 array-share-prefix-token : tie.Need-array-share-prefix-token
 array-share-prefix-token c = search needs
 
-
 slice-aggregate-is-valid : tie.Need-slice-aggregate-is-valid
 slice-aggregate-is-valid c = let start = c .before .before .before in token-length (start .args .self) (start .pre)
 

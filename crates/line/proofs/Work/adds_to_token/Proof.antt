@@ -16,7 +16,6 @@ tokened-requires c κs = search needs
 with-typed-requires : tie.Need-with-typed-requires
 with-typed-requires c κs = search needs
 
-
 is-held-requires : tie.Need-is-held-requires
 is-held-requires c κs =
     let start = c .before .before .before .before .before in
@@ -30,7 +29,6 @@ takes-token-requires c κs =
 
 same-length : tie.Need-same-length
 same-length c = search needs
-
 
 returns : tie.Need-returns
 unfolding addsToToken

@@ -21,7 +21,6 @@ change-requires-2 c κs = search needs
 sub-t14 : tie.Need-sub-t14
 sub-t14 c = search needs
 
-
 returns : tie.Need-returns
 returns c =
     let start = c .before .before .before .before .before .before .before .before .before .before .before in

@@ -17,7 +17,6 @@ send-requires c κs = search needs
 same-length : tie.Need-same-length
 same-length c = search needs
 
-
 returns : tie.Need-returns
 unfolding answerOf
 returns c = λ t. here-part refl (c .before .before .send .ensures _ (c .before .before .before .before .before .before .answer .ensures) refl t)

@@ -9,7 +9,6 @@ use Rattle.line.proofs.Work.completes.Tie as tie
 loses-partial-requires : tie.Need-loses-partial-requires
 loses-partial-requires c κs = search needs
 
-
 answers-requires : tie.Need-answers-requires
 answers-requires c κs = (c .before .loses-partial .ensures [] [] .counted, c .before .before .before .pre .1)
 
@@ -18,7 +17,6 @@ without-read-requires c κs = search needs
 
 same-length : tie.Need-same-length
 same-length c = search needs
-
 
 returns : tie.Need-returns
 unfolding completes

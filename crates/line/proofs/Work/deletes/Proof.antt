@@ -15,7 +15,6 @@ marks-requires c κs = search needs
 rub-out-requires : tie.Need-rub-out-requires
 rub-out-requires c κs = search needs
 
-
 deletes-unseen-requires : tie.Need-deletes-unseen-requires
 deletes-unseen-requires c κs =
     let start = c .before .before .before .before .before .before .before .before in
@@ -23,7 +22,6 @@ deletes-unseen-requires c κs =
 
 same-length : tie.Need-same-length
 same-length c = search needs
-
 
 returns : tie.Need-returns
 unfolding deletes rubbing
@@ -35,7 +33,6 @@ returns c =
 
 deletes-unseen-requires-2 : tie.Need-deletes-unseen-requires-2
 deletes-unseen-requires-2 c κs = search needs
-
 
 returns-2 : tie.Need-returns-2
 unfolding deletes rubbing

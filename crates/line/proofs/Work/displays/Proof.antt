@@ -16,7 +16,6 @@ cast-size c = search needs
 array-share-prefix-prompt : tie.Need-array-share-prefix-prompt
 array-share-prefix-prompt c = search needs
 
-
 slice-aggregate-write : tie.Need-slice-aggregate-write
 slice-aggregate-write c =
     let start = c .before .before .before .before .before .before in
@@ -27,13 +26,11 @@ slice-aggregate-write c =
 write-requires : tie.Need-write-requires
 write-requires c κs = search needs
 
-
 displays-data-requires : tie.Need-displays-data-requires
 displays-data-requires c κs = (c .before .before .before .write .ensures [] .counted, c .before .before .before .before .before .before .before .before .before .before .pre .1)
 
 same-length : tie.Need-same-length
 same-length c = search needs
-
 
 returns : tie.Need-returns
 unfolding displays displaysData promptOf

@@ -32,7 +32,6 @@ part-echo-all-start c = search needs
 part-echo-all-end : tie.Need-part-echo-all-end
 part-echo-all-end c = search needs
 
-
 echo-all-requires : tie.Need-echo-all-requires
 echo-all-requires c κs =
     let begun = c .before .before .before .before .before .before .before .before in
@@ -42,7 +41,6 @@ echo-all-requires c κs =
 
 same-length : tie.Need-same-length
 same-length c = search needs
-
 
 returns : tie.Need-returns
 unfolding displaysData
@@ -55,8 +53,8 @@ returns c =
     let column = start .args .self .line .terminal .screen .column in
     let from = shown .first-shown .result in
     let text =
-        ap (λ x. echoAll (x .line .terminal .screen .column) (take (r .count - from) (drop from (r .input)))) (begun .with-read .ensures)
-        ∙ ap (echoAll column) (shown .first-shown .ensures .text) ∙ sym (pick-true _ [] (shown .before .before .if1 .taken)) in
+    ap (λ x. echoAll (x .line .terminal .screen .column) (take (r .count - from) (drop from (r .input)))) (begun .with-read .ensures)
+    ∙ ap (echoAll column) (shown .first-shown .ensures .text) ∙ sym (pick-true _ [] (shown .before .before .if1 .taken)) in
     λ m. here-part refl
     (then-does (read-does (next .result) (from-becomes (start .pre .1) (next .ensures)) (start .pre .0) (begun .with-read .ensures) _ m)
     (same-writes text (c .before .before .echo-all .ensures m)))

@@ -13,7 +13,6 @@ echo-terminator-requires c κs = search needs
 same-length : tie.Need-same-length
 same-length c = search needs
 
-
 returns : tie.Need-returns
 unfolding echoesTerminatorIf
 returns c = λ m. here-part refl (same-writes (sym (pick-true _ [] (c .before .before .before .before .if1 .taken))) (c .before .before .echo-terminator .ensures m))

@@ -23,7 +23,6 @@ same-length c = search needs
 same-length-2 : tie.Need-same-length-2
 same-length-2 c = search needs
 
-
 returns : tie.Need-returns
 unfolding edits
 returns c =
@@ -44,7 +43,6 @@ same-length-3 c = search needs
 same-length-4 : tie.Need-same-length-4
 same-length-4 c = search needs
 
-
 returns-2 : tie.Need-returns-2
 unfolding edits
 returns-2 c =
@@ -59,7 +57,6 @@ deletes-requires c κs = search needs
 same-length-5 : tie.Need-same-length-5
 same-length-5 c = search needs
 
-
 returns-3 : tie.Need-returns-3
 unfolding edits erasesAll
 returns-3 c =
@@ -72,7 +69,6 @@ redisplays-requires c κs = search needs
 
 same-length-6 : tie.Need-same-length-6
 same-length-6 c = search needs
-
 
 returns-4 : tie.Need-returns-4
 unfolding edits showsAgain

@@ -16,7 +16,6 @@ cast-size c = search needs
 array-share-prefix-token : tie.Need-array-share-prefix-token
 array-share-prefix-token c = search needs
 
-
 slice-aggregate-push-all : tie.Need-slice-aggregate-push-all
 slice-aggregate-push-all c = let start = c .before .before .before .before .before .before in token-length (start .args .self .line .typed) (start .pre .0 .typed)
 
@@ -49,7 +48,6 @@ completes-requires c κs =
 
 same-length : tie.Need-same-length
 same-length c = search needs
-
 
 returns : tie.Need-returns
 unfolding endsByToken tokenOf

@@ -16,7 +16,6 @@ same-length c = search needs
 same-length-2 : tie.Need-same-length-2
 same-length-2 c = search needs
 
-
 returns : tie.Need-returns
 unfolding erases
 returns c =
@@ -29,7 +28,6 @@ deletes-requires c κs = search needs
 
 same-length-3 : tie.Need-same-length-3
 same-length-3 c = search needs
-
 
 returns-2 : tie.Need-returns-2
 unfolding erases

@@ -21,7 +21,6 @@ completes-requires c κs = search needs
 same-length : tie.Need-same-length
 same-length c = search needs
 
-
 returns : tie.Need-returns
 unfolding idles
 returns c = λ t. first-does _ _ (le-leb _ _ (c .before .before .before .before .if1 .taken)) (c .before .before .completes .ensures t)
@@ -34,7 +33,6 @@ with-idle-requires c κs = search needs
 
 with-read-requires : tie.Need-with-read-requires
 with-read-requires c κs = search needs
-
 
 returns-2 : tie.Need-returns-2
 unfolding idles

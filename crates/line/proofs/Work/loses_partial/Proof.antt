@@ -15,7 +15,6 @@ without-token-requires c κs = search needs
 with-typed-requires : tie.Need-with-typed-requires
 with-typed-requires c κs = search needs
 
-
 returns : tie.Need-returns
 unfolding losesPartial
 returns c =

@@ -11,13 +11,11 @@ slice-aggregate-write c = search needs
 write-requires : tie.Need-write-requires
 write-requires c κs = search needs
 
-
 displays-requires : tie.Need-displays-requires
 displays-requires c κs = (c .before .before .before .write .ensures [] .counted, c .before .before .before .before .before .before .before .pre .1)
 
 same-length : tie.Need-same-length
 same-length c = search needs
-
 
 returns : tie.Need-returns
 unfolding redisplays

@@ -23,7 +23,6 @@ returns c =
 is-held-requires : tie.Need-is-held-requires
 is-held-requires c κs = search needs
 
-
 takes-token-requires : tie.Need-takes-token-requires
 takes-token-requires c κs =
     let start = c .before .before .before .before .before .before .before .before .before in
@@ -31,7 +30,6 @@ takes-token-requires c κs =
 
 same-length : tie.Need-same-length
 same-length c = search needs
-
 
 returns-2 : tie.Need-returns-2
 unfolding steps stepsWhile
@@ -56,7 +54,6 @@ same-length-2 c = search needs
 
 same-length-3 : tie.Need-same-length-3
 same-length-3 c = search needs
-
 
 returns-3 : tie.Need-returns-3
 unfolding steps stepsWhile

@@ -17,7 +17,6 @@ adds-to-token-requires c κs = search needs
 same-length : tie.Need-same-length
 same-length c = search needs
 
-
 returns : tie.Need-returns
 unfolding takes
 returns c = here-first _ refl (sym (c .before .before .before .before .before .is-partial .ensures) ∙ c .before .before .before .before .if1 .taken) (c .before .before .adds-to-token .ensures _)
@@ -30,7 +29,6 @@ same-length-2 c = search needs
 
 same-length-3 : tie.Need-same-length-3
 same-length-3 c = search needs
-
 
 returns-2 : tie.Need-returns-2
 unfolding takes
@@ -45,7 +43,6 @@ adds-to-token-requires-2 c κs = search needs
 
 same-length-4 : tie.Need-same-length-4
 same-length-4 c = search needs
-
 
 returns-3 : tie.Need-returns-3
 unfolding takes
@@ -65,7 +62,6 @@ same-length-5 c = search needs
 
 same-length-6 : tie.Need-same-length-6
 same-length-6 c = search needs
-
 
 returns-4 : tie.Need-returns-4
 unfolding takes

@@ -18,7 +18,6 @@ push-requires c κs = search needs
 with-read-requires : tie.Need-with-read-requires
 with-read-requires c κs = search needs
 
-
 echoes-if-requires : tie.Need-echoes-if-requires
 echoes-if-requires c κs =
     let next = c .before .before .push in
@@ -26,7 +25,6 @@ echoes-if-requires c κs =
 
 end-requires : tie.Need-end-requires
 end-requires c κs = search needs
-
 
 add-if1 : tie.Need-add-if1
 add-if1 c =
@@ -47,7 +45,6 @@ same-length c = search needs
 same-length-2 : tie.Need-same-length-2
 same-length-2 c = search needs
 
-
 returns : tie.Need-returns
 unfolding takesData echoesIf
 returns c =
@@ -60,7 +57,6 @@ returns c =
 
 same-length-3 : tie.Need-same-length-3
 same-length-3 c = search needs
-
 
 returns-2 : tie.Need-returns-2
 unfolding takesData echoesIf

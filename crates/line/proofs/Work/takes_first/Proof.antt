@@ -19,7 +19,6 @@ waits-requires c κs = search needs
 same-length : tie.Need-same-length
 same-length c = search needs
 
-
 returns : tie.Need-returns
 returns c =
     let start = c .before .before .before .before .before .before .before .before .before in
@@ -42,7 +41,6 @@ with-typed-requires c κs = search needs
 with-read-requires : tie.Need-with-read-requires
 with-read-requires c κs = search needs
 
-
 takes-requires : tie.Need-takes-requires
 takes-requires c κs =
     let start = c .before .before .before .before .before .before .before .before .before .before .before .before in
@@ -61,7 +59,6 @@ same-length-2 c = search needs
 
 same-length-3 : tie.Need-same-length-3
 same-length-3 c = search needs
-
 
 returns-2 : tie.Need-returns-2
 unfolding takesFirst

@@ -17,7 +17,6 @@ same-length c = search needs
 same-length-2 : tie.Need-same-length-2
 same-length-2 c = search needs
 
-
 returns : tie.Need-returns
 unfolding takesPlain
 returns c = first-does _ _ (sym (c .before .before .before .before .before .before .before .before .ends-by .ensures) ∙ c .before .before .before .before .before .before .before .if1 .taken) (c .before .before .before .before .terminates .ensures)
@@ -34,7 +33,6 @@ same-length-3 c = search needs
 same-length-4 : tie.Need-same-length-4
 same-length-4 c = search needs
 
-
 returns-2 : tie.Need-returns-2
 unfolding takesPlain
 returns-2 c =
@@ -49,7 +47,6 @@ same-length-5 c = search needs
 
 same-length-6 : tie.Need-same-length-6
 same-length-6 c = search needs
-
 
 returns-3 : tie.Need-returns-3
 unfolding takesPlain

@@ -20,7 +20,6 @@ end-requires c κs = search needs
 cast-if1 : tie.Need-cast-if1
 cast-if1 c = search needs
 
-
 add-if1 : tie.Need-add-if1
 add-if1 c =
     let start = c .before .before .before .before .before .before in
@@ -30,7 +29,6 @@ add-if1 c =
 
 cast-if1-2 : tie.Need-cast-if1-2
 cast-if1-2 c = search needs
-
 
 ends-by-token-requires : tie.Need-ends-by-token-requires
 ends-by-token-requires c κs =
@@ -42,7 +40,6 @@ ends-by-token-requires c κs =
 same-length : tie.Need-same-length
 same-length c = search needs
 
-
 returns : tie.Need-returns
 unfolding takesToken endsByToken
 returns c =
@@ -51,7 +48,7 @@ returns c =
     let typed = a .self .line .typed in
     let long = token-counted typed (start .pre .0 .typed) in
     let fits : endOf (readingOf (a .r)) + length (tokenOf typed) ≤ a .r .terms .«max_length» =
-        omega (arith, c .before .before .before .before .before .before .before .end .ensures, c .before .before .before .before .if1 .taken) in
+    omega (arith, c .before .before .before .before .before .before .before .end .ensures, c .before .before .before .before .if1 .taken) in
     λ t. here-first _ refl (le-leb _ _ fits) (here-part refl (c .before .before .ends-by-token .ensures t))
 
 completes-requires : tie.Need-completes-requires
@@ -59,7 +56,6 @@ completes-requires c κs = search needs
 
 same-length-2 : tie.Need-same-length-2
 same-length-2 c = search needs
-
 
 returns-2 : tie.Need-returns-2
 unfolding takesToken
@@ -69,7 +65,7 @@ returns-2 c =
     let typed = a .self .line .typed in
     let long = token-counted typed (start .pre .0 .typed) in
     let fits = lt-leb (endOf (readingOf (a .r)) + length (tokenOf typed)) (a .r .terms .«max_length»)
-        (omega (arith, c .before .before .before .before .before .before .before .end .ensures, c .before .before .before .before .if1 .left)) in
+    (omega (arith, c .before .before .before .before .before .before .before .end .ensures, c .before .before .before .before .if1 .left)) in
     λ t. here-second _ refl fits (c .before .before .completes .ensures t)
 
 pub takes-token-spec : {M : Type 1} → statement M

@@ -15,7 +15,6 @@ push-requires c κs = search needs
 echoes-terminator-if-requires : tie.Need-echoes-terminator-if-requires
 echoes-terminator-if-requires c κs = search needs
 
-
 completes-requires : tie.Need-completes-requires
 completes-requires c κs =
     let next = c .before .before .before .before .before .before .push .ensures in
@@ -26,7 +25,6 @@ same-length c = search needs
 
 same-length-2 : tie.Need-same-length-2
 same-length-2 c = search needs
-
 
 returns : tie.Need-returns
 unfolding terminates echoesTerminatorIf

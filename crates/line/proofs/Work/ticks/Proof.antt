@@ -24,7 +24,6 @@ returns c =
 is-held-requires : tie.Need-is-held-requires
 is-held-requires c κs = search needs
 
-
 idles-requires : tie.Need-idles-requires
 idles-requires c κs =
     let start = c .before .before .before .before .before .before .before .before .before .before .before .before in
@@ -32,7 +31,6 @@ idles-requires c κs =
 
 same-length : tie.Need-same-length
 same-length c = search needs
-
 
 returns-2 : tie.Need-returns-2
 unfolding ticks ticksWhile

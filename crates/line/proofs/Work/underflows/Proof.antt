@@ -16,7 +16,6 @@ completes-requires c κs = search needs
 same-length : tie.Need-same-length
 same-length c = search needs
 
-
 returns : tie.Need-returns
 unfolding underflows
 returns c =
@@ -28,7 +27,6 @@ put-requires c κs = search needs
 
 same-length-2 : tie.Need-same-length-2
 same-length-2 c = search needs
-
 
 returns-2 : tie.Need-returns-2
 unfolding underflows

@@ -10,7 +10,6 @@ completes-requires c κs = search needs
 same-length : tie.Need-same-length
 same-length c = search needs
 
-
 returns : tie.Need-returns
 unfolding takesFirst
 returns c = λ t. only-does _ (c .before .before .before .before .if1 .taken) (c .before .before .completes .ensures t)

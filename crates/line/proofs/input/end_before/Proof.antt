@@ -47,8 +47,8 @@ loop-again c =
     let e : at ≡ suc (at - 1) = omega arith in (
       omega arith,
       before-more (ofClass (args .word)) (args .text .now) at (at - 1) e (omega arith)
-      (sym (c .before .is-of .ensures) ∙ not-false _ (c .if1 .left))
-      ∙ a .loop .inv .1,
+          (sym (c .before .is-of .ensures) ∙ not-false _ (c .if1 .left))
+          ∙ a .loop .inv .1,
     )
 
 returns-2 : tie.Need-returns-2 Inv-loop μ-loop
