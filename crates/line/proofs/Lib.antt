@@ -8,3 +8,9 @@ pub mod FreshLine
 pub mod Answering
 pub mod Evented
 pub mod Sends
+pub mod Appends
+pub mod Words
+pub mod Places
+pub mod Held
+pub mod Joints
+pub mod Room

@@ -1,6 +1,10 @@
 -- A message that was put behind its length is a message sent.
 use mathlib.Core.Path.{_≡_, refl, sym, ap, _∙_}
-use Prim.Native.Nat.{ℕ, _+_}
+use Prim.Native.Nat.{ℕ, _+_, _≤_}
+use native.Mathlib.Omega.{arith}
+use lib.Dec.{leb·zero}
+use borrow.Author.Tests.{le-leb}
+use Rattle.rules.proofs.Tests.{both}
 use mathlib.Core.Bool.{true}
 use mathlib.Core.List.{List, [], _∷_, _++_, map, append-nil}
 use lib.ListN.{length}
@@ -51,3 +55,10 @@ module _ (w : Work) (m : Message) (s : List ℕ) {a a′ : List ℕ} (n : ℕ) (
         terminalLength = refl;
         messagesLength = p .same;
       }
+
+-- a text in front of a slice lies inside it
+pub text-inside : (n size : ℕ) → n ≤ size → inside size (parts.withText 3 8 (record { start = 0; len = n })) ≡ true
+unfolding inside
+text-inside n size h =
+    let none = leb·zero size in
+    both (both (both none none) (le-leb (0 + n) size (omega arith))) none

@@ -8,12 +8,14 @@ ghost use Rattle.rules.specs.Messages.Forms.{plain};
 ghost use Rattle.rules.specs.Messages.Codec as codec;
 ghost use Rattle.rules.specs.Turns.{sends};
 ghost use Rattle.message.specs.Found.{heldIn};
+ghost use Rattle.writing.specs.Parts.{partsOf, inside};
 ghost use Rattle.line.specs.View.{pendingOf};
 ghost use Rattle.line.specs.Bounded.{Counted, CountedReading};
 ghost use Rattle.line.specs.Promise.{Does};
 ghost use Rattle.rules.specs.Numbers.{typeAheadSize, topDropped};
 ghost use lib.ListN.{length, getD};
 ghost use mathlib.Core.Path.{_≡_};
+ghost use mathlib.Core.Bool.{true};
 use crate::Host;
 use crate::Reading;
 use crate::Work;
@@ -131,7 +133,7 @@ impl Work {
     // A message that has numbers alone.
     fn sends_plain(self, messages: &mut [u8], m: Message) -> Work
         requires { ⌜ Counted (self .line) ⌝ }
-        ensures { λ w. ⌜ ((kind : ℕ) (numbers : List ℕ) → ((s : List ℕ) → heldIn s m ≡ codec.message (plain kind numbers)) → (t : List ℕ) → Does (sends (plain kind numbers)) self t (now (messages .entry)) w t (now (messages .exit))) ⌝ }
+        ensures { λ w. ⌜ ((kind : ℕ) (numbers : List ℕ) → ((s : List ℕ) → heldIn s m ≡ codec.message (plain kind numbers)) → inside 0 (partsOf m) ≡ true → (t : List ℕ) → Does (sends (plain kind numbers)) self t (now (messages .entry)) w t (now (messages .exit))) ⌝ }
     {
         let text = [0u8; 1];
         self.send(messages, m, &text[..0])

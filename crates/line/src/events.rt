@@ -6,7 +6,6 @@ ghost use Rattle.rules.specs.Messages.Codec as codec;
 ghost use Rattle.rules.specs.Messages.Forms as forms;
 ghost use Rattle.rules.specs.State.{codes};
 ghost use Rattle.rules.specs.Host as rules;
-ghost use Rattle.rules.specs.Steps.{steps, ticks};
 ghost use Rattle.message.specs.Found.{heldIn};
 ghost use Rattle.line.specs.Bounded.{Bounded};
 ghost use Rattle.line.specs.Promise.{Does};
@@ -28,20 +27,6 @@ impl Work {
         requires { ⌜ Bounded (self .line) ⌝ }
         requires { ⌜ Accepted (self .line) (now s) m ⌝ }
         ensures { λ w. ⌜ ((x : forms.Message ℕ) → heldIn (now (s .entry)) m ≡ codec.message x → Does (rules.obeys codes x) self (now (terminal .entry)) (now (messages .entry)) w (now (terminal .exit)) (now (messages .exit))) ⌝ }
-    {
-        self
-    }
-
-    pub fn steps(self, terminal: &mut [u8], messages: &mut [u8]) -> Work
-        requires { ⌜ Bounded (self .line) ⌝ }
-        ensures { λ w. ⌜ Does (steps codes) self (now (terminal .entry)) (now (messages .entry)) w (now (terminal .exit)) (now (messages .exit)) ⌝ }
-    {
-        self
-    }
-
-    pub fn ticks(self, messages: &mut [u8]) -> Work
-        requires { ⌜ Bounded (self .line) ⌝ }
-        ensures { λ w. ⌜ ((t : List ℕ) → Does (ticks codes) self t (now (messages .entry)) w t (now (messages .exit))) ⌝ }
     {
         self
     }

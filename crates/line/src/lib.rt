@@ -1,8 +1,10 @@
 // One line of the console end: its state by value, and the four calls on it.
 use screen::Screen;
 mod shows;
+mod tokens;
 mod arrival;
 mod calls;
+mod choices;
 mod editing;
 mod events;
 mod ending;
@@ -10,6 +12,8 @@ mod fresh;
 mod input;
 mod parts;
 mod sending;
+mod steps;
+mod taking;
 mod waiting;
 
 // The four characteristics that are switches.

@@ -55,6 +55,7 @@ fn start_read_flags(s: &[u8], set: Part, text: Part) -> StartReadFields
     }
 }
 
+// The fields, whatever they hold: the reader below tests the length, the set and the values.
 fn start_read_fields(s: &[u8]) -> StartReadFields
     requires { ⌜ IsType 2 (now s) ⌝ }
     ensures { λ r. ⌜ StartReadIs (now (s .entry)) r ⌝ }
@@ -82,7 +83,8 @@ fn less(a: u16, b: u16) -> u16
     if b <= a { a - b } else { 0 }
 }
 
-pub fn start_read_test(f: StartReadFields) -> bool
+// The Start Read test, in the order of the definition; the count of set bytes is the reader's.
+fn start_read_test(f: StartReadFields) -> bool
     ensures { λ r. ⌜ ((s : List ℕ) → length (partOf s (f .text)) ≡ f .text .len → r ≡ soundStartRead inputSize (startReadIn s f)) ⌝ }
 {
     let text = f.text;

@@ -1,10 +1,11 @@
 // Whether every field fits its place, and the message would not be read as 5.
 ghost use mathlib.Core.Path.{_≡_};
-ghost use lib.ListN.{length};
-ghost use Rattle.rules.specs.Messages.Layout.{fits};
+ghost use mathlib.Core.List.{[]};
+ghost use Rattle.rules.specs.Messages.Layout.{widthsOf, fits};
+ghost use Rattle.rules.specs.Messages.Forms.{formOf};
 ghost use Rattle.rules.specs.Messages.Codec.{fitsHeld};
 ghost use Rattle.message.specs.declared.Message.the-variants as variants;
-ghost use Rattle.message.specs.Found.{heldIn, partOf, flagWidths, flagsOf};
+ghost use Rattle.message.specs.Found.{heldIn, partOf, startReadIn};
 ghost use Rattle.message.specs.Lists.{soundFrom};
 ghost use Rattle.writing.specs.Fits.{Fits, Clipped};
 use message::InitiateFields;
@@ -36,8 +37,9 @@ fn fits_write(f: WriteFields) -> bool
         & (f.postfix <= 2)
 }
 
+// Every flag of a Start Read; its words always fit.
 fn fits_flags(f: StartReadFields) -> bool
-    ensures { λ r. ⌜ r ≡ fits flagWidths (flagsOf f) ⌝ }
+    ensures { λ r. ⌜ r ≡ fits (widthsOf (formOf 2 .head)) (startReadIn [] f .numbers) ⌝ }
 {
     (f.underflow < 4)
         & (f.clears < 2)
@@ -103,20 +105,20 @@ pub(crate) fn fits_message(m: Message, s: &[u8]) -> bool
         Message::Initiate(f) => fits_initiate(f, s),
         Message::StartRead(f) => fits_start_read(f, s),
         Message::ReadData(f) => fits_read_data(f),
-        Message::OutOfBand { discard, character: _ } => discard < 2,
+        Message::OutOfBand { discard, character } => discard < 2,
         Message::Unread { condition } => condition < 2,
         Message::ClearInput => true,
         Message::Write(f) => fits_write(f),
         Message::WriteCompletion {
             lost,
-            horizontal: _,
-            vertical: _,
+            horizontal,
+            vertical,
         } => lost < 2,
         Message::DiscardState { kept } => kept < 2,
         Message::ReadCharacteristics { parameters } => fits_list(10, parameters, s),
         Message::Characteristics { parameters } => fits_list(11, parameters, s),
         Message::CheckInput => true,
-        Message::InputCount { count: _ } => true,
+        Message::InputCount { count } => true,
         Message::InputState { nonzero } => nonzero < 2,
         Message::Other { kind: _, body: _ } => false,
     }

@@ -9,6 +9,7 @@ use Rattle.rules.specs.State.{withDiscarding}
 use Rattle.rules.specs.Turns.{sends}
 use Rattle.rules.specs.Arrival.{flipsDiscard}
 use Rattle.message.specs.Found.{heldIn}
+use Rattle.writing.specs.Parts.{partsOf, inside}
 use Rattle.line.proofs.Works.{then-does, told-does, here-does}
 use Rattle.line.proofs.Arrivals.{terminal-counted, terminal-does}
 use Rattle.line.proofs.Work.flips_discard.Statement.{statement}
@@ -30,7 +31,7 @@ same-length : tie.Need-same-length
 same-length c = search needs
 
 returns : tie.Need-returns
-unfolding flipsDiscard heldIn
+unfolding flipsDiscard heldIn partsOf inside
 returns c =
     let b = c .before .before in
     let w = b .before .before in
@@ -41,7 +42,7 @@ returns c =
     told-does _
     (then-does (terminal-does _ (λ x. withDiscarding (not (x .discarding)) x) refl (start .pre) flipped t _)
     (here-does (λ s. sends (plain discardState (bit (not (s .terminal .discarding)) ∷ [])))
-    (b .sends-plain .ensures _ _ (λ s. ap (λ n. codec.message (plain discardState (n ∷ []))) kept) t)))
+    (b .sends-plain .ensures _ _ (λ s. ap (λ n. codec.message (plain discardState (n ∷ []))) kept) refl t)))
 
 pub flips-discard-spec : {M : Type 1} → statement M
 flips-discard-spec =

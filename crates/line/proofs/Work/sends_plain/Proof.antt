@@ -1,5 +1,6 @@
 use borrow.Author.Needs.{needs}
 use mathlib.Core.Path.{refl}
+use native.Mathlib.Omega.{arith}
 use Rattle.rules.specs.Messages.Forms.{plain}
 use Rattle.line.proofs.Work.sends_plain.Statement.{statement}
 use Rattle.line.proofs.Work.sends_plain.Tie as tie
@@ -17,7 +18,8 @@ same-length : tie.Need-same-length
 same-length c = search needs
 
 returns : tie.Need-returns
-returns c = λ kind numbers h t. c .before .before .send .ensures (plain kind numbers) (h _) refl t
+returns c = λ kind numbers h i t.
+    c .before .before .send .ensures (plain kind numbers) (record { held = h _; listless = refl; set = omega arith }) i t
 
 pub sends-plain-spec : {M : Type 1} → statement M
 sends-plain-spec =

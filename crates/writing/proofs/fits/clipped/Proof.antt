@@ -1,21 +1,25 @@
-use borrow.Author.Needs.{needs}
+use mathlib.Core.Path.{ap}
+use native.Mathlib.Omega.{arith}
+use lib.ListN.{length, drop, length-take}
+use Rattle.message.specs.Found.{partOf}
+use Rattle.writing.proofs.Fitting.{clip}
 use Rattle.writing.proofs.fits.clipped.Statement.{statement}
 use Rattle.writing.proofs.fits.clipped.Tie as tie
-use Rattle.writing.proofs.fits.clipped.Reads as reads
-use Rattle.writing.proofs.fits.clipped.Lts as lts
-use Rattle.message.proofs.bytes_of.Reads as bytes-of-reads
 
--- src/fits.rt:60:9
 bytes-of-requires : tie.Need-bytes-of-requires
-bytes-of-requires c κs = search needs
+bytes-of-requires c κs = tt
 
--- src/fits.rt:63:14
 cast-t5 : tie.Need-cast-t5
-cast-t5 c = ?
+unfolding partOf
+cast-t5 c =
+    let a = c .before .before .args in
+    let n = length-take (a .p .len) (drop (a .p .start) (a .s .now)) in
+    omega (arith, ap length (c .bytes-of .ensures))
 
--- src/fits.rt:57:1
 returns : tie.Need-returns
-returns c = ?
+returns c =
+    let a = c .before .before .args in
+    clip (a .s .now) (a .p) (c .bytes-of .ensures)
 
 pub clipped-spec : {M : Type 1} → statement M
 clipped-spec = tie.close (tie.spec bytes-of-requires cast-t5 returns)

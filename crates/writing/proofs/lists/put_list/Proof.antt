@@ -1,39 +1,44 @@
-use borrow.Author.Needs.{needs}
+use mathlib.Core.Path.{sym, ap, _∙_}
+use borrow.Author.Tests.{eq-eqb, ne-eqb}
+use Rattle.rules.specs.Choice.{joined}
+use Rattle.rules.proofs.Tests.{pick-true, pick-false}
+use Rattle.message.specs.Lists.{soundFrom, parametersFrom}
+use Rattle.writing.specs.Parts.{listBytes}
+use Rattle.writing.proofs.Putting.{equals}
 use Rattle.writing.proofs.lists.put_list.Statement.{statement}
 use Rattle.writing.proofs.lists.put_list.Tie as tie
-use Rattle.writing.proofs.lists.put_list.Reads as reads
-use Rattle.writing.proofs.lists.put_list.Lts as lts
-use Rattle.message.proofs.bytes_of.Reads as bytes-of-reads
-use Rattle.writing.proofs.lists.put_settings.Reads as put-settings-reads
-use Rattle.writing.proofs.put.put_part.Reads as put-part-reads
 
--- src/lists.rt:35:13
 bytes-of-requires : tie.Need-bytes-of-requires
-bytes-of-requires c κs = search needs
+bytes-of-requires c κs = tt
 
--- src/lists.rt:36:9
 put-settings-requires : tie.Need-put-settings-requires
-put-settings-requires c κs = ?
+put-settings-requires c κs =
+    let b = c .before .before in
+    ap (soundFrom 11 0) (c .before .bytes-of .ensures) ∙ b .before .before .before .pre (b .if1 .taken)
 
--- src/lists.rt:36:9
 same-length : tie.Need-same-length
-same-length c = search needs
+same-length c = c .before .before .put-settings .ensures .same
 
--- src/lists.rt:36:9
 returns : tie.Need-returns
-returns c = ?
+unfolding listBytes
+returns c =
+    let b = c .before .before .before .before in
+    let kind = b .before .before .before .before .args .kind in
+    let bytes = ap (λ t. joined (parametersFrom 11 0 t)) (b .bytes-of .ensures) in
+    equals (bytes ∙ sym (pick-true _ _ (eq-eqb kind 11 (b .before .if1 .taken)))) (c .before .before .put-settings .ensures)
 
--- src/lists.rt:38:5
 put-part-requires : tie.Need-put-part-requires
-put-part-requires c κs = search needs
+put-part-requires c κs = tt
 
--- src/lists.rt:30:1
 same-length-2 : tie.Need-same-length-2
-same-length-2 c = search needs
+same-length-2 c = c .before .before .put-part .ensures .same
 
--- src/lists.rt:30:1
 returns-2 : tie.Need-returns-2
-returns-2 c = ?
+unfolding listBytes
+returns-2 c =
+    let b = c .before .before .before .before in
+    let kind = b .before .before .before .args .kind in
+    equals (sym (pick-false _ _ (ne-eqb kind 11 (b .if1 .left)))) (c .before .before .put-part .ensures)
 
 pub put-list-spec : {M : Type 1} → statement M
 put-list-spec =
