@@ -1,4 +1,3 @@
--- Laws that the proofs of the functions apply; Shapes also has those that a caller of `parameter_at` cites.
 pub mod Numbers
 pub mod Pieces
 pub mod Heads

@@ -84,7 +84,6 @@ heldIn s (InputCount count) = bare forms.inputCount (count ∷ [])
 heldIn s (InputState nonzero) = bare forms.inputState (nonzero ∷ [])
 heldIn s (Other kind body) = codec.other kind (partOf s body)
 
--- what reading gives, as what can be held
 unfoldable pub asHeld : Outcome (forms.Message ℕ) → Outcome Held
 asHeld (codec.refused n) = codec.refused n
 asHeld (codec.sound m) = codec.sound (codec.message m)
@@ -104,7 +103,7 @@ pub record IsType (kind : ℕ) (s : List ℕ) : Type 0 where
   pub typed : byteAt s 0 ≡ kind
   pub short : length s ≤ 256
 
--- what stands from a place on
+-- what stands behind a place
 pub record RestFrom (at : ℕ) (s : List ℕ) (p : Part) : Type 0 where
   pub same : partOf s p ≡ drop at s
   pub long : p .len ≡ length s - at

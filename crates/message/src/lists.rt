@@ -100,7 +100,6 @@ fn defined_at(kind: u8, s: &[u8], at: usize) -> bool
     defined_selector(n)
 }
 
-// How long the parameter that begins at a place should be.
 fn size_at(kind: u8, s: &[u8], at: usize) -> usize
     requires { ⌜ at < length (now s) ⌝ }
     ensures { λ r. ⌜ (r ≡ sizeOf (shapeOf kind) (drop at (now (s .entry)))) × (2 ≤ r) × (r ≤ 257) ⌝ }

@@ -12,7 +12,6 @@ use crate::bytes::byte_at;
 use crate::bytes::word_at;
 use crate::parts::rest_from;
 
-// The fields, whatever they hold: the reader below tests the length and the values.
 fn read_data_fields(s: &[u8]) -> ReadDataFields
     requires { ⌜ IsType 3 (now s) ⌝ }
     ensures { λ r. ⌜ heldIn (now (s .entry)) (variants.ReadData r) ≡ message (fieldsAs (formOf 3) (now (s .entry))) ⌝ }

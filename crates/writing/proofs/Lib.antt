@@ -2,5 +2,3 @@
 pub mod Putting
 pub mod Groups
 pub mod Lengths
-pub mod Settings
-pub mod Fitting

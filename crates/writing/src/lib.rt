@@ -1,7 +1,5 @@
 // Writing the fourteen messages into a lent area.
-mod fits;
 mod heads;
-mod lists;
 mod parts;
 mod put;
 mod send;
