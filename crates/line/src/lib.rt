@@ -1,7 +1,5 @@
 // One line of the console end: its state by value, and the four calls on it.
 use screen::Screen;
-mod shows;
-mod tokens;
 mod arrival;
 mod choices;
 mod editing;
@@ -9,8 +7,10 @@ mod ending;
 mod input;
 mod parts;
 mod sending;
+mod shows;
 mod steps;
 mod taking;
+mod tokens;
 mod waiting;
 
 // The four characteristics that are switches.
