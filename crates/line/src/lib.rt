@@ -1,7 +1,5 @@
 // One line of the console end: its state by value, and the four calls on it.
 use screen::Screen;
-mod shows;
-mod tokens;
 mod arrival;
 mod calls;
 mod choices;
@@ -12,8 +10,10 @@ mod fresh;
 mod input;
 mod parts;
 mod sending;
+mod shows;
 mod steps;
 mod taking;
+mod tokens;
 mod waiting;
 
 // The four characteristics that are switches.
