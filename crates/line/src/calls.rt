@@ -1,7 +1,5 @@
-// The four calls: each makes an event, which goes through one method.
+// The calls: each makes an event, which goes through one method.
 ghost use mathlib.Core.Path.{_≡_};
-ghost use mathlib.Core.List.{List, []};
-ghost use Prim.Native.Nat.{ℕ};
 ghost use Rattle.rules.specs.Calls as rules;
 ghost use Rattle.line.specs.Bounded.{Bounded};
 ghost use Rattle.line.specs.Events.{Admitted, eventOf};
@@ -24,11 +22,11 @@ impl Line {
         }
     }
 
-    // An event in areas that are large enough; a host message's parts stand in the slice.
-    fn take(self, e: Event, s: &[u8], terminal: &mut [u8], messages: &mut [u8]) -> Answer
+    // An event, in areas that are large enough.
+    fn take(self, e: Event, terminal: &mut [u8], messages: &mut [u8]) -> Answer
         requires { ⌜ Bounded self ⌝ }
-        requires { ⌜ Admitted self (now s) e ⌝ }
-        ensures { λ r. ⌜ Answers (eventOf (now (s .entry)) e) self (now (terminal .entry)) (now (messages .entry)) r (now (terminal .exit)) (now (messages .exit)) ⌝ }
+        requires { ⌜ Admitted e ⌝ }
+        ensures { λ r. ⌜ Answers (eventOf e) self (now (terminal .entry)) (now (messages .entry)) r (now (terminal .exit)) (now (messages .exit)) ⌝ }
     {
         if terminal.len() < rules::TERMINAL_AREA {
             return self.refuse(1);
@@ -41,7 +39,7 @@ impl Line {
             at: 0,
             sent: 0,
         };
-        let done = begun.does(e, s, terminal, messages);
+        let done = begun.does(e, terminal, messages);
         let line = done.line;
         Answer {
             line,
@@ -56,7 +54,7 @@ impl Line {
         requires { ⌜ Bounded self ⌝ }
         ensures { λ r. ⌜ Answers (rules.key code) self (now (terminal .entry)) (now (messages .entry)) r (now (terminal .exit)) (now (messages .exit)) ⌝ }
     {
-        self.take(Event::Key(code), b"", terminal, messages)
+        self.take(Event::Key(code), terminal, messages)
     }
 
     // One step.
@@ -64,7 +62,7 @@ impl Line {
         requires { ⌜ Bounded self ⌝ }
         ensures { λ r. ⌜ Answers rules.step self (now (terminal .entry)) (now (messages .entry)) r (now (terminal .exit)) (now (messages .exit)) ⌝ }
     {
-        self.take(Event::Step, b"", terminal, messages)
+        self.take(Event::Step, terminal, messages)
     }
 
     // A second has passed.
@@ -72,6 +70,6 @@ impl Line {
         requires { ⌜ Bounded self ⌝ }
         ensures { λ r. ⌜ Answers rules.tick self (now (terminal .entry)) (now (messages .entry)) r (now (terminal .exit)) (now (messages .exit)) ⌝ }
     {
-        self.take(Event::Tick, b"", terminal, messages)
+        self.take(Event::Tick, terminal, messages)
     }
 }

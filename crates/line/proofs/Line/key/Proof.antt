@@ -3,9 +3,6 @@ use Rattle.line.specs.Events.{eventOf}
 use Rattle.line.proofs.Line.key.Statement.{statement}
 use Rattle.line.proofs.Line.key.Tie as tie
 
-slice-aggregate-take : tie.Need-slice-aggregate-take
-slice-aggregate-take c = search needs
-
 take-requires : tie.Need-take-requires
 take-requires c κs = search needs
 
@@ -20,5 +17,4 @@ unfolding eventOf
 returns c = c .before .before .before .before .take .ensures
 
 pub key-spec : {M : Type 1} → statement M
-key-spec =
-    tie.close (tie.spec slice-aggregate-take take-requires same-length same-length-2 returns)
+key-spec = tie.close (tie.spec take-requires same-length same-length-2 returns)

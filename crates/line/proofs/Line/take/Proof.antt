@@ -12,22 +12,20 @@ refuse-requires c κs = search needs
 
 returns : tie.Need-returns
 returns c =
-    let a = c .before .before .before .before .before in
+    let a = c .before .before .before .before in
     let x = a .args in
-    let e = eventOf (x .s .now) (x .e) in
-    refused e (x .self) (x .terminal .now) (x .messages .now) 1 (a .pre .0)
-    (small-terminal e (x .self) (x .terminal .now) (x .messages .now) (omega (arith, terminal-area))) (c .refuse .ensures)
+    refused (eventOf (x .e)) (x .self) (x .terminal .now) (x .messages .now) 1 (a .pre .0)
+    (small-terminal (eventOf (x .e)) (x .self) (x .terminal .now) (x .messages .now) (omega (arith, terminal-area))) (c .refuse .ensures)
 
 refuse-requires-2 : tie.Need-refuse-requires-2
 refuse-requires-2 c κs = search needs
 
 returns-2 : tie.Need-returns-2
 returns-2 c =
-    let a = c .before .before .before .before .before .before in
+    let a = c .before .before .before .before .before in
     let x = a .args in
-    let e = eventOf (x .s .now) (x .e) in
-    refused e (x .self) (x .terminal .now) (x .messages .now) 1 (a .pre .0)
-    (small-messages e (x .self) (x .terminal .now) (x .messages .now) (omega (arith, message-area))) (c .refuse2 .ensures)
+    refused (eventOf (x .e)) (x .self) (x .terminal .now) (x .messages .now) 1 (a .pre .0)
+    (small-messages (eventOf (x .e)) (x .self) (x .terminal .now) (x .messages .now) (omega (arith, message-area))) (c .refuse2 .ensures)
 
 does-requires : tie.Need-does-requires
 does-requires c κs = search needs
@@ -41,10 +39,10 @@ same-length-2 c = search needs
 returns-3 : tie.Need-returns-3
 returns-3 c =
     let d = c .before .before .before .before .before in
-    let a = d .before .before .before .before .before .before .before .before in
+    let a = d .before .before .before .before .before .before .before in
     let x = a .args in
-    answered (eventOf (x .s .now) (x .e)) (x .self) (x .terminal .now) (x .messages .now) (a .pre .0) (eventPart (x .s .now) (x .e))
-    (event-answers (x .s .now) (x .self) (x .e) (a .pre .1)) (event-bytes (x .s .now) (x .self) (x .e) (a .pre .1))
+    answered (eventOf (x .e)) (x .self) (x .terminal .now) (x .messages .now) (a .pre .0) (eventPart (x .e))
+    (event-answers (x .self) (x .e)) (event-bytes (x .e) (a .pre .1))
     (omega (arith, terminal-area)) (omega (arith, message-area)) (d .does .result) _ _ (d .does .ensures)
 
 pub take-spec : {M : Type 1} → statement M
