@@ -11,8 +11,11 @@ mod parts;
 mod start_read;
 mod texts;
 
+pub use crate::bytes::byte_at;
 pub use crate::lists::parameter_at;
+pub use crate::lists::whole_list;
 pub use crate::parts::bytes_of;
+pub use crate::start_read::start_read_test;
 
 // A part of the lent slice.
 pub struct Part {

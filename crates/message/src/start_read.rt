@@ -55,7 +55,6 @@ fn start_read_flags(s: &[u8], set: Part, text: Part) -> StartReadFields
     }
 }
 
-// The fields, whatever they hold: the reader below tests the length, the set and the values.
 fn start_read_fields(s: &[u8]) -> StartReadFields
     requires { ⌜ IsType 2 (now s) ⌝ }
     ensures { λ r. ⌜ StartReadIs (now (s .entry)) r ⌝ }
@@ -83,8 +82,7 @@ fn less(a: u16, b: u16) -> u16
     if b <= a { a - b } else { 0 }
 }
 
-// The Start Read test, in the order of the definition; the count of set bytes is the reader's.
-fn start_read_test(f: StartReadFields) -> bool
+pub fn start_read_test(f: StartReadFields) -> bool
     ensures { λ r. ⌜ ((s : List ℕ) → length (partOf s (f .text)) ≡ f .text .len → r ≡ soundStartRead inputSize (startReadIn s f)) ⌝ }
 {
     let text = f.text;

@@ -1,0 +1,108 @@
+-- From a part of the rules done to an answer kept, and from a refusal.
+use mathlib.Core.Path.{_≡_, refl, sym, ap, _∙_, subst}
+use Prim.Native.Nat.{ℕ, _≤_, _<_}
+use native.Mathlib.Omega.{arith}
+use mathlib.Core.Bool.{Bool, true, false, and-false}
+use mathlib.Core.List.{List, []}
+use lib.ListN.{length, drop}
+use Rattle.rules.specs.Choice.{pick, joined}
+use Rattle.rules.specs.Numbers as sizes
+use Rattle.rules.specs.State.{State, codes}
+use Rattle.rules.specs.Turns.{Part, still}
+use Rattle.rules.specs.Area.{puts, spot}
+use Rattle.rules.specs.Calls as rules
+use Rattle.rules.specs.Calls.{Event, Call, answer, answers, does, refuses, isRoomy, messageBytes, areaAfter}
+use Rattle.rules.specs.Bounds as bounds
+use Rattle.rules.specs.Bounds.{isByteEvent, Within}
+use Rattle.rules.proofs.Tests.{both, pick-true, pick-false}
+use Rattle.rules.proofs.Areas.{puts-front}
+use Rattle.rules.proofs.Bounds.Calls.{call-within}
+use borrow.Author.Tests.{le-leb, lt-leb}
+use Rattle.line.specs.declared.Line.{Line}
+use Rattle.line.specs.declared.Work.{Work}
+use Rattle.line.specs.declared.Answer.{Answer}
+use Rattle.line.specs.View.{view}
+use Rattle.line.specs.Bounded.{Bounded}
+use Rattle.line.specs.Promise.{Does}
+use Rattle.line.specs.Answers.{Answers, ruled, refusal}
+
+-- a call at its beginning, and what it answers when it is done
+abbrev pub begun : Line → Work
+begun l = record { line = l; at = 0; sent = 0 }
+
+abbrev pub done : Work → Answer
+done w = record { line = w .line; number = 0; terminal = w .at; messages = w .sent }
+
+-- areas, as the puts of a call's bytes leave them
+at-front : (bs t t′ : List ℕ) (n : ℕ) → length bs ≤ length t → spot t′ n ≡ puts bs (spot t 0) → spot t′ n ≡ spot (areaAfter bs t) (length bs)
+at-front bs t t′ n room e = e ∙ puts-front bs t room
+
+module _ (e : Event ℕ) (l : Line) (t m : List ℕ) (b : Bounded l) where
+  abbrev call : Call ℕ
+  call = record { terminal = length t; messages = length m; event = e }
+
+  module _ (p : Part ℕ) (event : answers codes e (view l) ≡ does p (view l)) (byte : isByteEvent e ≡ true)
+      (inTerminal : sizes.terminalArea ≤ length t) (inMessages : sizes.messageArea ≤ length m) where
+    roomy : answer codes call (view l) ≡ does p (view l)
+    unfolding answer isRoomy
+    roomy =
+        ap (λ (f : State ℕ → rules.Answer ℕ). f (view l)) (pick-true _ _ (both (le-leb _ _ inTerminal) (le-leb _ _ inMessages))) ∙ event
+
+    within : Within (does p (view l))
+    within = subst Within roomy (call-within call (view l) byte (b .state))
+
+    -- a part that was done is the call's answer
+    module _ (w : Work) (t′ m′ : List ℕ) (d : Does p (begun l) t m w t′ m′) where
+      shown-front : spot t′ (w .at) ≡ spot (areaAfter (p (view l) .bytes) t) (length (p (view l) .bytes))
+      unfolding does
+      shown-front = let h = within .terminal in at-front (p (view l) .bytes) t t′ (w .at) (omega arith) (d .shows)
+
+      sent-front : spot m′ (w .sent) ≡ spot (areaAfter (messageBytes codes (p (view l))) m) (length (messageBytes codes (p (view l))))
+      unfolding does
+      sent-front = let h = within .messages in at-front (messageBytes codes (p (view l))) m m′ (w .sent) (omega arith) (d .sends)
+
+      pub answered : Answers e l t m (done w) t′ m′
+      unfolding does
+      answered =
+          let r = sym roomy in
+          record {
+            number = ap (λ a. a .number) r;
+            state = d .state ∙ ap (λ a. a .turn .state) r;
+            shown = ap (λ x. x .at) shown-front ∙ ap (λ a. length (a .turn .bytes)) r;
+            sent = ap (λ x. x .at) sent-front ∙ ap (λ a. length (messageBytes codes (a .turn))) r;
+            terminalArea = ap (λ x. x .area) shown-front ∙ ap (λ a. areaAfter (a .turn .bytes) t) r;
+            messageArea = ap (λ x. x .area) sent-front ∙ ap (λ a. areaAfter (messageBytes codes (a .turn)) m) r;
+            bounded = record { state = subst bounds.Bounded (sym (d .state)) (within .state); counted = d .counted };
+            same = λ n. absurd (n refl);
+          }
+
+-- a refusal is the call's answer
+pub refused : (e : Event ℕ) (l : Line) (t m : List ℕ) (n : ℕ) → Bounded l → ruled e l t m ≡ refuses n (view l) → {r : Answer} → r ≡ refusal n l →
+    Answers e l t m r t m
+unfolding refuses still messageBytes joined areaAfter
+refused e l t m n b h {r} k =
+    let s = sym h in
+    record {
+      number = ap (λ x. x .number) k ∙ ap (λ a. a .number) s;
+      state = ap (λ x. view (x .line)) k ∙ ap (λ a. a .turn .state) s;
+      shown = ap (λ x. x .terminal) k ∙ ap (λ a. length (a .turn .bytes)) s;
+      sent = ap (λ x. x .messages) k ∙ ap (λ a. length (messageBytes codes (a .turn))) s;
+      terminalArea = ap (λ a. areaAfter (a .turn .bytes) t) s;
+      messageArea = ap (λ a. areaAfter (messageBytes codes (a .turn)) m) s;
+      bounded = subst Bounded (ap (λ x. x .line) (sym k)) b;
+      same = λ _. ap (λ x. x .line) k;
+    }
+
+-- row 1: an area too small
+module _ (e : Event ℕ) (l : Line) (t m : List ℕ) where
+  cramped : isRoomy (record { terminal = length t; messages = length m; event = e }) ≡ false → ruled e l t m ≡ refuses sizes.smallArea (view l)
+  unfolding answer
+  cramped h = ap (λ (f : State ℕ → rules.Answer ℕ). f (view l)) (pick-false _ _ h)
+
+  pub small-terminal : length t < sizes.terminalArea → ruled e l t m ≡ refuses sizes.smallArea (view l)
+  unfolding isRoomy
+  small-terminal h = cramped (rw (lt-leb sizes.terminalArea (length t) h))
+
+  pub small-messages : length m < sizes.messageArea → ruled e l t m ≡ refuses sizes.smallArea (view l)
+  unfolding isRoomy
+  small-messages h = cramped (rw (lt-leb sizes.messageArea (length m) h, and-false))

@@ -1,0 +1,68 @@
+-- What a step knows of a pending read, and the key that it takes.
+use mathlib.Core.Path.{_≡_, refl, ap, _∙_}
+use Prim.Native.Nat.{ℕ, _<_}
+use native.Mathlib.Omega.{arith}
+use mathlib.Core.Bool.{true}
+use mathlib.Core.List.{List}
+use mathlib.Core.Option.{some}
+use lib.Dec.{eqb}
+use lib.ListN.{drop}
+use Rattle.rules.specs.Choice.{isEmpty}
+use Rattle.rules.specs.Numbers.{inputSize}
+use Rattle.rules.specs.State.{withTyped, withRead, withIdle}
+use Rattle.rules.specs.Turns.{changes}
+use Rattle.line.specs.declared.Line.{Line}
+use Rattle.line.specs.declared.Work.{Work}
+use Rattle.line.specs.declared.Reading.{Reading}
+use Rattle.line.specs.declared.Typed.{Typed}
+use Rattle.line.specs.View.{view, keysOf, inputOf, readingOf}
+use Rattle.line.specs.Bounded.{Counted, CountedReading, Bounded}
+use Rattle.line.specs.With.{onLine, onRead, onTyped}
+use Rattle.line.specs.ReadingParts.{Becomes, HasRoom, idling}
+use Rattle.line.specs.TokenParts.{FirstTaken}
+use Rattle.line.specs.Promise.{Does}
+use Rattle.line.proofs.Appends.{end-is}
+use Rattle.line.proofs.Held.{empty-take}
+use Rattle.line.proofs.Works.{changes-does}
+
+pub pending-room : (l : Line) → Bounded l → l .pending ≡ true → HasRoom (l .reading)
+unfolding inputSize
+pending-room l b e =
+    let r = l .reading in
+    let read = rw e at (b .state .read) in
+    let counted = b .counted .reading in
+    let end = end-is r counted in
+    let largest = read .terms .largest in
+    let room = read .room in
+    record { counted = counted; largest = largest; room = omega arith }
+
+pub idle-room : {r next : Reading} {idle : ℕ} → HasRoom r → next ≡ idling idle r → HasRoom next
+idle-room h e =
+    let c = h .counted in
+    rw e
+    (record {
+      counted = record { terms = c .terms; input = c .input; within = c .within };
+      largest = h .largest;
+      room = h .room;
+    })
+
+pub input-empty : (r : Reading) → CountedReading r → isEmpty (inputOf r) ≡ eqb (r .count) 0
+unfolding inputOf
+input-empty r c = empty-take (r .count) (r .input) (omega arith)
+
+-- the first key goes, and the read is no longer idle
+module _ {w v u : Work} (rest : Typed) (next : Reading) (r : Reading) (f : FirstTaken (w .line .typed) rest) (c : Counted (w .line))
+    (b : Becomes (withIdle 0 (readingOf r)) next)
+    (h : v ≡ onLine (onTyped rest (w .line)) w) (k : u ≡ onLine (onRead next (v .line)) v) where
+  pub taken-does : (t m : List ℕ) →
+      Does (changes (λ s. withRead (some (withIdle 0 (readingOf r))) (withTyped (drop 1 (keysOf (w .line .typed))) (s .typed .token) s))) w t m u t m
+  taken-does t m =
+      rw (k ∙ ap (λ x. onLine (onRead next (x .line)) x) h)
+      (changes-does t m (λ s. withRead (some (withIdle 0 (readingOf r))) (withTyped (drop 1 (keysOf (w .line .typed))) (s .typed .token) s))
+      (λ i. withRead (some (b .view i)) (withTyped (f .keys i) (f .token i) (view (w .line)))) refl refl
+      (record { table = c .table; set = c .set; typed = f .counted; reading = b .counted }))
+
+  pub taken-short : w .line .typed .«token_len» < 16 → u .line .typed .«token_len» < 16
+  taken-short s =
+      let same = ap (λ x. x .line .typed .«token_len») (k ∙ ap (λ x. onLine (onRead next (x .line)) x) h) in
+      omega (arith, same, f .begun)

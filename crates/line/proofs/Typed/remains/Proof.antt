@@ -1,0 +1,19 @@
+use Rattle.line.proofs.Held.{some-remains, none-remains}
+use Rattle.line.proofs.Typed.remains.Statement.{statement}
+use Rattle.line.proofs.Typed.remains.Tie as tie
+
+is-held-requires : tie.Need-is-held-requires
+is-held-requires c κs = c .pre
+
+returns : tie.Need-returns
+returns c =
+    let start = c .before .before .before in
+    some-remains (start .args .self) (start .pre) (c .before .before .is-held .ensures) (c .if1 .taken)
+
+returns-2 : tie.Need-returns-2
+returns-2 c =
+    let start = c .before .before .before in
+    none-remains (start .args .self) (start .pre) (c .before .before .is-held .ensures) (c .if1 .left)
+
+pub remains-spec : {M : Type 1} → statement M
+remains-spec = tie.close (tie.spec is-held-requires returns returns-2)

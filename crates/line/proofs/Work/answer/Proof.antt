@@ -1,0 +1,37 @@
+use borrow.Author.Needs.{needs}
+use native.Mathlib.Omega.{arith}
+use lib.ListN.{length}
+use Rattle.line.proofs.Joints.{answer-held}
+use Rattle.writing.specs.Parts.{partsOf}
+use Rattle.line.proofs.Sends.{text-inside}
+use Rattle.line.proofs.Work.answer.Statement.{statement}
+use Rattle.line.proofs.Work.answer.Tie as tie
+
+remains-requires : tie.Need-remains-requires
+remains-requires c κs = search needs
+
+cast-change : tie.Need-cast-change
+cast-change c = search needs
+
+cast-change-2 : tie.Need-cast-change-2
+cast-change-2 c = search needs
+
+change-requires : tie.Need-change-requires
+change-requires c κs = search needs
+
+change-requires-2 : tie.Need-change-requires-2
+change-requires-2 c κs = search needs
+
+sub-t14 : tie.Need-sub-t14
+sub-t14 c = search needs
+
+returns : tie.Need-returns
+unfolding partsOf
+returns c =
+    let start = c .before .before .before .before .before .before .before .before .before .before .before in
+    let a = start .args in
+    (answer-held (a .self) (a .r) (a .code) (a .ending) (start .pre .1 .0) (c .before .before .before .before .before .remains .ensures) (c .before .before .change .ensures) (c .before .change2 .ensures), text-inside (a .r .count) (length (a .r .input)) (omega (arith, start .pre .1 .0 .within, start .pre .1 .0 .input)))
+
+pub answer-spec : {M : Type 1} → statement M
+answer-spec =
+    tie.close (tie.spec remains-requires cast-change cast-change-2 change-requires change-requires-2 sub-t14 returns)

@@ -1,0 +1,29 @@
+use mathlib.Core.List.{[]}
+use borrow.Author.Needs.{needs}
+use Rattle.rules.specs.ReadData.{completes}
+use Rattle.line.proofs.Works.{then-does}
+use Rattle.line.proofs.Joints.{off-does}
+use Rattle.line.proofs.Work.completes.Statement.{statement}
+use Rattle.line.proofs.Work.completes.Tie as tie
+
+loses-partial-requires : tie.Need-loses-partial-requires
+loses-partial-requires c κs = search needs
+
+answers-requires : tie.Need-answers-requires
+answers-requires c κs = (c .before .loses-partial .ensures [] [] .counted, c .before .before .before .pre .1)
+
+without-read-requires : tie.Need-without-read-requires
+without-read-requires c κs = search needs
+
+same-length : tie.Need-same-length
+same-length c = search needs
+
+returns : tie.Need-returns
+unfolding completes
+returns c =
+    let answered = c .before .before .before .answers .ensures in
+    λ t. then-does (c .before .before .before .before .before .loses-partial .ensures t _) (then-does (answered t) (off-does (answered t .counted) (c .without-read .ensures) t _))
+
+pub completes-spec : {M : Type 1} → statement M
+completes-spec =
+    tie.close (tie.spec loses-partial-requires answers-requires without-read-requires same-length returns)

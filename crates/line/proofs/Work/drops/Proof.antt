@@ -1,0 +1,29 @@
+use borrow.Author.Needs.{needs}
+use Rattle.rules.specs.Arrival.{drops}
+use Rattle.line.proofs.Works.{then-does, told-does}
+use Rattle.line.proofs.Arrivals.{count-does}
+use Rattle.line.proofs.Work.drops.Statement.{statement}
+use Rattle.line.proofs.Work.drops.Tie as tie
+
+put-requires : tie.Need-put-requires
+put-requires c κs = search needs
+
+one-more-requires : tie.Need-one-more-requires
+one-more-requires c κs = search needs
+
+with-terminal-requires : tie.Need-with-terminal-requires
+with-terminal-requires c κs = search needs
+
+same-length : tie.Need-same-length
+same-length c = search needs
+
+returns : tie.Need-returns
+unfolding drops
+returns c =
+    let b = c .before .before .before .before .before .before in
+    let belled = b .put .ensures in
+    λ k m. told-does _ (then-does (belled m) (count-does (b .put .result) _ (c .before .one-more .ensures) (belled m .counted) (c .with-terminal .ensures) _ m))
+
+pub drops-spec : {M : Type 1} → statement M
+drops-spec =
+    tie.close (tie.spec put-requires one-more-requires with-terminal-requires same-length returns)

@@ -1,0 +1,27 @@
+use mathlib.Core.Path.{refl, sym}
+use mathlib.Core.List.{[]}
+use borrow.Author.Needs.{needs}
+use Rattle.rules.proofs.Tests.{pick-true, pick-false}
+use Rattle.line.specs.StepParts.{echoesIf}
+use Rattle.line.proofs.Joints.{same-writes, blank-does, here-part}
+use Rattle.line.proofs.Work.echoes_if.Statement.{statement}
+use Rattle.line.proofs.Work.echoes_if.Tie as tie
+
+echo-requires : tie.Need-echo-requires
+echo-requires c κs = search needs
+
+same-length : tie.Need-same-length
+same-length c = search needs
+
+returns : tie.Need-returns
+unfolding echoesIf
+returns c = λ m. here-part refl (same-writes (sym (pick-true _ [] (c .before .before .before .before .if1 .taken))) (c .before .before .echo .ensures m))
+
+returns-2 : tie.Need-returns-2
+unfolding echoesIf
+returns-2 c =
+    let start = c .before .before in
+    λ m. here-part refl (blank-does (start .args .self) _ m (pick-false _ [] (c .if1 .left)) (start .pre))
+
+pub echoes-if-spec : {M : Type 1} → statement M
+echoes-if-spec = tie.close (tie.spec echo-requires same-length returns returns-2)

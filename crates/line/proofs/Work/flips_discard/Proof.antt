@@ -1,0 +1,50 @@
+use borrow.Author.Needs.{needs}
+use mathlib.Core.Path.{refl, sym, ap, _∙_}
+use mathlib.Core.Bool.{not}
+use mathlib.Core.List.{[], _∷_}
+use Rattle.rules.specs.Choice.{bit}
+use Rattle.rules.specs.Messages.Forms.{plain, discardState}
+use Rattle.rules.specs.Messages.Codec as codec
+use Rattle.rules.specs.State.{withDiscarding}
+use Rattle.rules.specs.Turns.{sends}
+use Rattle.rules.specs.Arrival.{flipsDiscard}
+use Rattle.message.specs.Found.{heldIn}
+use Rattle.writing.specs.Parts.{partsOf, inside}
+use Rattle.line.proofs.Works.{then-does, told-does, here-does}
+use Rattle.line.proofs.Arrivals.{terminal-counted, terminal-does}
+use Rattle.line.proofs.Work.flips_discard.Statement.{statement}
+use Rattle.line.proofs.Work.flips_discard.Tie as tie
+
+bit-of-requires : tie.Need-bit-of-requires
+bit-of-requires c κs = search needs
+
+with-terminal-requires : tie.Need-with-terminal-requires
+with-terminal-requires c κs = search needs
+
+sends-plain-requires : tie.Need-sends-plain-requires
+sends-plain-requires c κs =
+    let w = c .before in
+    let start = w .before .before .before .before .before .before .before in
+    terminal-counted (start .args .self) _ (start .pre) (w .with-terminal .ensures)
+
+same-length : tie.Need-same-length
+same-length c = search needs
+
+returns : tie.Need-returns
+unfolding flipsDiscard heldIn partsOf inside
+returns c =
+    let b = c .before .before in
+    let w = b .before .before in
+    let flipped = w .with-terminal .ensures in
+    let start = w .before .before .before .before .before .before .before in
+    let kept = w .before .bit-of .ensures ∙ ap (λ v. bit (not (v .line .terminal .discarding))) (sym flipped) in
+    λ k t.
+    told-does _
+    (then-does (terminal-does _ (λ x. withDiscarding (not (x .discarding)) x) refl (start .pre) flipped t _)
+    (here-does (λ s. sends (plain discardState (bit (not (s .terminal .discarding)) ∷ [])))
+    (b .sends-plain .ensures _ _ (λ s. ap (λ n. codec.message (plain discardState (n ∷ []))) kept) refl t)))
+
+pub flips-discard-spec : {M : Type 1} → statement M
+flips-discard-spec =
+    tie.close
+    (tie.spec bit-of-requires with-terminal-requires sends-plain-requires same-length returns)

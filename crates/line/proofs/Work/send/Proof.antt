@@ -1,0 +1,19 @@
+use borrow.Author.Needs.{needs}
+use Rattle.line.proofs.Sends.{sends-does}
+use Rattle.line.proofs.Work.send.Statement.{statement}
+use Rattle.line.proofs.Work.send.Tie as tie
+
+put-framed-requires : tie.Need-put-framed-requires
+put-framed-requires c κs = search needs
+
+same-length : tie.Need-same-length
+same-length c = search needs
+
+returns : tie.Need-returns
+returns c =
+    let b = c .before .before in
+    let start = b .before .before .before .before .before in
+    sends-does (start .args .self) (start .args .m) (start .args .s .now) (b .put-framed .result) (start .pre) (b .put-framed .ensures)
+
+pub send-spec : {M : Type 1} → statement M
+send-spec = tie.close (tie.spec put-framed-requires same-length returns)

@@ -1,0 +1,53 @@
+use borrow.Author.Needs.{needs}
+use Prim.Native.Nat.{ℕ}
+use mathlib.Core.Bool.{Bool}
+use lib.Dec.{ltb}
+use lib.ListN.{length}
+use Rattle.rules.specs.Choice.{pick}
+use Rattle.rules.specs.Numbers.{typeAheadSize}
+use Rattle.rules.specs.State.{State}
+use Rattle.rules.specs.Turns.{Part}
+use Rattle.rules.specs.Arrival.{keeps, drops, stores}
+use Rattle.line.proofs.Works.{here-does, first-does, second-does}
+use Rattle.line.proofs.Keys.{has-room, no-room}
+use Rattle.line.proofs.Work.stores.Statement.{statement}
+use Rattle.line.proofs.Work.stores.Tie as tie
+
+-- the rule, as a part that looks at its state
+abbrev byRoom : Bool → ℕ → State ℕ → Part ℕ
+byRoom quoted c s = pick (ltb (length (s .typed .typeAhead)) typeAheadSize) (keeps quoted c) (drops c)
+
+cast-if1 : tie.Need-cast-if1
+cast-if1 c = search needs
+
+keeps-requires : tie.Need-keeps-requires
+keeps-requires c κs = search needs
+
+returns : tie.Need-returns
+unfolding stores
+returns c =
+    let start = c .before .before .before .before .before .before in
+    let x = start .args in
+    λ m.
+    here-does (byRoom (x .quoted) (x .c))
+    (first-does _ _ (has-room (x .self .line .typed) (start .pre .typed) (c .before .if1 .taken)) (c .keeps .ensures _ m))
+
+drops-requires : tie.Need-drops-requires
+drops-requires c κs = search needs
+
+same-length : tie.Need-same-length
+same-length c = search needs
+
+returns-2 : tie.Need-returns-2
+unfolding stores
+returns-2 c =
+    let b = c .before .before in
+    let start = b .before .before .before .before .before .before .before in
+    let x = start .args in
+    λ m.
+    here-does (byRoom (x .quoted) (x .c))
+    (second-does _ _ (no-room (x .self .line .typed) (start .pre .typed) (b .before .before .if1 .left)) (b .drops .ensures _ m))
+
+pub stores-spec : {M : Type 1} → statement M
+stores-spec =
+    tie.close (tie.spec cast-if1 keeps-requires returns drops-requires same-length returns-2)

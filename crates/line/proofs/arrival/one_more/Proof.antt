@@ -1,0 +1,17 @@
+use native.Mathlib.Omega.{arith}
+use borrow.Author.Needs.{needs}
+use Rattle.line.proofs.Sizes.{top-dropped}
+use Rattle.line.proofs.arrival.one_more.Statement.{statement}
+use Rattle.line.proofs.arrival.one_more.Tie as tie
+
+add-result : tie.Need-add-result
+add-result c = search needs
+
+returns : tie.Need-returns
+returns c = omega (arith, top-dropped)
+
+returns-2 : tie.Need-returns-2
+returns-2 c = omega (arith, top-dropped)
+
+pub one-more-spec : {M : Type 1} → statement M
+one-more-spec = tie.close (tie.spec add-result returns returns-2)

@@ -1,0 +1,12 @@
+use mathlib.Core.Path.{refl}
+use native.Mathlib.Omega.{arith}
+use Rattle.line.specs.View.{keysOf, tokenOf}
+use Rattle.line.proofs.fresh.nothing_typed.Statement.{statement}
+use Rattle.line.proofs.fresh.nothing_typed.Tie as tie
+
+returns : tie.Need-returns
+unfolding keysOf tokenOf
+returns c = (refl, record { keys = refl; waiting = omega arith; token = refl; begun = omega arith })
+
+pub nothing-typed-spec : {M : Type 1} → statement M
+nothing-typed-spec = tie.close (tie.spec returns)

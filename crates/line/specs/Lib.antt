@@ -1,0 +1,10 @@
+pub mod View
+pub mod Bounded
+pub mod With
+pub mod TypedParts
+pub mod TokenParts
+pub mod ReadingParts
+pub mod StepParts
+pub mod Promise
+pub mod Answers
+pub mod Events

@@ -1,0 +1,161 @@
+-- How long messages are: by their forms, and by the lengths of their parts.
+use mathlib.Core.Path.{_≡_, refl, sym, ap, ap₂, _∙_}
+use Prim.Native.Nat.{ℕ, zero, suc, _+_, _-_, _*_, _%_, _<_, _≤_}
+use native.Mathlib.Nat.{mod-eq-of-lt}
+use native.Mathlib.Omega.{arith}
+use mathlib.Core.Bool.{true}
+use mathlib.Core.List.{List, [], _∷_, _++_, map, zipWith}
+use lib.Dec.{leb}
+use lib.ListN.{length, take, drop, length-append, length-take, length-drop}
+use lib.Seq.{getD-take, length-take-le}
+use borrow.Author.Tests.{le-leb, leb-true}
+use Rattle.rules.specs.Choice.{all, joined}
+use Rattle.rules.specs.Calls.{framed, sentBytes}
+use Rattle.rules.specs.Messages.Layout as layout
+use Rattle.rules.specs.Messages.Layout.{byteAt, writeGroups}
+use Rattle.rules.specs.Messages.Parameters.{Shape, initiation, question, setting, limitsOf, sizeOf, cleaned, cut}
+use Rattle.rules.specs.Messages.Forms as forms
+use Rattle.rules.specs.Messages.Forms.{Tail, nothing, text, setAndText, list, Form, formOf}
+use Rattle.rules.specs.Messages.Codec.{Held, message, other, tailBytes, bytesAs, bytesOf}
+use Rattle.rules.proofs.Tests.{both, quarters, all-cons}
+use Rattle.rules.proofs.Fields.{length-writeGroups}
+use Rattle.rules.proofs.ParameterLists.{joined-cut}
+use Rattle.message.specs.declared.Part.{Part}
+use Rattle.message.specs.declared.Message.{Message}
+use Rattle.message.specs.declared.Message.the-variants.{Initiate, StartRead, ReadData, OutOfBand, Unread, ClearInput, Write}
+use Rattle.message.specs.declared.Message.the-variants.{WriteCompletion, DiscardState, ReadCharacteristics, Characteristics}
+use Rattle.message.specs.declared.Message.the-variants.{CheckInput, InputCount, InputState, Other}
+use Rattle.message.specs.Found.{partOf, parametersOf, startReadIn, heldIn}
+use Rattle.message.proofs.Walk.{size-least}
+use Rattle.writing.specs.Front.{frontTail, frontBytes}
+use Rattle.writing.specs.Parts as parts
+use Rattle.writing.specs.Parts.{partsOf, sizeIn, lies, inside}
+
+-- A parameter list: cleaning keeps the length, whole or not.
+module _ (shape : Shape) where
+  abbrev short : List ℕ → Type 0
+  short p = length p ≤ sizeOf shape p
+
+  pub size-taken : (n : ℕ) (p : List ℕ) → 2 ≤ n → sizeOf shape (take n p) ≡ sizeOf shape p
+  unfolding sizeOf limitsOf
+  size-taken n p h = ap₂ (λ low high. 2 + length (shape .limits low high)) (getD-take n p 0 0 (omega arith)) (getD-take n p 1 0 (omega arith))
+
+  -- what is cut is no longer than it should be
+  pub cut-short : (n : ℕ) (xs : List ℕ) → all (λ p. leb (length p) (sizeOf shape p)) (cut shape n xs) ≡ true
+  unfolding cut all
+  cut-short zero [] = refl
+  cut-short (suc n) [] = refl
+  cut-short (suc n) (x ∷ xs) = cut-short n xs
+  cut-short zero (x ∷ xs) =
+      let size = sizeOf shape (x ∷ xs) in
+      let l = length-take size (x ∷ xs) in
+      let same = size-taken size (x ∷ xs) (size-least shape (x ∷ xs)) in
+      both (le-leb (length (take size (x ∷ xs))) (sizeOf shape (take size (x ∷ xs))) (omega arith)) (cut-short (size - 1) xs)
+
+  cleaned-length : (p : List ℕ) → short p → length (cleaned shape p) ≡ length p
+  unfolding cleaned sizeOf zipWith
+  cleaned-length p h = zipped p (256 ∷ 256 ∷ limitsOf shape p) (omega arith)
+    where
+      zipped : (p ls : List ℕ) → length p ≤ length ls → length (zipWith _%_ p ls) ≡ length p
+      zipped [] ls h = refl
+      zipped (b ∷ p) [] h = absurd (omega arith)
+      zipped (b ∷ p) (l ∷ ls) h = ap suc (zipped p ls (omega arith))
+
+  joined-length : (ps : List (List ℕ)) → all (λ p. leb (length p) (sizeOf shape p)) ps ≡ true →
+      length (joined (map (cleaned shape) ps)) ≡ length (joined ps)
+  unfolding joined
+  joined-length [] e = refl
+  joined-length (p ∷ ps) e =
+      let h = all-cons _ p ps e in
+      length-append (cleaned shape p) (joined (map (cleaned shape) ps)) ∙
+      ap₂ _+_ (cleaned-length p (leb-true _ _ (h .0))) (joined-length ps (h .1)) ∙
+      sym (length-append p (joined ps))
+
+  pub list-length : (xs : List ℕ) → length (joined (map (cleaned shape) (cut shape zero xs))) ≡ length xs
+  list-length xs = joined-length (cut shape zero xs) (cut-short zero xs) ∙ ap length (joined-cut shape zero xs)
+
+-- A message, by its form.
+form-length : (f : Form) (x : forms.Message ℕ) → length (bytesAs f x) ≡ 1 + layout.sizeOf (f .head) + length (tailBytes (f .tail) x)
+unfolding bytesAs
+form-length f x =
+    let n = length-writeGroups (f .head) (x .numbers) in
+    let l = length-append (writeGroups (f .head) (x .numbers)) (tailBytes (f .tail) x) in
+    omega arith
+
+module _ (s : List ℕ) where
+  listed : (kind head : ℕ) (shape : Shape) (p : Part) (x : forms.Message ℕ) → formOf kind .tail ≡ list shape →
+      1 + layout.sizeOf (formOf kind .head) ≡ head → x .parameters ≡ parametersOf shape s p →
+      length (bytesAs (formOf kind) x) ≡ sizeIn s (parts.withList kind head p)
+  unfolding tailBytes parametersOf partOf
+  listed kind head shape p x is size e =
+      let f = form-length (formOf kind) x in
+      let tail : length (tailBytes (formOf kind .tail) x) ≡ length (joined (x .parameters)) = ap (λ t. length (tailBytes t x)) is in
+      let params = ap (λ ps. length (joined ps)) e in
+      let l = list-length shape (take (p .len) (drop (p .start) s)) in
+      omega arith
+
+  pub held-length : (m : Message) → length (bytesOf (heldIn s m)) ≡ sizeIn s (partsOf m)
+  unfolding heldIn startReadIn bytesOf partsOf formOf forms.forms layout.sizeOf tailBytes partOf
+  held-length (Initiate f) = listed 1 13 initiation (f .parameters) _ refl refl refl
+  held-length (StartRead f) =
+      let l = form-length (formOf 2) (startReadIn s f) in
+      let n = length-append (partOf s (f .set)) (partOf s (f .text)) in
+      omega arith
+  held-length (ReadData f) = form-length (formOf 3) _
+  held-length (OutOfBand discard character) = form-length (formOf 4) _
+  held-length (Unread condition) = form-length (formOf 5) _
+  held-length ClearInput = form-length (formOf 6) _
+  held-length (Write f) = form-length (formOf 7) _
+  held-length (WriteCompletion lost horizontal vertical) = form-length (formOf 8) _
+  held-length (DiscardState kept) = form-length (formOf 9) _
+  held-length (ReadCharacteristics p) = listed 10 2 question p _ refl refl refl
+  held-length (Characteristics p) = listed 11 2 setting p _ refl refl refl
+  held-length CheckInput = form-length (formOf 12) _
+  held-length (InputCount count) = form-length (formOf 13) _
+  held-length (InputState nonzero) = form-length (formOf 14) _
+  held-length (Other kind body) = omega arith
+
+  -- Where the parts lie in the slice, their own lengths say it.
+  part-length : (p : Part) → lies (length s) p ≡ true → length (partOf s p) ≡ p .len
+  unfolding partOf
+  part-length p e =
+      let h = leb-true (p .start + p .len) (length s) e in
+      let d = length-drop (p .start) s in
+      length-take-le (p .len) (drop (p .start) s) (omega arith)
+
+  pub inside-length : (m : Message) → inside (length s) (partsOf m) ≡ true → parts.sizeOf (partsOf m) ≡ length (bytesOf (heldIn s m))
+  unfolding inside
+  inside-length m e =
+      let p = partsOf m in
+      let n = length s in
+      let h = quarters (lies n (p .list)) (lies n (p .set)) (lies n (p .text)) (lies n (p .revision)) e in
+      let list = part-length (p .list) (h .0) in
+      let set = part-length (p .set) (h .1) in
+      let text = part-length (p .text) (h .2) in
+      omega (arith, held-length m)
+
+-- What a line sends: a message without parameters.
+pub record Sendable (s : List ℕ) (m : Message) (x : forms.Message ℕ) : Type 0 where
+  pub held : heldIn s m ≡ message x
+  pub listless : x .parameters ≡ []
+  pub set : length (x .set) < 256
+
+module _ {s : List ℕ} {m : Message} {x : forms.Message ℕ} (h : Sendable s m x) where
+  same-tail : (t : Tail) → frontTail t x ≡ tailBytes t x
+  unfolding frontTail tailBytes joined
+  same-tail nothing = refl
+  same-tail text = refl
+  same-tail setAndText = ap (λ n. n ∷ (x .set ++ x .text)) (mod-eq-of-lt (h .set))
+  same-tail (list shape) = ap joined (sym (h .listless))
+
+  pub sent-front : frontBytes (heldIn s m) ≡ sentBytes x
+  unfolding frontBytes sentBytes bytesAs
+  sent-front =
+      ap frontBytes (h .held) ∙
+      ap (λ t. x .kind ∷ (writeGroups (formOf (x .kind) .head) (x .numbers) ++ t)) (same-tail (formOf (x .kind) .tail))
+
+  pub sent-framed : inside (length s) (partsOf m) ≡ true →
+      layout.bytesOf 2 (parts.sizeOf (partsOf m)) ++ frontBytes (heldIn s m) ≡ framed (sentBytes x)
+  unfolding framed sentBytes bytesOf
+  sent-framed e =
+      ap₂ (λ n b. layout.bytesOf 2 n ++ b) (inside-length s m e ∙ ap (λ y. length (bytesOf y)) (h .held)) sent-front

@@ -1,0 +1,103 @@
+// Each message but Start Read, up to its parameter list.
+ghost use mathlib.Core.Path.{_≡_};
+ghost use Rattle.rules.specs.Messages.Layout.{byte, numberOf, writeGroups};
+ghost use lib.ListN.{replicate};
+ghost use Rattle.message.specs.declared.Message.the-variants as variants;
+ghost use Rattle.message.specs.Found.{heldIn, partOf};
+ghost use Rattle.writing.specs.Puts.{Puts};
+ghost use Rattle.writing.specs.Front.{frontBytes, writeWidths, writeFlags};
+use message::InitiateFields;
+use message::Part;
+use message::ReadDataFields;
+use message::WriteFields;
+use crate::put::put_byte;
+use crate::put::put_number;
+use crate::put::put_pair;
+use crate::put::put_part;
+use crate::put::put_word;
+
+// Eight bytes of a part; 0 for those that it does not have.
+fn put_eight(s: &[u8], p: Part, area: &mut [u8], at: usize) -> usize
+    ensures { λ r. ⌜ Puts (writeGroups (replicate 8 byte) (partOf (now (s .entry)) p)) (now (area .entry)) at r (now (area .exit)) ⌝ }
+{
+    let t = message::bytes_of(s, p);
+    let mut next = at;
+    let mut i = 0;
+    while i < 8 {
+        next = put_byte(message::byte_at(t, i), area, next);
+        i += 1;
+    }
+    next
+}
+
+pub(crate) fn put_initiate(f: InitiateFields, s: &[u8], area: &mut [u8], at: usize) -> usize
+    ensures { λ r. ⌜ Puts (frontBytes (heldIn (now (s .entry)) (variants.Initiate f))) (now (area .entry)) at r (now (area .exit)) ⌝ }
+{
+    let revision = f.revision;
+    let next = put_pair(1, 0, area, at);
+    let next = put_pair(f.version, f.eco, area, next);
+    let next = put_number(1, f.modification as u32, area, next);
+    put_eight(s, revision, area, next)
+}
+
+pub(crate) fn put_read_data(f: ReadDataFields, s: &[u8], area: &mut [u8], at: usize) -> usize
+    ensures { λ r. ⌜ Puts (frontBytes (heldIn (now (s .entry)) (variants.ReadData f))) (now (area .entry)) at r (now (area .exit)) ⌝ }
+{
+    let text = f.text;
+    let flags = f.code as u32 + 16 * (f.more as u32);
+    let next = put_byte(3, area, at);
+    let next = put_number(1, flags, area, next);
+    let next = put_word(f.low_water, area, next);
+    let next = put_pair(f.vertical, f.horizontal, area, next);
+    let next = put_word(f.terminator, area, next);
+    put_part(s, text, area, next)
+}
+
+pub(crate) fn put_out_of_band(discard: u8, character: u8, s: &[u8], area: &mut [u8], at: usize) -> usize
+    ensures {
+        λ r.
+        ⌜ Puts (frontBytes (heldIn (now (s .entry)) (variants.OutOfBand discard character))) (now (area .entry)) at r (now (area .exit)) ⌝
+    }
+{
+    let next = put_byte(4, area, at);
+    put_pair(discard, character, area, next)
+}
+
+fn write_flags(f: WriteFields) -> u32
+    ensures { λ r. ⌜ r ≡ numberOf writeWidths (writeFlags f) ⌝ }
+{
+    let high = f.prefix as u32 + 4 * (f.postfix as u32 + 4 * (f.wants_completion as u32 + 2 * (f.transparent as u32)));
+    let low = f.keeps_output as u32 + 2 * (f.first as u32 + 2 * (f.last as u32 + 2 * high));
+    f.lock as u32 + 4 * (f.newline as u32 + 2 * low)
+}
+
+pub(crate) fn put_write(f: WriteFields, s: &[u8], area: &mut [u8], at: usize) -> usize
+    ensures { λ r. ⌜ Puts (frontBytes (heldIn (now (s .entry)) (variants.Write f))) (now (area .entry)) at r (now (area .exit)) ⌝ }
+{
+    let text = f.text;
+    let flags = write_flags(f);
+    let next = put_byte(7, area, at);
+    let next = put_number(2, flags, area, next);
+    let next = put_pair(f.prefix_value, f.postfix_value, area, next);
+    put_part(s, text, area, next)
+}
+
+pub(crate) fn put_write_completion(lost: u8, horizontal: u16, vertical: u16, s: &[u8], area: &mut [u8], at: usize) -> usize
+    ensures {
+        λ r.
+        ⌜ Puts
+            (frontBytes (heldIn (now (s .entry)) (variants.WriteCompletion lost horizontal vertical)))
+            (now (area .entry)) at r (now (area .exit)) ⌝
+    }
+{
+    let next = put_pair(8, lost, area, at);
+    let next = put_word(horizontal, area, next);
+    put_word(vertical, area, next)
+}
+
+pub(crate) fn put_input_count(count: u16, s: &[u8], area: &mut [u8], at: usize) -> usize
+    ensures { λ r. ⌜ Puts (frontBytes (heldIn (now (s .entry)) (variants.InputCount count))) (now (area .entry)) at r (now (area .exit)) ⌝ }
+{
+    let next = put_pair(13, 0, area, at);
+    put_word(count, area, next)
+}

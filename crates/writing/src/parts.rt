@@ -1,0 +1,142 @@
+// The type and the parts of a message, by which its length is known and whether it lies in a slice.
+ghost use mathlib.Core.Path.{_≡_};
+ghost use Rattle.writing.specs.Parts.{partsOf, sizeOf, lies, inside, bare, withText, withList, initiateParts, startReadParts};
+use message::Message;
+use message::Part;
+
+// `head` is how many bytes stand in front of the list, or of the text; a set has its count among them. A part that a message
+// does not have is empty.
+pub(crate) struct Parts {
+    pub kind: u8,
+    pub head: u16,
+    pub list: Part,
+    pub set: Part,
+    pub text: Part,
+    pub revision: Part,
+}
+
+fn bare(kind: u8, head: u16) -> Parts
+    ensures { λ r. ⌜ r ≡ bare kind head ⌝ }
+{
+    let none = Part { start: 0, len: 0 };
+    Parts {
+        kind,
+        head,
+        list: none,
+        set: none,
+        text: none,
+        revision: none,
+    }
+}
+
+fn with_text(kind: u8, head: u16, text: Part) -> Parts
+    ensures { λ r. ⌜ r ≡ withText kind head text ⌝ }
+{
+    let none = Part { start: 0, len: 0 };
+    Parts {
+        kind,
+        head,
+        list: none,
+        set: none,
+        text,
+        revision: none,
+    }
+}
+
+fn with_list(kind: u8, head: u16, list: Part) -> Parts
+    ensures { λ r. ⌜ r ≡ withList kind head list ⌝ }
+{
+    let none = Part { start: 0, len: 0 };
+    Parts {
+        kind,
+        head,
+        list,
+        set: none,
+        text: none,
+        revision: none,
+    }
+}
+
+fn initiate_parts(list: Part, revision: Part) -> Parts
+    ensures { λ r. ⌜ r ≡ initiateParts list revision ⌝ }
+{
+    let none = Part { start: 0, len: 0 };
+    Parts {
+        kind: 1,
+        head: 13,
+        list,
+        set: none,
+        text: none,
+        revision,
+    }
+}
+
+fn start_read_parts(set: Part, text: Part) -> Parts
+    ensures { λ r. ⌜ r ≡ startReadParts set text ⌝ }
+{
+    let none = Part { start: 0, len: 0 };
+    Parts {
+        kind: 2,
+        head: 17,
+        list: none,
+        set,
+        text,
+        revision: none,
+    }
+}
+
+pub(crate) fn parts_of(m: Message) -> Parts
+    ensures { λ r. ⌜ r ≡ partsOf m ⌝ }
+{
+    match m {
+        Message::Initiate(f) => initiate_parts(f.parameters, f.revision),
+        Message::StartRead(f) => start_read_parts(f.set, f.text),
+        Message::ReadData(f) => with_text(3, 8, f.text),
+        Message::OutOfBand {
+            discard: _,
+            character: _,
+        } => bare(4, 3),
+        Message::Unread { condition: _ } => bare(5, 2),
+        Message::ClearInput => bare(6, 2),
+        Message::Write(f) => with_text(7, 5, f.text),
+        Message::WriteCompletion {
+            lost: _,
+            horizontal: _,
+            vertical: _,
+        } => bare(8, 6),
+        Message::DiscardState { kept: _ } => bare(9, 2),
+        Message::ReadCharacteristics { parameters } => with_list(10, 2, parameters),
+        Message::Characteristics { parameters } => with_list(11, 2, parameters),
+        Message::CheckInput => bare(12, 2),
+        Message::InputCount { count: _ } => bare(13, 4),
+        Message::InputState { nonzero: _ } => bare(14, 2),
+        Message::Other { kind, body } => with_text(kind, 1, body),
+    }
+}
+
+// How long the message is, by the lengths of its parts.
+pub(crate) fn size_of(p: Parts) -> u32
+    ensures { λ r. ⌜ r ≡ sizeOf p ⌝ }
+{
+    let list = p.list;
+    let set = p.set;
+    let text = p.text;
+    p.head as u32 + list.len as u32 + set.len as u32 + text.len as u32
+}
+
+// A part lies in a slice of this length.
+fn lies(p: Part, size: usize) -> bool
+    ensures { λ r. ⌜ r ≡ lies size p ⌝ }
+{
+    p.start as usize + p.len as usize <= size
+}
+
+pub(crate) fn inside(p: Parts, size: usize) -> bool
+    ensures { λ r. ⌜ r ≡ inside size p ⌝ }
+{
+    let list = p.list;
+    let set = p.set;
+    let text = p.text;
+    let revision = p.revision;
+    lies(list, size) & lies(set, size) & lies(text, size) & lies(revision, size)
+}
