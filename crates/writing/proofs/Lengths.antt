@@ -27,22 +27,21 @@ use Rattle.message.specs.declared.Message.the-variants.{WriteCompletion, Discar
 use Rattle.message.specs.declared.Message.the-variants.{CheckInput, InputCount, InputState, Other}
 use Rattle.message.specs.Found.{partOf, parametersOf, startReadIn, heldIn}
 use Rattle.message.proofs.Walk.{size-least}
-use Rattle.writing.specs.declared.parts.Parts.{Parts}
 use Rattle.writing.specs.Front.{frontTail, frontBytes}
 use Rattle.writing.specs.Parts as parts
-use Rattle.writing.specs.Parts.{partsOf, lies, inside}
+use Rattle.writing.specs.Parts.{partsOf, sizeIn, lies, inside}
 
 -- A parameter list: cleaning keeps the length, whole or not.
 module _ (shape : Shape) where
   abbrev short : List ℕ → Type 0
   short p = length p ≤ sizeOf shape p
 
-  size-taken : (n : ℕ) (p : List ℕ) → 2 ≤ n → sizeOf shape (take n p) ≡ sizeOf shape p
+  pub size-taken : (n : ℕ) (p : List ℕ) → 2 ≤ n → sizeOf shape (take n p) ≡ sizeOf shape p
   unfolding sizeOf limitsOf
   size-taken n p h = ap₂ (λ low high. 2 + length (shape .limits low high)) (getD-take n p 0 0 (omega arith)) (getD-take n p 1 0 (omega arith))
 
   -- what is cut is no longer than it should be
-  cut-short : (n : ℕ) (xs : List ℕ) → all (λ p. leb (length p) (sizeOf shape p)) (cut shape n xs) ≡ true
+  pub cut-short : (n : ℕ) (xs : List ℕ) → all (λ p. leb (length p) (sizeOf shape p)) (cut shape n xs) ≡ true
   unfolding cut all
   cut-short zero [] = refl
   cut-short (suc n) [] = refl
@@ -53,9 +52,9 @@ module _ (shape : Shape) where
       let same = size-taken size (x ∷ xs) (size-least shape (x ∷ xs)) in
       both (le-leb (length (take size (x ∷ xs))) (sizeOf shape (take size (x ∷ xs))) (omega arith)) (cut-short (size - 1) xs)
 
-  cleaned-length : (p : List ℕ) → short p → length (cleaned shape p) ≡ length p
+  pub cleaned-length : (p : List ℕ) → short p → length (cleaned shape p) ≡ length p
   unfolding cleaned sizeOf zipWith
-  cleaned-length p h = zipped p (256 ∷ 256 ∷ limitsOf shape p) h
+  cleaned-length p h = zipped p (256 ∷ 256 ∷ limitsOf shape p) (omega arith)
     where
       zipped : (p ls : List ℕ) → length p ≤ length ls → length (zipWith _%_ p ls) ≡ length p
       zipped [] ls h = refl
@@ -82,10 +81,6 @@ form-length f x =
     let n = length-writeGroups (f .head) (x .numbers) in
     let l = length-append (writeGroups (f .head) (x .numbers)) (tailBytes (f .tail) x) in
     omega arith
-
--- what the bytes of the parts come to
-abbrev pub sizeIn : List ℕ → Parts → ℕ
-sizeIn s p = p .head + length (partOf s (p .list)) + length (partOf s (p .set)) + length (partOf s (p .text))
 
 module _ (s : List ℕ) where
   listed : (kind head : ℕ) (shape : Shape) (p : Part) (x : forms.Message ℕ) → formOf kind .tail ≡ list shape →
@@ -118,13 +113,13 @@ module _ (s : List ℕ) where
   held-length CheckInput = form-length (formOf 12) _
   held-length (InputCount count) = form-length (formOf 13) _
   held-length (InputState nonzero) = form-length (formOf 14) _
-  held-length (Other kind body) = refl
+  held-length (Other kind body) = omega arith
 
   -- Where the parts lie in the slice, their own lengths say it.
   part-length : (p : Part) → lies (length s) p ≡ true → length (partOf s p) ≡ p .len
   unfolding partOf
   part-length p e =
-      let h = leb-true _ _ e in
+      let h = leb-true (p .start + p .len) (length s) e in
       let d = length-drop (p .start) s in
       length-take-le (p .len) (drop (p .start) s) (omega arith)
 
