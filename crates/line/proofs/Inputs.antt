@@ -16,14 +16,15 @@ use Rattle.line.specs.ReadingParts.{Becomes}
 -- a read with its first characters left, as the program makes it
 abbrev withLeft : ℕ → ℕ → Reading → Reading
 withLeft left low r =
-    record
-    { terms = r .terms;
+    record {
+      terms = r .terms;
       input = r .input;
       count = left;
       «low_water» = low;
       hidden = r .hidden && ltb 0 left;
       from = r .from;
-      idle = r .idle }
+      idle = r .idle;
+    }
 
 pub left-becomes : (r : Reading) (left low : ℕ) → CountedReading r → left ≤ r .count → low ≡ min (r .«low_water») (r .terms .«end_of_prompt» + left) →
     Becomes (rules.shortened left (readingOf r)) (withLeft left low r)
@@ -36,6 +37,7 @@ left-becomes r left low c h e =
         lowWater = e i;
         hidden = r .hidden && ltb 0 left;
         from = r .from;
-        idle = r .idle };
+        idle = r .idle;
+      };
       counted = record { terms = c .terms; input = c .input; within = omega arith };
     }

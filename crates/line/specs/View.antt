@@ -48,8 +48,8 @@ promptOf t = take (t .«prompt_len») (t .prompt)
 
 abbrev pub termsOf : Terms → rules.Terms
 termsOf t =
-    record
-    { underflow = t .underflow;
+    record {
+      underflow = t .underflow;
       disables = t .disables;
       raises = t .raises;
       recognises = t .recognises;
@@ -62,20 +62,22 @@ termsOf t =
       endOfPrompt = t .«end_of_prompt»;
       prompt = promptOf t;
       column = t .column;
-      line = t .line }
+      line = t .line;
+    }
 
 unfoldable pub inputOf : Reading → List ℕ
 inputOf r = take (r .count) (r .input)
 
 abbrev pub readingOf : Reading → rules.Reading ℕ
 readingOf r =
-    record
-    { terms = termsOf (r .terms);
+    record {
+      terms = termsOf (r .terms);
       input = inputOf r;
       lowWater = r .«low_water»;
       hidden = r .hidden;
       from = r .from;
-      idle = r .idle }
+      idle = r .idle;
+    }
 
 abbrev pub pendingOf : Bool → Reading → Option (rules.Reading ℕ)
 pendingOf true r = some (readingOf r)

@@ -1,11 +1,12 @@
 // One line of the console end: its state by value, and the four calls on it.
 use screen::Screen;
+
 mod arrival;
 mod calls;
 mod choices;
 mod editing;
-mod events;
 mod ending;
+mod events;
 mod fresh;
 mod input;
 mod parts;

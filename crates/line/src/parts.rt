@@ -13,7 +13,11 @@ impl Work {
     {
         let mut line = self.line;
         line.terminal = t;
-        Work { line, at: self.at, sent: self.sent }
+        Work {
+            line,
+            at: self.at,
+            sent: self.sent,
+        }
     }
 
     pub fn with_typed(self, t: Typed) -> Work
@@ -21,7 +25,11 @@ impl Work {
     {
         let mut line = self.line;
         line.typed = t;
-        Work { line, at: self.at, sent: self.sent }
+        Work {
+            line,
+            at: self.at,
+            sent: self.sent,
+        }
     }
 
     pub fn with_host(self, h: Host) -> Work
@@ -29,7 +37,11 @@ impl Work {
     {
         let mut line = self.line;
         line.host = h;
-        Work { line, at: self.at, sent: self.sent }
+        Work {
+            line,
+            at: self.at,
+            sent: self.sent,
+        }
     }
 
     // With this read pending.
@@ -39,7 +51,11 @@ impl Work {
         let mut line = self.line;
         line.pending = true;
         line.reading = read;
-        Work { line, at: self.at, sent: self.sent }
+        Work {
+            line,
+            at: self.at,
+            sent: self.sent,
+        }
     }
 
     pub fn without_read(self) -> Work
@@ -47,6 +63,10 @@ impl Work {
     {
         let mut line = self.line;
         line.pending = false;
-        Work { line, at: self.at, sent: self.sent }
+        Work {
+            line,
+            at: self.at,
+            sent: self.sent,
+        }
     }
 }

@@ -206,7 +206,7 @@ pub initiation-cleanable : Cleanable initiation
 initiation-cleanable = record { values = λ kind count. positive-replicate count; kept = λ p bytes e. refl }
 
 -- the selector is the first two bytes
-selector-cleaned : (shape : Shape) (p : List ℕ) → allBytes p ≡ true → selector (cleaned shape p) ≡ selector p
+pub selector-cleaned : (shape : Shape) (p : List ℕ) → allBytes p ≡ true → selector (cleaned shape p) ≡ selector p
 selector-cleaned shape p e = ap₂ (λ low high. low + 256 * high) (head-cleaned shape p 0 (omega arith) e) (head-cleaned shape p 1 (omega arith) e)
 
 pub question-cleanable : Cleanable question
@@ -233,7 +233,7 @@ count-limits : valueLimits inputCountState ≡ 256 ∷ 256 ∷ []
 unfolding valueLimits
 count-limits = pick-false _ _ refl ∙ pick-true _ _ refl
 
-count-cleaned : (p : List ℕ) (i : ℕ) → allBytes p ≡ true → selector p ≡ inputCountState →
+pub count-cleaned : (p : List ℕ) (i : ℕ) → allBytes p ≡ true → selector p ≡ inputCountState →
     byteAt (256 ∷ 256 ∷ 256 ∷ 256 ∷ []) i ≡ 256 → byteAt (cleaned setting p) i ≡ byteAt p i
 unfolding cleaned limitsOf
 count-cleaned p i bytes s h =

@@ -52,7 +52,7 @@ module _ (shape : Shape) where
       let same = size-taken size (x ∷ xs) (size-least shape (x ∷ xs)) in
       both (le-leb (length (take size (x ∷ xs))) (sizeOf shape (take size (x ∷ xs))) (omega arith)) (cut-short (size - 1) xs)
 
-  cleaned-length : (p : List ℕ) → short p → length (cleaned shape p) ≡ length p
+  pub cleaned-length : (p : List ℕ) → short p → length (cleaned shape p) ≡ length p
   unfolding cleaned sizeOf zipWith
   cleaned-length p h = zipped p (256 ∷ 256 ∷ limitsOf shape p) (omega arith)
     where

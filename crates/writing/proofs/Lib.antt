@@ -2,3 +2,7 @@
 pub mod Putting
 pub mod Groups
 pub mod Lengths
+pub mod Settings
+pub mod Fitting
+pub mod WholeLists
+pub mod Writes

@@ -6,15 +6,15 @@ ghost use Rattle.message.specs.declared.Message.the-variants as variants;
 ghost use Rattle.message.specs.Found.{heldIn, partOf};
 ghost use Rattle.writing.specs.Puts.{Puts};
 ghost use Rattle.writing.specs.Front.{frontBytes, writeWidths, writeFlags};
-use message::InitiateFields;
-use message::Part;
-use message::ReadDataFields;
-use message::WriteFields;
 use crate::put::put_byte;
 use crate::put::put_number;
 use crate::put::put_pair;
 use crate::put::put_part;
 use crate::put::put_word;
+use message::InitiateFields;
+use message::Part;
+use message::ReadDataFields;
+use message::WriteFields;
 
 // Eight bytes of a part; 0 for those that it does not have.
 fn put_eight(s: &[u8], p: Part, area: &mut [u8], at: usize) -> usize
@@ -53,11 +53,15 @@ pub(crate) fn put_read_data(f: ReadDataFields, s: &[u8], area: &mut [u8], at: us
     put_part(s, text, area, next)
 }
 
-pub(crate) fn put_out_of_band(discard: u8, character: u8, s: &[u8], area: &mut [u8], at: usize) -> usize
-    ensures {
-        λ r.
-        ⌜ Puts (frontBytes (heldIn (now (s .entry)) (variants.OutOfBand discard character))) (now (area .entry)) at r (now (area .exit)) ⌝
-    }
+pub(crate) fn put_out_of_band(
+    discard: u8,
+    character: u8,
+    s: &[u8],
+    area: &mut [u8],
+    at: usize,
+) -> usize
+    ensures { λ r.
+        ⌜ Puts (frontBytes (heldIn (now (s .entry)) (variants.OutOfBand discard character))) (now (area .entry)) at r (now (area .exit)) ⌝ }
 {
     let next = put_byte(4, area, at);
     put_pair(discard, character, area, next)
@@ -66,7 +70,8 @@ pub(crate) fn put_out_of_band(discard: u8, character: u8, s: &[u8], area: &mut [
 fn write_flags(f: WriteFields) -> u32
     ensures { λ r. ⌜ r ≡ numberOf writeWidths (writeFlags f) ⌝ }
 {
-    let high = f.prefix as u32 + 4 * (f.postfix as u32 + 4 * (f.wants_completion as u32 + 2 * (f.transparent as u32)));
+    let high = f.prefix as u32
+        + 4 * (f.postfix as u32 + 4 * (f.wants_completion as u32 + 2 * (f.transparent as u32)));
     let low = f.keeps_output as u32 + 2 * (f.first as u32 + 2 * (f.last as u32 + 2 * high));
     f.lock as u32 + 4 * (f.newline as u32 + 2 * low)
 }
@@ -82,13 +87,18 @@ pub(crate) fn put_write(f: WriteFields, s: &[u8], area: &mut [u8], at: usize) ->
     put_part(s, text, area, next)
 }
 
-pub(crate) fn put_write_completion(lost: u8, horizontal: u16, vertical: u16, s: &[u8], area: &mut [u8], at: usize) -> usize
-    ensures {
-        λ r.
+pub(crate) fn put_write_completion(
+    lost: u8,
+    horizontal: u16,
+    vertical: u16,
+    s: &[u8],
+    area: &mut [u8],
+    at: usize,
+) -> usize
+    ensures { λ r.
         ⌜ Puts
-            (frontBytes (heldIn (now (s .entry)) (variants.WriteCompletion lost horizontal vertical)))
-            (now (area .entry)) at r (now (area .exit)) ⌝
-    }
+        (frontBytes (heldIn (now (s .entry)) (variants.WriteCompletion lost horizontal vertical)))
+        (now (area .entry)) at r (now (area .exit)) ⌝ }
 {
     let next = put_pair(8, lost, area, at);
     let next = put_word(horizontal, area, next);

@@ -5,7 +5,6 @@ ghost use Rattle.message.specs.Found.{heldIn};
 ghost use Rattle.writing.specs.Puts.{Puts};
 ghost use Rattle.writing.specs.Front.{frontBytes, settingBytes};
 ghost use Rattle.writing.specs.Parts.{partsOf, sizeOf};
-use message::Message;
 use crate::heads::put_initiate;
 use crate::heads::put_input_count;
 use crate::heads::put_out_of_band;
@@ -19,6 +18,7 @@ use crate::put::put_number;
 use crate::put::put_pair;
 use crate::put::put_word;
 use crate::start_read::put_start_read;
+use message::Message;
 
 // A message up to its parameter list; nothing of a type that is not known.
 pub fn put_message(m: Message, s: &[u8], area: &mut [u8], at: usize) -> usize
@@ -28,7 +28,13 @@ pub fn put_message(m: Message, s: &[u8], area: &mut [u8], at: usize) -> usize
         Message::Initiate(f) => put_initiate(f, s, area, at),
         Message::StartRead(f) => put_start_read(f, s, area, at),
         Message::ReadData(f) => put_read_data(f, s, area, at),
-        Message::OutOfBand { discard, character } => put_out_of_band(discard, character, s, area, at),
+        Message::OutOfBand { discard, character } => put_out_of_band(
+            discard,
+            character,
+            s,
+            area,
+            at,
+        ),
         Message::Unread { condition } => put_pair(5, condition, area, at),
         Message::ClearInput => put_pair(6, 0, area, at),
         Message::Write(f) => put_write(f, s, area, at),
@@ -49,10 +55,8 @@ pub fn put_message(m: Message, s: &[u8], area: &mut [u8], at: usize) -> usize
 
 // The same behind its length in two bytes.
 pub fn put_framed(m: Message, s: &[u8], area: &mut [u8], at: usize) -> usize
-    ensures {
-        λ r.
-        ⌜ Puts (bytesOf 2 (sizeOf (partsOf m)) ++ frontBytes (heldIn (now (s .entry)) m)) (now (area .entry)) at r (now (area .exit)) ⌝
-    }
+    ensures { λ r.
+        ⌜ Puts (bytesOf 2 (sizeOf (partsOf m)) ++ frontBytes (heldIn (now (s .entry)) m)) (now (area .entry)) at r (now (area .exit)) ⌝ }
 {
     let p = parts_of(m);
     let size = size_of(p);
@@ -61,7 +65,15 @@ pub fn put_framed(m: Message, s: &[u8], area: &mut [u8], at: usize) -> usize
 }
 
 // One parameter of a Characteristics: its SELECTOR, and as many bytes of its value as it has.
-pub fn put_setting(selector: u16, first: u8, second: u8, third: u8, count: usize, area: &mut [u8], at: usize) -> usize
+pub fn put_setting(
+    selector: u16,
+    first: u8,
+    second: u8,
+    third: u8,
+    count: usize,
+    area: &mut [u8],
+    at: usize,
+) -> usize
     ensures { λ r. ⌜ Puts (settingBytes selector first second third count) (now (area .entry)) at r (now (area .exit)) ⌝ }
 {
     let next = put_word(selector, area, at);

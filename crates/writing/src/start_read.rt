@@ -6,11 +6,11 @@ ghost use Rattle.message.specs.declared.Message.the-variants as variants;
 ghost use Rattle.message.specs.Found.{heldIn, flagWidths, flagsOf};
 ghost use Rattle.writing.specs.Puts.{Puts};
 ghost use Rattle.writing.specs.Front.{frontBytes, startReadWords};
-use message::StartReadFields;
 use crate::put::put_byte;
 use crate::put::put_number;
 use crate::put::put_part;
 use crate::put::put_word;
+use message::StartReadFields;
 
 // The flags of a Start Read, four at a time.
 fn low_flags(underflow: u8, clears: u8, formats: u8, vertical: u8) -> u16

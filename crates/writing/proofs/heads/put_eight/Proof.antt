@@ -9,7 +9,7 @@ use Rattle.writing.proofs.heads.put_eight.Statement.{statement}
 use Rattle.writing.proofs.heads.put_eight.Tie as tie
 
 abbrev Inv-loop : tie.InvT-loop
-Inv-loop s area₀ at t next₀ i₀ area next i =     Left (writeGroups (replicate 8 byte) t) area₀ at (writeGroups (replicate (8 - i) byte) (drop i t)) area next
+Inv-loop s area₀ at t next₀ i₀ area next i = Left (writeGroups (replicate 8 byte) t) area₀ at (writeGroups (replicate (8 - i) byte) (drop i t)) area next
 
 abbrev μ-loop : tie.MeasureT-loop
 μ-loop s area₀ at t next₀ i₀ area next i = 8 - i

@@ -1,0 +1,107 @@
+-- Whether a message fits: from what the code tests to what the definition does.
+use mathlib.Core.Path.{_≡_, refl, sym, ap, ap₂, _∙_}
+use Prim.Native.Nat.{ℕ, zero, suc, _<_}
+use mathlib.Core.Bool.{Bool, true, false, _&&_, and-assoc, and-true}
+use mathlib.Core.List.{List, [], _∷_}
+use lib.Dec.{leb, ltb}
+use lib.ListN.{length, take, drop}
+use borrow.Author.Tests.{lt-ltb}
+use Rattle.rules.specs.Choice.{pick, isEmpty, all}
+use Rattle.rules.specs.Messages.Layout.{byteAt, widthsOf, fits}
+use Rattle.rules.specs.Messages.Forms.{forms, formOf}
+use Rattle.rules.specs.Messages.Codec.{message, allBytes, definedFields, fitsTail, fitsAs, fitsHeld}
+use Rattle.rules.specs.Numbers.{inputSize}
+use Rattle.rules.specs.StartRead.{soundStartRead}
+use Rattle.rules.proofs.Tests.{both, all-split}
+use Rattle.message.specs.declared.Part.{Part}
+use Rattle.message.specs.declared.Message.{Message}
+use Rattle.message.specs.declared.Message.the-variants.{OutOfBand, Unread, WriteCompletion, DiscardState, InputCount, InputState}
+use Rattle.message.specs.declared.StartReadFields.{StartReadFields}
+use Rattle.message.specs.Found.{partOf, heldIn, startReadIn, withText}
+use Rattle.writing.specs.Fits.{Clipped}
+
+-- the bytes of a slice are bytes, and so are those of a part
+pub bytes-all : (s : List ℕ) → ((i : ℕ) → byteAt s i < 256) → allBytes s ≡ true
+unfolding allBytes all
+bytes-all [] h = refl
+bytes-all (b ∷ s) h = both (lt-ltb b 256 (h zero)) (bytes-all s (λ i. h (suc i)))
+
+pub part-bytes : (s : List ℕ) (p : Part) → allBytes s ≡ true → allBytes (partOf s p) ≡ true
+unfolding allBytes partOf
+part-bytes s p h = all-split (λ b. ltb b 256) (p .len) _ (all-split (λ b. ltb b 256) (p .start) s h .1) .0
+
+-- as many as there are of so many
+take-there : (n : ℕ) (l : List ℕ) → take (length (take n l)) l ≡ take n l
+take-there zero l = refl
+take-there (suc n) [] = refl
+take-there (suc n) (x ∷ l) = ap (λ r. x ∷ r) (take-there n l)
+
+pub clip : (s : List ℕ) (p : Part) {t : List ℕ} → t ≡ partOf s p → Clipped s p (record { start = p .start; len = length t })
+unfolding partOf
+clip s p e =
+    let same = ap (λ l. take (length l) (drop (p .start) s)) e ∙ take-there (p .len) (drop (p .start) s) in
+    record { same = same; long = ap length same ∙ ap length (sym e) }
+
+-- a message by its case
+pub held-fits : (s : List ℕ) {m n : Message} {t : Bool} → m ≡ n → t ≡ fitsHeld (heldIn s n) → t ≡ fitsHeld (heldIn s m)
+held-fits s e w = w ∙ ap (λ m. fitsHeld (heldIn s m)) (sym e)
+
+-- Messages without lists: their flag, where they have one. What is left of the test holds.
+passes : (t a : Bool) → a ≡ true → t ≡ t && a && true && true
+passes true a e = rw e
+passes false a e = refl
+
+module _ (s : List ℕ) where
+  pub unread-fits : (v : ℕ) → ltb v 2 ≡ fitsHeld (heldIn s (Unread v))
+  unfolding heldIn fitsHeld fitsAs formOf forms widthsOf fits fitsTail definedFields pick isEmpty
+  unread-fits v = passes (ltb v 2) true refl
+
+  pub discard-fits : (v : ℕ) → ltb v 2 ≡ fitsHeld (heldIn s (DiscardState v))
+  unfolding heldIn fitsHeld fitsAs formOf forms widthsOf fits fitsTail definedFields pick isEmpty
+  discard-fits v = passes (ltb v 2) true refl
+
+  pub state-fits : (v : ℕ) → ltb v 2 ≡ fitsHeld (heldIn s (InputState v))
+  unfolding heldIn fitsHeld fitsAs formOf forms widthsOf fits fitsTail definedFields pick isEmpty
+  state-fits v = passes (ltb v 2) true refl
+
+  pub band-fits : (v w : ℕ) → w < 256 → ltb v 2 ≡ fitsHeld (heldIn s (OutOfBand v w))
+  unfolding heldIn fitsHeld fitsAs formOf forms widthsOf fits fitsTail definedFields pick isEmpty
+  band-fits v w h = passes (ltb v 2) (ltb w 256 && true) (both (lt-ltb w 256 h) refl)
+
+  pub completion-fits : (v x y : ℕ) → x < 65536 → y < 65536 → ltb v 2 ≡ fitsHeld (heldIn s (WriteCompletion v x y))
+  unfolding heldIn fitsHeld fitsAs formOf forms widthsOf fits fitsTail definedFields pick isEmpty
+  completion-fits v x y p q =
+      passes (ltb v 2) (ltb x 65536 && (ltb y 65536 && true)) (both (lt-ltb x 65536 p) (both (lt-ltb y 65536 q) refl))
+
+  pub count-fits : (x : ℕ) → x < 65536 → true ≡ fitsHeld (heldIn s (InputCount x))
+  unfolding heldIn fitsHeld fitsAs formOf forms widthsOf fits fitsTail definedFields pick isEmpty
+  count-fits x h = sym (both (both (both (lt-ltb x 65536 h) refl) refl) refl)
+
+pub read-data-fits : (code more : ℕ) {low v h t : ℕ} (text : List ℕ) → low < 65536 → v < 256 → h < 256 → t < 65536 → allBytes text ≡ true →
+    ltb code 16 && ltb more 2 && leb code 13 ≡ fitsHeld (withText 3 (code ∷ more ∷ low ∷ v ∷ h ∷ t ∷ []) [] text)
+unfolding fitsHeld fitsAs formOf forms widthsOf fits fitsTail definedFields pick isEmpty
+read-data-fits code more {low} {v} {h} {t} text low< v< h< t< bytes =
+    simp (lt-ltb low 65536 low<, lt-ltb v 256 v<, lt-ltb h 256 h<, lt-ltb t 65536 t<, bytes, and-true, and-assoc)
+
+pub write-fits : (a b c d e f g h i : ℕ) {v w : ℕ} (text : List ℕ) → v < 256 → w < 256 → allBytes text ≡ true →
+    ltb a 4 && ltb b 2 && ltb c 2 && ltb d 2 && ltb e 2 && ltb f 4 && ltb g 4 && ltb h 2 && ltb i 2 && leb f 2 && leb g 2 ≡
+    fitsHeld (withText 7 (a ∷ b ∷ c ∷ d ∷ e ∷ f ∷ g ∷ h ∷ i ∷ v ∷ w ∷ []) [] text)
+unfolding fitsHeld fitsAs formOf forms widthsOf fits fitsTail definedFields pick isEmpty
+write-fits a b c d e f g h i {v} {w} text v< w< bytes = simp (lt-ltb v 256 v<, lt-ltb w 256 w<, bytes, and-true, and-assoc)
+
+-- twelve tests, and what follows them
+pub twelve : (a b c d e f g h i j k l : Bool) {r : Bool} → r ≡ true →
+    a && b && c && d && e && f && g && h && i && j && k && l ≡
+    a && (b && (c && (d && (e && (f && (g && (h && (i && (j && (k && (l && r)))))))))))
+twelve a b c d e f g h i j k l r = rw r (simp (and-true, and-assoc))
+
+-- Start Read, with its text's own length
+pub start-read-fits : (s : List ℕ) (f : StartReadFields) → allBytes s ≡ true → {flags sound : Bool} {n : ℕ} {text : Part} →
+    flags ≡ fits (widthsOf (formOf 2 .head)) (startReadIn [] f .numbers) → n ≡ length (partOf s (f .set)) → Clipped s (f .text) text →
+    sound ≡ soundStartRead inputSize (record { kind = 2; numbers = startReadIn [] f .numbers; set = partOf s (f .set); parameters = []; text = partOf s text }) →
+    flags && leb n 32 && sound ≡ fitsHeld (message (startReadIn s f))
+unfolding fitsHeld fitsAs fitsTail definedFields pick isEmpty startReadIn formOf forms
+start-read-fits s f bytes flags size clip sound =
+    let test = sound ∙ ap (λ t. soundStartRead inputSize (record { kind = 2; numbers = startReadIn [] f .numbers; set = partOf s (f .set); parameters = []; text = t })) (clip .same) in
+    ap₂ _&&_ (ap₂ _&&_ flags (ap (λ k. leb k 32) size)) test ∙
+    simp (part-bytes s (f .set) bytes, part-bytes s (f .text) bytes, and-true)

@@ -1,0 +1,45 @@
+use mathlib.Core.Path.{sym, ap, _∙_}
+use Rattle.message.specs.Found.{foundIn}
+use Rattle.writing.proofs.Writes.{refusal, answers-as, copy-found, copy-refused}
+use borrow.Author.Needs.{needs}
+use Rattle.writing.proofs.front.copy.Statement.{statement}
+use Rattle.writing.proofs.front.copy.Tie as tie
+
+read-requires : tie.Need-read-requires
+read-requires c κs = tt
+
+enum-known-f : tie.Need-enum-known-f
+enum-known-f c = search needs
+
+write-held-requires : tie.Need-write-held-requires
+write-held-requires c κs = tt
+
+enum-known-f-2 : tie.Need-enum-known-f-2
+enum-known-f-2 c = search needs
+
+same-length : tie.Need-same-length
+same-length c = c .before .before .write-held .ensures .same
+
+returns : tie.Need-returns
+unfolding foundIn
+returns c =
+    let s = c .before .before .before .before .before .before .before .before .before .before .args .s .now in
+    answers-as (copy-found _ s (ap (foundIn s) (sym (c .before .before .before .before .before .f .given .1)) ∙ c .before .before .before .before .before .before .before .read .ensures)) (c .before .before .write-held .ensures)
+
+returns-2 : tie.Need-returns-2
+unfolding foundIn
+returns-2 c =
+    let s = c .before .before .before .before .before .before .args .s .now in
+    refusal (copy-refused _ s (ap (foundIn s) (sym (c .before .f2 .given .1)) ∙ c .before .before .before .read .ensures))
+
+pub copy-spec : {M : Type 1} → statement M
+copy-spec =
+    tie.close
+    (tie.spec
+    read-requires
+    enum-known-f
+    write-held-requires
+    enum-known-f-2
+    same-length
+    returns
+    returns-2)

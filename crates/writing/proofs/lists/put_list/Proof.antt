@@ -1,0 +1,53 @@
+use mathlib.Core.Path.{sym, ap, _∙_}
+use borrow.Author.Tests.{eq-eqb, ne-eqb}
+use Rattle.rules.specs.Choice.{joined}
+use Rattle.rules.proofs.Tests.{pick-true, pick-false}
+use Rattle.message.specs.Lists.{soundFrom, parametersFrom}
+use Rattle.writing.specs.Parts.{listBytes}
+use Rattle.writing.proofs.Putting.{equals}
+use Rattle.writing.proofs.lists.put_list.Statement.{statement}
+use Rattle.writing.proofs.lists.put_list.Tie as tie
+
+bytes-of-requires : tie.Need-bytes-of-requires
+bytes-of-requires c κs = tt
+
+put-settings-requires : tie.Need-put-settings-requires
+put-settings-requires c κs =
+    let b = c .before .before in
+    ap (soundFrom 11 0) (c .before .bytes-of .ensures) ∙ b .before .before .before .pre (b .if1 .taken)
+
+same-length : tie.Need-same-length
+same-length c = c .before .before .put-settings .ensures .same
+
+returns : tie.Need-returns
+unfolding listBytes
+returns c =
+    let b = c .before .before .before .before in
+    let kind = b .before .before .before .before .args .kind in
+    let bytes = ap (λ t. joined (parametersFrom 11 0 t)) (b .bytes-of .ensures) in
+    equals (bytes ∙ sym (pick-true _ _ (eq-eqb kind 11 (b .before .if1 .taken)))) (c .before .before .put-settings .ensures)
+
+put-part-requires : tie.Need-put-part-requires
+put-part-requires c κs = tt
+
+same-length-2 : tie.Need-same-length-2
+same-length-2 c = c .before .before .put-part .ensures .same
+
+returns-2 : tie.Need-returns-2
+unfolding listBytes
+returns-2 c =
+    let b = c .before .before .before .before in
+    let kind = b .before .before .before .args .kind in
+    equals (sym (pick-false _ _ (ne-eqb kind 11 (b .if1 .left)))) (c .before .before .put-part .ensures)
+
+pub put-list-spec : {M : Type 1} → statement M
+put-list-spec =
+    tie.close
+    (tie.spec
+    bytes-of-requires
+    put-settings-requires
+    same-length
+    returns
+    put-part-requires
+    same-length-2
+    returns-2)

@@ -1,0 +1,47 @@
+-- Writing a message: its outcome, and what it leaves in the area.
+use Prim.Native.Nat.{ℕ}
+use mathlib.Core.Path.{_≡_}
+use mathlib.Core.List.{List, []}
+use lib.Dec.{ltb}
+use lib.ListN.{length}
+use Rattle.rules.specs.Choice.{pick}
+use Rattle.rules.specs.Numbers.{messageSize, messageArea, accepted, smallArea, wrongLength, wrongType, unsound}
+use Rattle.rules.specs.Calls.{areaAfter}
+use Rattle.rules.specs.Messages.Forms as forms
+use Rattle.rules.specs.Messages.Codec.{Outcome, refused, sound, message, definedKind, read, written}
+use Rattle.message.specs.declared.Message.{Message}
+use Rattle.message.specs.Found.{heldIn}
+use Rattle.writing.specs.declared.Written.{Written}
+use Rattle.writing.specs.Parts.{partsOf, sizeOf, inside}
+
+-- 1, 2 by the parts' own lengths, 3, 5 where a part lies outside the slice, else as the definition has it
+unfoldable pub writing : ℕ → List ℕ → Message → Outcome (List ℕ)
+writing area s m =
+    pick (ltb area messageArea) (refused smallArea)
+    (pick (ltb messageSize (sizeOf (partsOf m))) (refused wrongLength)
+    (pick (definedKind (partsOf m .kind))
+    (pick (inside (length s) (partsOf m)) (written area (heldIn s m)) (refused unsound))
+    (refused wrongType)))
+
+-- what was read, written again
+unfoldable pub again : ℕ → Outcome (forms.Message ℕ) → Outcome (List ℕ)
+again area (refused n) = refused n
+again area (sound x) = written area (message x)
+
+unfoldable pub copied : ℕ → List ℕ → Outcome (List ℕ)
+copied area s = again area (read s)
+
+unfoldable pub numberIn : Outcome (List ℕ) → ℕ
+numberIn (refused n) = n
+numberIn (sound bytes) = accepted
+
+unfoldable pub bytesIn : Outcome (List ℕ) → List ℕ
+bytesIn (refused n) = []
+bytesIn (sound bytes) = bytes
+
+-- the bytes stand in front, and behind them what stood there
+pub record Answers (o : Outcome (List ℕ)) (before : List ℕ) (r : Written) (after : List ℕ) : Type 0 where
+  pub number : r .number ≡ numberIn o
+  pub len : r .len ≡ length (bytesIn o)
+  pub area : after ≡ areaAfter (bytesIn o) before
+  pub same : length after ≡ length before

@@ -1,0 +1,125 @@
+// Whether every field fits its place, and the message would not be read as 5.
+ghost use mathlib.Core.Path.{_≡_};
+ghost use mathlib.Core.List.{[]};
+ghost use Rattle.rules.specs.Messages.Layout.{widthsOf, fits};
+ghost use Rattle.rules.specs.Messages.Forms.{formOf};
+ghost use Rattle.rules.specs.Messages.Codec.{fitsHeld};
+ghost use Rattle.message.specs.declared.Message.the-variants as variants;
+ghost use Rattle.message.specs.Found.{heldIn, partOf, startReadIn};
+ghost use Rattle.message.specs.Lists.{soundFrom};
+ghost use Rattle.writing.specs.Fits.{Fits, Clipped};
+use message::InitiateFields;
+use message::Message;
+use message::Part;
+use message::ReadDataFields;
+use message::StartReadFields;
+use message::WriteFields;
+
+fn fits_read_data(f: ReadDataFields) -> bool
+    ensures { λ r. ⌜ Fits (variants.ReadData f) r ⌝ }
+{
+    (f.code < 16) & (f.more < 2) & (f.code <= 13)
+}
+
+fn fits_write(f: WriteFields) -> bool
+    ensures { λ r. ⌜ Fits (variants.Write f) r ⌝ }
+{
+    (f.lock < 4)
+        & (f.newline < 2)
+        & (f.keeps_output < 2)
+        & (f.first < 2)
+        & (f.last < 2)
+        & (f.prefix < 4)
+        & (f.postfix < 4)
+        & (f.wants_completion < 2)
+        & (f.transparent < 2)
+        & (f.prefix <= 2)
+        & (f.postfix <= 2)
+}
+
+// Every flag of a Start Read; its words always fit.
+fn fits_flags(f: StartReadFields) -> bool
+    ensures { λ r. ⌜ r ≡ fits (widthsOf (formOf 2 .head)) (startReadIn [] f .numbers) ⌝ }
+{
+    (f.underflow < 4)
+        & (f.clears < 2)
+        & (f.formats < 2)
+        & (f.vertical < 2)
+        & (f.continues < 2)
+        & (f.raises < 4)
+        & (f.disables < 8)
+        & (f.silent < 2)
+        & (f.terminator_echo < 2)
+        & (f.timed < 2)
+        & (f.set_choice < 4)
+        & (f.escapes < 4)
+}
+
+// A part with the length of what there is of it.
+pub(crate) fn clipped(s: &[u8], p: Part) -> Part
+    ensures { λ r. ⌜ Clipped (now (s .entry)) p r ⌝ }
+{
+    let t = message::bytes_of(s, p);
+    Part {
+        start: p.start,
+        len: t.len() as u16,
+    }
+}
+
+fn fits_start_read(f: StartReadFields, s: &[u8]) -> bool
+    ensures { λ r. ⌜ r ≡ fitsHeld (heldIn (now (s .entry)) (variants.StartRead f)) ⌝ }
+{
+    let set = f.set;
+    let text = f.text;
+    let flags = fits_flags(f);
+    let bytes = message::bytes_of(s, set);
+    let size = bytes.len();
+    let mut g = f;
+    g.text = clipped(s, text);
+    let sound = message::start_read_test(g);
+    flags & (size <= 32) & sound
+}
+
+fn fits_list(kind: u8, p: Part, s: &[u8]) -> bool
+    ensures { λ r. ⌜ r ≡ soundFrom kind 0 (partOf (now (s .entry)) p) ⌝ }
+{
+    let t = message::bytes_of(s, p);
+    message::whole_list(kind, t, 0)
+}
+
+fn fits_initiate(f: InitiateFields, s: &[u8]) -> bool
+    ensures { λ r. ⌜ r ≡ fitsHeld (heldIn (now (s .entry)) (variants.Initiate f)) ⌝ }
+{
+    let revision = f.revision;
+    let parameters = f.parameters;
+    let bytes = message::bytes_of(s, revision);
+    let size = bytes.len();
+    let whole = fits_list(1, parameters, s);
+    (size == 8) & whole
+}
+
+pub(crate) fn fits_message(m: Message, s: &[u8]) -> bool
+    ensures { λ r. ⌜ r ≡ fitsHeld (heldIn (now (s .entry)) m) ⌝ }
+{
+    match m {
+        Message::Initiate(f) => fits_initiate(f, s),
+        Message::StartRead(f) => fits_start_read(f, s),
+        Message::ReadData(f) => fits_read_data(f),
+        Message::OutOfBand { discard, character } => discard < 2,
+        Message::Unread { condition } => condition < 2,
+        Message::ClearInput => true,
+        Message::Write(f) => fits_write(f),
+        Message::WriteCompletion {
+            lost,
+            horizontal,
+            vertical,
+        } => lost < 2,
+        Message::DiscardState { kept } => kept < 2,
+        Message::ReadCharacteristics { parameters } => fits_list(10, parameters, s),
+        Message::Characteristics { parameters } => fits_list(11, parameters, s),
+        Message::CheckInput => true,
+        Message::InputCount { count } => true,
+        Message::InputState { nonzero } => nonzero < 2,
+        Message::Other { kind: _, body: _ } => false,
+    }
+}
