@@ -10,6 +10,8 @@ use Rattle.rules.specs.Calls.{areaAfter}
 use Rattle.rules.specs.Messages.Forms as forms
 use Rattle.rules.specs.Messages.Codec.{Outcome, refused, sound, message, definedKind, read, written}
 use Rattle.message.specs.declared.Message.{Message}
+use Rattle.message.specs.declared.Found.{Found}
+use Rattle.message.specs.declared.Found.the-variants as found
 use Rattle.message.specs.Found.{heldIn}
 use Rattle.writing.specs.declared.Written.{Written}
 use Rattle.writing.specs.Parts.{partsOf, sizeOf, inside}
@@ -27,6 +29,11 @@ writing area s m =
 unfoldable pub again : ℕ → Outcome (forms.Message ℕ) → Outcome (List ℕ)
 again area (refused n) = refused n
 again area (sound x) = written area (message x)
+
+-- the number of what was found
+abbrev pub foundNumber : Found → ℕ
+foundNumber (found.Message m) = accepted
+foundNumber (found.Refused n) = n
 
 unfoldable pub copied : ℕ → List ℕ → Outcome (List ℕ)
 copied area s = again area (read s)

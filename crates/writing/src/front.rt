@@ -4,7 +4,7 @@ ghost use lib.ListN.{length};
 ghost use Rattle.rules.specs.Messages.Codec.{definedKind, written};
 ghost use Rattle.message.specs.Found.{heldIn};
 ghost use Rattle.writing.specs.Parts.{sizeIn};
-ghost use Rattle.writing.specs.Writing.{Answers, writing, copied};
+ghost use Rattle.writing.specs.Writing.{Answers, writing, copied, foundNumber};
 use crate::Written;
 use crate::fits::clipped;
 use crate::fits::fits_message;
@@ -87,13 +87,24 @@ pub fn write(m: Message, s: &[u8], area: &mut [u8]) -> Written
     write_held(m, s, area)
 }
 
+// The number of what was found; of a message it is 0.
+fn number_of(f: Found) -> u8
+    ensures { λ r. ⌜ r ≡ foundNumber f ⌝ }
+{
+    match f {
+        Found::Message(_) => 0,
+        Found::Refused(number) => number,
+    }
+}
+
 // Reads a message and writes it again.
 pub fn copy(s: &[u8], area: &mut [u8]) -> Written
     ensures { λ r. ⌜ Answers (copied (length (now (area .entry))) (now (s .entry))) (now (area .entry)) r (now (area .exit)) ⌝ }
 {
     let f = message::read(s);
-    match f {
-        Found::Message(m) => write_held(m, s, area),
-        Found::Refused(number) => Written { number, len: 0 },
-    }
+    let Found::Message(m) = f else {
+        let number = number_of(f);
+        return Written { number, len: 0 };
+    };
+    write_held(m, s, area)
 }

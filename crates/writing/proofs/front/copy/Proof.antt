@@ -1,5 +1,7 @@
 use mathlib.Core.Path.{sym, ap, _∙_}
+use Rattle.rules.specs.Messages.Codec.{refused}
 use Rattle.message.specs.Found.{foundIn}
+use Rattle.writing.specs.Writing.{foundNumber}
 use Rattle.writing.proofs.Writes.{refusal, answers-as, copy-found, copy-refused}
 use borrow.Author.Needs.{needs}
 use Rattle.writing.proofs.front.copy.Statement.{statement}
@@ -11,26 +13,31 @@ read-requires c κs = tt
 enum-known-f : tie.Need-enum-known-f
 enum-known-f c = search needs
 
-write-held-requires : tie.Need-write-held-requires
-write-held-requires c κs = tt
+enum-told : tie.Need-enum-told
+enum-told c = search needs
 
-enum-known-f-2 : tie.Need-enum-known-f-2
-enum-known-f-2 c = search needs
-
-same-length : tie.Need-same-length
-same-length c = c .before .before .write-held .ensures .same
+number-of-requires : tie.Need-number-of-requires
+number-of-requires c κs = tt
 
 returns : tie.Need-returns
 unfolding foundIn
 returns c =
-    let s = c .before .before .before .before .before .before .before .before .before .before .args .s .now in
-    answers-as (copy-found _ s (ap (foundIn s) (sym (c .before .before .before .before .before .f .given .1)) ∙ c .before .before .before .before .before .before .before .read .ensures)) (c .before .before .write-held .ensures)
+    let s = c .before .before .before .before .before .before .args .s .now in
+    let e = c .before .enum-told .given .1 in
+    refusal
+    (copy-refused _ s (ap (foundIn s) (sym e) ∙ c .before .before .before .read .ensures) ∙ ap refused (sym (c .number-of .ensures ∙ ap foundNumber e)))
+
+write-held-requires : tie.Need-write-held-requires
+write-held-requires c κs = tt
+
+same-length : tie.Need-same-length
+same-length c = c .before .before .write-held .ensures .same
 
 returns-2 : tie.Need-returns-2
 unfolding foundIn
 returns-2 c =
-    let s = c .before .before .before .before .before .before .args .s .now in
-    refusal (copy-refused _ s (ap (foundIn s) (sym (c .before .f2 .given .1)) ∙ c .before .before .before .read .ensures))
+    let s = c .before .before .before .before .before .before .before .before .before .before .args .s .now in
+    answers-as (copy-found _ s (ap (foundIn s) (sym (c .before .before .before .before .before .f .given .1)) ∙ c .before .before .before .before .before .before .before .read .ensures)) (c .before .before .write-held .ensures)
 
 pub copy-spec : {M : Type 1} → statement M
 copy-spec =
@@ -38,8 +45,9 @@ copy-spec =
     (tie.spec
     read-requires
     enum-known-f
-    write-held-requires
-    enum-known-f-2
-    same-length
+    enum-told
+    number-of-requires
     returns
+    write-held-requires
+    same-length
     returns-2)
