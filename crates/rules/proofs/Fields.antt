@@ -65,12 +65,6 @@ fields-fit (w ∷ ws) n = both (lt-ltb (n % 2 ^ w) (2 ^ w) (mod-lt n (pow-pos w)
 pub fieldsIn-numberOf : (ws vs : List ℕ) → fits ws vs ≡ true → fieldsIn ws (numberOf ws vs) ≡ vs
 fieldsIn-numberOf ws vs e = rw append-nil at (fields-back [] ws vs e)
 
-pub numberOf-fieldsIn : (ws : List ℕ) (n : ℕ) → n < 2 ^ bitsOf ws → numberOf ws (fieldsIn ws n) ≡ n
-numberOf-fieldsIn ws n h = rw append-nil at (number-back [] ws n h)
-
-pub numberOf-under : (ws vs : List ℕ) → fits ws vs ≡ true → numberOf ws vs < 2 ^ bitsOf ws
-numberOf-under ws vs e = rw append-nil at (number-under [] ws vs e)
-
 -- Widths in two parts.
 pub fits-append : (ws us vs xs : List ℕ) → fits ws vs ≡ true → fits us xs ≡ true → fits (ws ++ us) (vs ++ xs) ≡ true
 unfolding fits

@@ -2,13 +2,13 @@
 pub mod Tests
 pub mod Fields
 pub mod ParameterLists
-pub mod FormTable
-pub mod Tails
+mod FormTable
+mod Tails
 pub mod Outcomes
 pub mod RoundTrip
 pub mod Bench
 pub mod Sizes
 pub mod Bounds
-pub mod Erasure
+mod Erasure
 pub mod TwoRuns
 pub mod Areas

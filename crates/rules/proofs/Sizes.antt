@@ -35,3 +35,8 @@ input-word = omega arith
 pub waiting-word : typeAheadSize + tokenSize < 65536
 unfolding typeAheadSize tokenSize
 waiting-word = omega arith
+
+-- and so does a message's length in the area
+pub area-word : messageArea < 65536
+unfolding messageArea
+area-word = omega arith

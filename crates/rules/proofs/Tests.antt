@@ -1,11 +1,10 @@
 -- Laws of the tests and of the choice by a test: from a test's value to what it says, and back.
 use mathlib.Core.Path.{_≡_, refl, sym, ap, _∙_}
-use Prim.Native.Nat.{ℕ, zero, suc, _≤_, _<_}
-use mathlib.Core.Bool.{Bool, true, false, not, _&&_, _||_, false≢true, and-assoc, or-assoc, or-true}
+use Prim.Native.Nat.{ℕ, zero, suc, _≤_}
+use mathlib.Core.Bool.{Bool, true, false, not, _&&_, _||_, false≢true, and-assoc}
 use mathlib.Core.List.{List, [], _∷_, _++_, map, List·Memᴰ, List·Memᴰ·head, List·Memᴰ·tail}
 use lib.Dec.{leb, eqb}
-use lib.ListN.{length, getD, set, take, drop, take-append-drop}
-use native.Mathlib.Omega.{arith}
+use lib.ListN.{getD, set, take, drop, take-append-drop}
 use borrow.Author.Tests.{leb-true, le-leb, eqb-true, eq-eqb}
 use Rattle.rules.specs.Choice.{pick, within, isEmpty, all, any, joined, same}
 
@@ -161,32 +160,6 @@ module _ {A : Type 0} where
     all-set [] k v p e = refl
     all-set (x ∷ xs) zero v p e = both p (all-cons x xs e .1)
     all-set (x ∷ xs) (suc k) v p e = let h = all-cons x xs e in both (h .0) (all-set xs k v p (h .1))
-
-    pub any-here : (x : A) (xs : List A) → test x ≡ true → any test (x ∷ xs) ≡ true
-    unfolding any
-    any-here x xs p = rw p
-
-    pub any-later : (x : A) (xs : List A) → any test xs ≡ true → any test (x ∷ xs) ≡ true
-    unfolding any
-    any-later x xs p = rw p (or-true (test x))
-
-    pub any-append : (xs ys : List A) → any test (xs ++ ys) ≡ any test xs || any test ys
-    unfolding any
-    any-append [] ys = refl
-    any-append (x ∷ xs) ys = ap (λ b. test x || b) (any-append xs ys) ∙ sym (or-assoc (test x) (any test xs) (any test ys))
-
-    -- a place where the test passes
-    abbrev Passed : List A → A → Type 0
-    Passed xs d = (k : ℕ) × (k < length xs) × (test (getD xs k d) ≡ true)
-
-    pub any-at : (xs : List A) (d : A) → any test xs ≡ true → Passed xs d
-    unfolding any
-    any-at [] d e = absurd (false≢true e)
-    any-at (x ∷ xs) d e = by-head (test x) refl (any-at xs d) e
-      where
-        by-head : (t : Bool) → test x ≡ t → (any test xs ≡ true → Passed xs d) → t || any test xs ≡ true → Passed (x ∷ xs) d
-        by-head true p later e = (zero, omega arith, p)
-        by-head false p later e = let r = later e in (suc (r .0), omega arith, r .2)
 
     -- none passes: each fails
     pub any-none : (xs : List A) → not (any test xs) ≡ true → all (λ x. not (test x)) xs ≡ true

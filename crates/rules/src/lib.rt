@@ -11,3 +11,5 @@ pub const MESSAGE: usize = 256;
 pub const TERMINAL_AREA: usize = 4096;
 
 pub const MESSAGE_AREA: usize = 256;
+
+pub const TOP_DROPPED: u16 = 65535;

@@ -1,6 +1,6 @@
 -- Laws of areas, screens and echoes. Crates above cite the public ones.
 mod Tops
 mod Cases
-pub mod Echoes
-pub mod Written
+mod Echoes
+mod Written
 pub mod Marks

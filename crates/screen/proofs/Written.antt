@@ -4,14 +4,13 @@ use Prim.Native.Nat.{ℕ, _+_, _<_, _≤_}
 use mathlib.Core.List.{List, [], _∷_, _++_}
 use lib.ListN.{length, set, length-set}
 use borrow.Author.Tests.{lt-ltb, le-ltb}
-use Rattle.rules.specs.Calls.{areaAfter}
 use Rattle.rules.specs.Screen.{shown, shownAll, columnAfterAll}
 use Rattle.rules.proofs.Tests.{pick-true, pick-false}
 use Rattle.rules.specs.Area.{put, puts, spot}
 use Rattle.screen.specs.View.{Writes, view}
 use Rattle.screen.specs.declared.Screen.{Screen}
 use Rattle.screen.specs.declared.Shown.{Shown}
-use Rattle.rules.proofs.Areas.{puts-append, puts-front}
+use Rattle.rules.proofs.Areas.{puts-append}
 use Rattle.screen.proofs.Echoes.{shownAll-append, shownAll-column}
 
 module _ {before : List ℕ} {at : ℕ} {s : Screen} where
@@ -54,12 +53,3 @@ module _ {before : List ℕ} {at : ℕ} {s : Screen} where
   pub column-behind : {bs after : List ℕ} {r : Shown} → Writes bs before at s r after →
       r .screen .column ≡ columnAfterAll (s .column) bs
   column-behind {bs} w = ap (λ v. v .column) (w .screen) ∙ shownAll-column bs (view s)
-
--- what was written from the front on, where there was room
-module _ {bytes before after : List ℕ} {s : Screen} {r : Shown} (w : Writes bytes before 0 s r after)
-    (room : length bytes ≤ length before) where
-  pub front-area : after ≡ areaAfter bytes before
-  front-area = ap (λ p. p .area) (w .area ∙ puts-front bytes before room)
-
-  pub front-count : r .at ≡ length bytes
-  front-count = ap (λ p. p .at) (w .area ∙ puts-front bytes before room)

@@ -57,7 +57,7 @@ module _ (s : State ℕ) where
       let h = pick-first _ refused-sound e in
       (h .1, subst (λ x. isCarriedBy s x ≡ true) (sound-same (h .1)) (h .0))
 
-  considered-sound : (bytes : List ℕ) (m : Message ℕ) → considered s bytes ≡ sound m → (read bytes ≡ sound m) × (isCarriedBy s m ≡ true)
+  pub considered-sound : (bytes : List ℕ) (m : Message ℕ) → considered s bytes ≡ sound m → (read bytes ≡ sound m) × (isCarriedBy s m ≡ true)
   unfolding considered
   considered-sound bytes m e =
       let length = pick-first _ refused-sound e in

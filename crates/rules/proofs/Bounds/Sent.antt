@@ -75,7 +75,7 @@ pub map-same : (ns : List ℕ) → map (λ n. n) ns ≡ ns
 map-same [] = refl
 map-same (n ∷ ns) = ap (λ r. n ∷ r) (map-same ns)
 
-mapText-same : (m : Message ℕ) → mapText (λ n. n) m ≡ m
+pub mapText-same : (m : Message ℕ) → mapText (λ n. n) m ≡ m
 unfolding mapText
 mapText-same m = λ i. record { kind = m .kind; numbers = m .numbers; set = m .set; parameters = m .parameters; text = map-same (m .text) i }
 

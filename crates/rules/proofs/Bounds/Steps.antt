@@ -58,12 +58,14 @@ unfinished-room true p e =
     let finished = pick-case (λ (q : Place). isFinished q ≡ true) _ {a = invalid} {b = p} (λ y. refl) (λ n. not-false (isFinished p) n) in
     absurd (true≢false (sym finished ∙ e))
 
-token-room : (token : List ℕ) → isWhole (map (codes .code) token) ≡ false → length token < tokenSize
+pub whole-room : (token : List ℕ) → isWhole token ≡ false → length token < tokenSize
 unfolding isWhole standing
+whole-room token e = leb-false tokenSize (length token) (unfinished-room (leb tokenSize (length token)) (placeFrom empty token) e)
+
+token-room : (token : List ℕ) → isWhole (map (codes .code) token) ≡ false → length token < tokenSize
 token-room token e =
-    let ns = map (codes .code) token in
     let n = length-map token (codes .code) in
-    let l = leb-false tokenSize (length ns) (unfinished-room (leb tokenSize (length ns)) (placeFrom empty ns) e) in
+    let l = whole-room (map (codes .code) token) e in
     omega arith
 
 tokenCode-most : (token : List ℕ) → tokenCode codes token ≤ 13

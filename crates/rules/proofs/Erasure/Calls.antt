@@ -1,19 +1,18 @@
 -- Erasure of a call, and of a list of calls run from a fresh line.
 use mathlib.Core.Path.{_≡_, refl}
 use Prim.Native.Nat.{ℕ}
-use mathlib.Core.List.{List, [], _∷_, map, map-map}
+use mathlib.Core.List.{List, [], _∷_, map}
 use mathlib.Core.Option.{Option, none, some, Option·map}
 use Rattle.rules.specs.Numbers.{accepted}
 use Rattle.rules.specs.Messages.Forms.{Message}
 use Rattle.rules.specs.Messages.Codec.{Outcome, refused, sound, read}
 use Rattle.rules.specs.State.{Characters, Reading, State, fresh}
-use Rattle.rules.specs.Turns.{Turn, Part, still}
+use Rattle.rules.specs.Turns.{Part, still}
 use Rattle.rules.specs.Calls.{Event, key, step, tick, message, Call, Answer}
 use Rattle.rules.specs.Calls.{isPending, isTimely, carriesQuestions, isCarriedBy, judged, considered}
-use Rattle.rules.specs.Calls.{refuses, does, isRoomy, hears, answers, answer, mapText, messageBytes, runFrom, run}
+use Rattle.rules.specs.Calls.{refuses, does, isRoomy, hears, answers, answer, runFrom, run}
 use Rattle.rules.proofs.Tests.{pick-both}
-use Rattle.rules.proofs.Erasure.Maps.{Maps, mapReading, mapState, mapTurn, mapEvent, mapCall, mapAnswer}
-use Rattle.rules.proofs.Erasure.Lists.{codes-same}
+use Rattle.rules.proofs.Erasure.Maps.{Maps, mapReading, mapState, mapEvent, mapCall, mapAnswer}
 use Rattle.rules.proofs.Erasure.Parts.{Erases}
 use Rattle.rules.proofs.Erasure.Arrival.{erase-arrives}
 use Rattle.rules.proofs.Erasure.Steps.{erase-steps, erase-ticks}
@@ -64,15 +63,6 @@ module _ {C D : Type 0} {f : C → D} {cs : Characters C} {ds : Characters D} (m
       pick-both (λ (F : State C → Answer C) (G : State D → Answer D). mapAnswer f (F s) ≡ G (mapState f s)) _
       (erase-answers (c .event) s)
       (erase-refuses _ s)
-
-  erase-text : (n : Message C) → mapText (ds .code) (mapText f n) ≡ mapText (cs .code) n
-  unfolding mapText
-  erase-text n = rw (codes-same m)
-
-  -- the bytes in the message area are the same
-  pub erase-messageBytes : (t : Turn C) → messageBytes ds (mapTurn f t) ≡ messageBytes cs t
-  unfolding messageBytes
-  erase-messageBytes t = simp (map-map, erase-text)
 
   pub erase-runFrom : (s : State C) (calls : List (Call C)) →
       map (mapAnswer f) (runFrom cs s calls) ≡ runFrom ds (mapState f s) (map (mapCall f) calls)
