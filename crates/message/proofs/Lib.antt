@@ -1,9 +1,9 @@
 -- Laws that the proofs of the functions apply; Shapes also has those that a caller of `parameter_at` cites.
 pub mod Numbers
 pub mod Pieces
-pub mod Heads
-pub mod Reading
+mod Heads
+mod Reading
 pub mod Walk
 pub mod Shapes
-pub mod SetAndText
-pub mod Types
+mod SetAndText
+mod Types

@@ -7,15 +7,23 @@ use mathlib.Core.List.{List, [], _∷_, map}
 use lib.Dec.{eqb, leb}
 use lib.ListN.{length, drop-of-length-le, length-drop}
 use borrow.Author.Tests.{le-leb, lt-leb, leb-true, leb-false}
-use Rattle.rules.specs.Choice.{pick, isEmpty}
+use Rattle.rules.specs.Choice.{pick, isEmpty, all}
 use Rattle.rules.specs.Messages.Layout.{byteAt, sizeOf}
 use Rattle.rules.specs.Messages.Parameters.{Shape, cleaned, cut}
 use Rattle.rules.specs.Messages.Forms.{Message, Tail, nothing, text, list, formOf, startRead, readData, write}
-use Rattle.rules.specs.Messages.Codec.{Held, message, sound, refused, definedFields, soundAs, fieldsAs, wholeTail, behindHead, setIn, parametersIn, textIn}
-use Rattle.rules.proofs.Tests.{both, pick-true, pick-false}
+use Rattle.rules.specs.Messages.Codec.{Outcome, Held, message, sound, refused, definedFields, soundAs, fieldsAs, wholeTail, behindHead, setIn, parametersIn, textIn}
+use Rattle.rules.proofs.Tests.{both, thirds, pick-true, pick-false}
 use Rattle.message.specs.declared.Part.{Part}
-use Rattle.message.specs.Found.{RestFrom, partOf, parametersOf, bare, withText, withList, asHeld, readAs}
+use Rattle.message.specs.declared.Message as declared
+use Rattle.message.specs.declared.Found.the-variants as found
+use Rattle.message.specs.Found.{RestFrom, FieldsIn, Finds, partOf, parametersOf, bare, withText, withList, heldIn, placesOf, lies}
+use Rattle.message.specs.Found.{asHeld, foundIn, foundInside, readAs}
 use Rattle.message.proofs.Heads.{Head}
+
+-- A refusal has no part.
+pub finds-refusal : {s : List ℕ} {o : Outcome Held} {n : ℕ} → refused n ≡ o → Finds s o (found.Refused n)
+unfolding foundIn foundInside
+finds-refusal e = record { fields = e; inside = refl }
 
 no-first : (a b c : Bool) → a ≡ false → a && b && c ≡ false
 no-first a b c e = rw e
@@ -58,29 +66,41 @@ module _ (kind : ℕ) (s : List ℕ) where
   abbrev whole : Bool
   whole = wholeTail (formOf kind .tail) rest
 
-  refused-by : soundAs (formOf kind) s ≡ false → refused 5 ≡ readAs kind s
+  abbrev Refuses : Type 0
+  Refuses = Finds s (readAs kind s) (found.Refused 5)
+
+  refused-by : soundAs (formOf kind) s ≡ false → Refuses
   unfolding readAs asHeld
-  refused-by e = ap asHeld (sym (pick-false _ _ e))
+  refused-by e = finds-refusal (ap asHeld (sym (pick-false _ _ e)))
 
   -- cut short in the head
-  pub head-cut : length s < head → refused 5 ≡ readAs kind s
+  pub head-cut : length s < head → Refuses
   unfolding soundAs
   head-cut h = refused-by (no-first (leb head (length s)) whole (definedFields fields) (lt-leb head (length s) h))
 
   -- cut short behind it, or with bytes left over
-  pub tail-unsound : whole ≡ false → refused 5 ≡ readAs kind s
+  pub tail-unsound : whole ≡ false → Refuses
   unfolding soundAs
   tail-unsound e = refused-by (no-second (leb head (length s)) whole (definedFields fields) e)
 
   -- a value that is not defined
-  pub field-undefined : definedFields fields ≡ false → refused 5 ≡ readAs kind s
+  pub field-undefined : definedFields fields ≡ false → Refuses
   unfolding soundAs
   field-undefined e = refused-by (no-third (leb head (length s)) whole (definedFields fields) e)
 
-  pub read-sound : {h : Held} → h ≡ message fields → head ≤ length s → whole ≡ true → definedFields fields ≡ true →
-      sound h ≡ readAs kind s
-  unfolding readAs asHeld soundAs
-  read-sound e n w d = ap sound e ∙ ap asHeld (sym (pick-true _ _ (both (both (le-leb head (length s) n) w) d)))
+  pub read-sound : {m : declared.Message} → FieldsIn kind s m → head ≤ length s → whole ≡ true → definedFields fields ≡ true →
+      Finds s (readAs kind s) (found.Message m)
+  unfolding readAs asHeld soundAs foundIn foundInside
+  read-sound e n w d =
+      let passed = both (both (le-leb head (length s) n) w) d in
+      record { fields = ap sound (e .fields) ∙ ap asHeld (sym (pick-true _ _ passed)); inside = e .inside passed }
+
+  -- what stands behind the head of a message that is not refused
+  pub rest-lies : {p : Part} → RestFrom head s p → soundAs (formOf kind) s ≡ true → lies (length s) p ≡ true
+  unfolding soundAs
+  rest-lies {p} e passed =
+      le-leb (p .start + p .len) (length s)
+      (e .inside (leb-true head (length s) (thirds (leb head (length s)) whole (definedFields fields) passed .0)))
 
   -- a test of the fields, made of what the code holds
   pub defined-as : {m : Message ℕ} → message m ≡ message fields → {t : Bool} → definedFields m ≡ t → definedFields fields ≡ t
@@ -121,11 +141,11 @@ module _ (kind : ℕ) (s : List ℕ) where
     unfolding wholeTail
     nothing-behind = ap (λ t. wholeTail t rest) is
 
-    pub fixed-refused : (length s ≡ head → ⊥) → refused 5 ≡ readAs kind s
+    pub fixed-refused : (length s ≡ head → ⊥) → Refuses
     unfolding behindHead
     fixed-refused e = by-length (leb head (length s)) refl
       where
-        by-length : (b : Bool) → leb head (length s) ≡ b → refused 5 ≡ readAs kind s
+        by-length : (b : Bool) → leb head (length s) ≡ b → Refuses
         by-length false h = head-cut (leb-false head (length s) h)
         by-length true h =
             let l = leb-true head (length s) h in
@@ -134,8 +154,10 @@ module _ (kind : ℕ) (s : List ℕ) where
             tail-unsound (nothing-behind ∙ some-not-empty rest (omega arith))
 
     pub fixed-sound : byteAt s 0 ≡ kind → isFree kind ≡ true → length s ≡ head →
-        {vs : List ℕ} → Head (formOf kind .head) 1 s vs → sound (bare kind vs) ≡ readAs kind s
-    unfolding behindHead isEmpty setIn parametersIn textIn
-    fixed-sound k e h {vs} v =
+        {vs : List ℕ} → Head (formOf kind .head) 1 s vs → {m : declared.Message} → heldIn s m ≡ bare kind vs → placesOf m ≡ [] →
+        Finds s (readAs kind s) (found.Message m)
+    unfolding behindHead isEmpty setIn parametersIn textIn all
+    fixed-sound k e h {vs} v held none =
         let empty = drop-of-length-le s {i = head} (omega arith) in
-        read-sound (ap message (fields-are k v nothing is)) (omega arith) (nothing-behind ∙ ap isEmpty empty) (free-defined k e)
+        read-sound (record { fields = held ∙ ap message (fields-are k v nothing is); inside = λ _. ap (all (lies (length s))) none })
+        (omega arith) (nothing-behind ∙ ap isEmpty empty) (free-defined k e)

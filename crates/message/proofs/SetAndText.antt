@@ -1,17 +1,21 @@
 -- Start Read: its fields, made of what the code reads, and its tail.
 use mathlib.Core.Path.{_≡_, refl, sym, ap, ap₂, _∙_}
 use Prim.Native.Nat.{ℕ, _+_, _-_}
-use mathlib.Core.Bool.{_&&_}
+use native.Mathlib.Omega.{arith}
+use mathlib.Core.Bool.{true, _&&_}
 use mathlib.Core.List.{List, [], _∷_, _++_}
 use lib.Dec.{leb, ltb}
 use lib.ListN.{length, take, drop, length-drop}
 use lib.Seq.{drop-drop}
+use borrow.Author.Tests.{le-leb, ltb-true}
+use Rattle.rules.specs.Choice.{all}
 use Rattle.rules.specs.Messages.Layout.{word, byteAt, sizeOf, numberAt}
 use Rattle.rules.specs.Messages.Forms.{setAndText, forms, formOf}
-use Rattle.rules.specs.Messages.Codec.{behindHead, wholeTail, setIn, parametersIn, textIn}
+use Rattle.rules.specs.Messages.Codec.{message, behindHead, wholeTail, definedFields, soundAs, fieldsAs, setIn, parametersIn, textIn}
+use Rattle.rules.proofs.Tests.{both, halves, thirds}
 use Rattle.message.specs.declared.Part.{Part}
 use Rattle.message.specs.declared.StartReadFields.{StartReadFields}
-use Rattle.message.specs.Found.{RestFrom, FlagsAre, StartReadIs, partOf, flagWidths, startReadIn}
+use Rattle.message.specs.Found.{RestFrom, FlagsAre, StartReadIs, partOf, flagWidths, startReadIn, heldIn, placesOf, lies}
 use Rattle.message.proofs.Numbers.{byte-behind}
 use Rattle.message.proofs.Heads.{Head, flags-first}
 use Rattle.message.proofs.Reading.{fields-are}
@@ -62,26 +66,39 @@ module _ (s : List ℕ) {count : ℕ} (counted : count ≡ byteAt s 16) where
     unfolding textIn
     text-behind = behind .same ∙ sym (drop-drop count 17 s) ∙ ap₂ drop (sym count-behind) (sym (drop-drop 1 16 s))
 
+    both-lie : soundAs (formOf 2) s ≡ true → all (lies (length s)) (record { start = 17; len = count } ∷ text ∷ []) ≡ true
+    unfolding soundAs formOf forms sizeOf all
+    both-lie e =
+        let tests = thirds (leb 16 (length s)) (wholeTail (formOf 2 .tail) (behindHead (formOf 2) s)) (definedFields (fieldsAs (formOf 2) s)) e in
+        let counts = halves (ltb count (length s - 16)) (leb count 32) (sym whole-set ∙ tests .1) in
+        let h = ltb-true count (length s - 16) (counts .0) in
+        both (le-leb (17 + count) (length s) (omega arith))
+        (both (le-leb (text .start + text .len) (length s) (behind .inside (omega arith))) refl)
+
     pub start-read-is : byteAt s 0 ≡ 2 → {f : StartReadFields} → FlagsAre s (record { start = 17; len = count }) text f →
         {max end time prompt display low : ℕ} →
         Head (word ∷ word ∷ word ∷ word ∷ word ∷ word ∷ []) 4 s (max ∷ end ∷ time ∷ prompt ∷ display ∷ low ∷ []) →
         StartReadIs s (withNumbers max end time prompt display low f)
-    unfolding startReadIn partOf formOf forms sizeOf behindHead setIn parametersIn textIn
+    unfolding heldIn placesOf startReadIn partOf formOf forms sizeOf behindHead setIn parametersIn textIn
     start-read-is k {f} are {max} {end} {time} {prompt} {display} {low} words =
         let flags = flags-first 3 flagWidths (numberAt 3 1 s) refl words in
         let set = ap (partOf s) (are .set-kept) ∙ set-behind in
         let text = ap (partOf s) (are .text-kept) ∙ text-behind in
         let size = length-drop (17 + count) s in
         record {
-          fields =
-              (λ i. record {
-                kind = 2;
-                numbers = are .flags i ++ max ∷ end ∷ time ∷ prompt ∷ display ∷ low ∷ [];
-                set = set i;
-                parameters = [];
-                text = text i;
-              }) ∙
-              fields-are 2 s k flags setAndText refl;
+          read = record {
+            fields =
+                ap message
+                ((λ i. record {
+                  kind = 2;
+                  numbers = are .flags i ++ max ∷ end ∷ time ∷ prompt ∷ display ∷ low ∷ [];
+                  set = set i;
+                  parameters = [];
+                  text = text i;
+                }) ∙
+                fields-are 2 s k flags setAndText refl);
+            inside = λ e. ap₂ (λ p q. all (lies (length s)) (p ∷ q ∷ [])) (are .set-kept) (are .text-kept) ∙ both-lie e;
+          };
           long =
               ap (λ p. length (partOf s p)) (are .text-kept) ∙ ap length (behind .same) ∙ size ∙ sym (behind .long) ∙
               ap (λ (p : Part). p .len) (sym (are .text-kept));

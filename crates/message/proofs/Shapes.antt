@@ -3,11 +3,11 @@ use mathlib.Core.Path.{_≡_, refl, sym, ap, ap₂, _∙_, subst}
 use Prim.Native.Nat.{ℕ, zero, _+_, _*_, _%_, _<_, _≤_}
 use native.Mathlib.Omega.{arith}
 use mathlib.Core.Bool.{Bool, true, false, _&&_}
-use mathlib.Core.List.{List, [], _∷_, map}
+use mathlib.Core.List.{List, [], _∷_, map, zipWith}
 use lib.Dec.{ltb, eqb}
 use lib.ListN.{length, getD, take, drop}
 use lib.Seq.{getD-take, getD-drop}
-use borrow.Author.Tests.{eq-eqb, ne-eqb, eqb-true, ltb-true}
+use borrow.Author.Tests.{eq-eqb, ne-eqb, eqb-true, ltb-true, lt-ltb, le-ltb}
 use Rattle.rules.specs.Choice.{pick, within, all}
 use Rattle.rules.specs.Messages.Layout.{byteAt, numberAt}
 use Rattle.rules.specs.Messages.Parameters.{Shape, initiation, question, setting, selector, inputCountState, definedSelector, definedValue}
@@ -17,8 +17,9 @@ use Rattle.rules.proofs.ParameterLists.{Cleanable, positive, initiation-cleanab
 use Rattle.message.specs.declared.lists.Limits.{Limits}
 use Rattle.message.specs.declared.Part.{Part}
 use Rattle.message.specs.Found.{partOf, parametersOf}
-use Rattle.message.specs.Lists.{LimitsAre, ParameterIs, shapeOf, parameterAt, soundFrom, parametersFrom, usedAt}
+use Rattle.message.specs.Lists.{LimitsAre, ParameterIs, shapeOf, parameterAt, soundFrom, parametersFrom, usedAt, nextFrom}
 use Rattle.message.proofs.Numbers.{byte-behind, number-two}
+use Rattle.message.proofs.Pieces.{none-behind}
 use Rattle.message.proofs.Walk.{limits-here, size-least, used-here, selected-here, cut-here, cut-end}
 
 -- The limits, as the code has them.
@@ -152,7 +153,33 @@ module _ (kind at : ℕ) (s : List ℕ) where
   unfolding parametersFrom
   parameters-end h = ap (map (cleaned (shapeOf kind))) (cut-end (shapeOf kind) at s h)
 
+  -- Where the next one begins.
+  pub next-inside : at < length s → nextFrom kind at s ≡ at + sizeOf (shapeOf kind) rest
+  unfolding nextFrom
+  next-inside h = pick-true _ _ (lt-ltb at (length s) h)
+
+  next-past : length s ≤ at → nextFrom kind at s ≡ at
+  unfolding nextFrom
+  next-past h = pick-false _ _ (le-ltb at (length s) h)
+
+  used-past : length s ≤ at → [] ≡ usedAt kind at s
+  unfolding parameterAt cleaned zipWith
+  used-past h = sym (ap (cleaned (shapeOf kind)) (none-behind s at (sizeOf (shapeOf kind) rest) h))
+
   -- What the code finds at a place.
+  pub nothing-is : length s ≤ at → ParameterIs kind at s (record { selector = 0; first = 0; second = 0; third = 0; next = at })
+  nothing-is h =
+      let none = used-past h in
+      record {
+        selected = ap selector none;
+        one = ap (λ u. byteAt u 2) none;
+        two = ap (λ u. byteAt u 3) none;
+        three = ap (λ u. byteAt u 4) none;
+        behind = sym (next-past h);
+        further = λ l. omega arith;
+        list = λ l. absurd (omega arith);
+      }
+
   pub parameter-is : at < length s → {l : Limits} → LimitsAre (limitsOf (shapeOf kind) rest) l →
       {low high : ℕ} → low ≡ byteAt s at → low < 256 → high ≡ byteAt s (at + 1) → high < 256 →
       {first second third : ℕ} → first ≡ byteAt s (at + 2) % l .1 → second ≡ byteAt s (at + 3) % l .2 →
@@ -168,9 +195,9 @@ module _ (kind at : ℕ) (s : List ℕ) where
         one = first ∙ ap (λ k. byteAt s (at + 2) % k) (limits .one) ∙ sym (used-here shape at s 0);
         two = second ∙ ap (λ k. byteAt s (at + 3) % k) (limits .two) ∙ sym (used-here shape at s 1);
         three = third ∙ ap (λ k. byteAt s (at + 4) % k) (limits .three) ∙ sym (used-here shape at s 2);
-        behind = next;
-        further = omega arith;
-        list = parameters-step h ∙ ap (λ n. usedAt kind at s ∷ parametersFrom kind n s) (sym next);
+        behind = next ∙ sym (next-inside h);
+        further = λ _. omega arith;
+        list = λ _. parameters-step h ∙ ap (λ n. usedAt kind at s ∷ parametersFrom kind n s) (sym next);
       }
 
 -- For callers: the parameters of a part are the list from the beginning of its bytes.

@@ -12,6 +12,7 @@ use borrow.Author.Tests.{eq-eqb, ne-eqb, ltb-true, ltb-false}
 use Rattle.rules.specs.Messages.Layout.{byteAt}
 use Rattle.rules.specs.Messages.Parameters.{Shape, selector, limitsOf, sizeOf, soundParameter, cleaned, cut}
 use Rattle.rules.proofs.ParameterLists.{cut-cons}
+use Rattle.message.proofs.Numbers.{byte-behind}
 
 -- a byte under its limit; 1 where there is no limit
 pub cleaned-byte : (p ls : List ℕ) (i : ℕ) → byteAt (zipWith _%_ p ls) i ≡ byteAt p i % getD ls i 1
@@ -26,6 +27,10 @@ module _ (shape : Shape) where
   limits-taken : (n : ℕ) (p : List ℕ) → 2 ≤ n → limitsOf shape (take n p) ≡ limitsOf shape p
   unfolding limitsOf
   limits-taken n p h = ap₂ (shape .limits) (getD-take n p 0 0 (omega arith)) (getD-take n p 1 0 (omega arith))
+
+  pub size-taken : (n : ℕ) (p : List ℕ) → 2 ≤ n → sizeOf shape (take n p) ≡ sizeOf shape p
+  unfolding sizeOf
+  size-taken n p h = ap (λ ls. 2 + length ls) (limits-taken n p h)
 
   pub size-least : (p : List ℕ) → 2 ≤ sizeOf shape p
   unfolding sizeOf
@@ -43,11 +48,10 @@ module _ (shape : Shape) where
 
     pub limits-here : limitsOf shape rest ≡ shape .limits (byteAt s at) (byteAt s (at + 1))
     unfolding limitsOf
-    limits-here = ap₂ (shape .limits) (getD-drop at s 0 0 ∙ ap (byteAt s) (add-zero at)) (getD-drop at s 1 0)
+    limits-here = ap₂ (shape .limits) (byte-behind s at) (getD-drop at s 1 0)
 
-    size-here : sizeOf shape here ≡ size
-    unfolding sizeOf
-    size-here = ap (λ ls. 2 + length ls) (limits-taken size rest (size-least rest))
+    pub size-here : sizeOf shape here ≡ size
+    size-here = size-taken size rest (size-least rest)
 
     -- cut short, or whole
     pub sound-cut : length s < at + size → soundParameter shape here ≡ false

@@ -1,10 +1,13 @@
--- What a decoded message means: its fields, read off the slice that it was found in; a number for each refusal.
-use Prim.Native.Nat.{ℕ, _-_, _≤_}
+-- What a decoded message means: its fields, read off the slice that it was found in, and where its parts lie there; a number for
+-- each refusal.
+use Prim.Native.Nat.{ℕ, _+_, _-_, _≤_}
 use mathlib.Core.Path.{_≡_}
+use mathlib.Core.Bool.{Bool, true}
 use mathlib.Core.List.{List, [], _∷_, _++_, map}
+use lib.Dec.{leb}
 use lib.ListN.{length, take, drop}
-use Rattle.rules.specs.Choice.{pick}
-use Rattle.rules.specs.Numbers.{unsound}
+use Rattle.rules.specs.Choice.{pick, all}
+use Rattle.rules.specs.Numbers.{accepted, unsound}
 use Rattle.rules.specs.Messages.Layout.{byteAt, fieldsIn, numberAt}
 use Rattle.rules.specs.Messages.Parameters.{Shape, initiation, question, setting, cleaned, cut}
 use Rattle.rules.specs.Messages.Forms as forms
@@ -13,6 +16,7 @@ use Rattle.rules.specs.Messages.Codec as codec
 use Rattle.rules.specs.Messages.Codec.{Outcome, Held, soundAs, fieldsAs}
 use Rattle.message.specs.declared.Part.{Part}
 use Rattle.message.specs.declared.StartReadFields.{StartReadFields}
+use Rattle.message.specs.declared.WriteFields.{WriteFields}
 use Rattle.message.specs.declared.Message.{Message}
 use Rattle.message.specs.declared.Message.the-variants.{Initiate, StartRead, ReadData, OutOfBand, Unread, ClearInput, Write}
 use Rattle.message.specs.declared.Message.the-variants.{WriteCompletion, DiscardState, ReadCharacteristics, Characteristics}
@@ -60,6 +64,19 @@ startReadIn s f =
       text = partOf s (f .text);
     }
 
+-- a Write, by its fields
+abbrev pub writeIn : List ℕ → WriteFields → forms.Message ℕ
+writeIn s f =
+    record {
+      kind = forms.write;
+      numbers =
+          f .lock ∷ f .newline ∷ f .«keeps_output» ∷ f .first ∷ f .last ∷ f .prefix ∷ f .postfix ∷ f .«wants_completion» ∷
+          f .transparent ∷ f .«prefix_value» ∷ f .«postfix_value» ∷ [];
+      set = [];
+      parameters = [];
+      text = partOf s (f .text);
+    }
+
 -- the fields of each case
 unfoldable pub heldIn : List ℕ → Message → Held
 heldIn s (Initiate f) =
@@ -71,10 +88,7 @@ heldIn s (ReadData f) =
 heldIn s (OutOfBand discard character) = bare forms.outOfBand (discard ∷ character ∷ [])
 heldIn s (Unread condition) = bare forms.unread (condition ∷ [])
 heldIn s ClearInput = bare forms.clearInput []
-heldIn s (Write f) =
-    withText forms.write
-    (f .lock ∷ f .newline ∷ f .«keeps_output» ∷ f .first ∷ f .last ∷ f .prefix ∷ f .postfix ∷ f .«wants_completion» ∷
-    f .transparent ∷ f .«prefix_value» ∷ f .«postfix_value» ∷ []) [] (partOf s (f .text))
+heldIn s (Write f) = codec.message (writeIn s f)
 heldIn s (WriteCompletion lost horizontal vertical) = bare forms.writeCompletion (lost ∷ horizontal ∷ vertical ∷ [])
 heldIn s (DiscardState kept) = bare forms.discardState (kept ∷ [])
 heldIn s (ReadCharacteristics p) = withList forms.readCharacteristics [] (parametersOf question s p)
@@ -83,6 +97,31 @@ heldIn s CheckInput = bare forms.checkInput []
 heldIn s (InputCount count) = bare forms.inputCount (count ∷ [])
 heldIn s (InputState nonzero) = bare forms.inputState (nonzero ∷ [])
 heldIn s (Other kind body) = codec.other kind (partOf s body)
+
+-- the parts of each case
+unfoldable pub placesOf : Message → List Part
+placesOf (Initiate f) = f .revision ∷ f .parameters ∷ []
+placesOf (StartRead f) = f .set ∷ f .text ∷ []
+placesOf (ReadData f) = f .text ∷ []
+placesOf (OutOfBand discard character) = []
+placesOf (Unread condition) = []
+placesOf ClearInput = []
+placesOf (Write f) = f .text ∷ []
+placesOf (WriteCompletion lost horizontal vertical) = []
+placesOf (DiscardState kept) = []
+placesOf (ReadCharacteristics p) = p ∷ []
+placesOf (Characteristics p) = p ∷ []
+placesOf CheckInput = []
+placesOf (InputCount count) = []
+placesOf (InputState nonzero) = []
+placesOf (Other kind body) = body ∷ []
+
+-- a part, and every part of a message, lies in a slice of this length
+abbrev pub lies : ℕ → Part → Bool
+lies size p = leb (p .start + p .len) size
+
+abbrev pub allLie : ℕ → Message → Bool
+allLie size m = all (lies size) (placesOf m)
 
 -- what reading gives, as what can be held
 unfoldable pub asHeld : Outcome (forms.Message ℕ) → Outcome Held
@@ -93,6 +132,21 @@ asHeld (codec.sound m) = codec.sound (codec.message m)
 unfoldable pub foundIn : List ℕ → Found → Outcome Held
 foundIn s (found.Message m) = codec.sound (heldIn s m)
 foundIn s (found.Refused n) = codec.refused n
+
+-- every part of what was found lies in the slice
+unfoldable pub foundInside : ℕ → Found → Bool
+foundInside size (found.Message m) = allLie size m
+foundInside size (found.Refused n) = true
+
+-- what reading promises: this outcome, and where the parts of a message lie
+pub record Finds (s : List ℕ) (o : Outcome Held) (f : Found) : Type 0 where
+  pub fields : foundIn s f ≡ o
+  pub inside : foundInside (length s) f ≡ true
+
+-- the number of what was found
+abbrev pub foundNumber : Found → ℕ
+foundNumber (found.Message m) = accepted
+foundNumber (found.Refused n) = n
 
 -- reading as one type
 unfoldable pub readAs : ℕ → List ℕ → Outcome Held
@@ -108,6 +162,12 @@ pub record IsType (kind : ℕ) (s : List ℕ) : Type 0 where
 pub record RestFrom (at : ℕ) (s : List ℕ) (p : Part) : Type 0 where
   pub same : partOf s p ≡ drop at s
   pub long : p .len ≡ length s - at
+  pub inside : at ≤ length s → p .start + p .len ≤ length s
+
+-- the fields as one type, whatever they hold; the parts of a message that is not refused lie in the slice
+pub record FieldsIn (kind : ℕ) (s : List ℕ) (m : Message) : Type 0 where
+  pub fields : heldIn s m ≡ codec.message (fieldsAs (formOf kind) s)
+  pub inside : soundAs (formOf kind) s ≡ true → allLie (length s) m ≡ true
 
 -- the flags of a Start Read, with parts that are given
 pub record FlagsAre (s : List ℕ) (set text : Part) (f : StartReadFields) : Type 0 where
@@ -117,5 +177,5 @@ pub record FlagsAre (s : List ℕ) (set text : Part) (f : StartReadFields) : Typ
 
 -- the fields of a Start Read
 pub record StartReadIs (s : List ℕ) (f : StartReadFields) : Type 0 where
-  pub fields : startReadIn s f ≡ fieldsAs (formOf forms.startRead) s
+  pub read : FieldsIn forms.startRead s (StartRead f)
   pub long : length (partOf s (f .text)) ≡ f .text .len

@@ -3,7 +3,7 @@ use mathlib.Core.Path.{_≡_}
 use Prim.Native.Nat.{ℕ, zero, _+_, _<_}
 use mathlib.Core.Bool.{Bool}
 use mathlib.Core.List.{List, _∷_, map}
-use lib.Dec.{eqb}
+use lib.Dec.{ltb, eqb}
 use lib.ListN.{length, getD, take, drop}
 use Rattle.rules.specs.Choice.{pick, all}
 use Rattle.rules.specs.Messages.Layout.{byteAt}
@@ -39,13 +39,18 @@ pub record LimitsAre (ls : List ℕ) (l : Limits) : Type 0 where
 abbrev pub usedAt : ℕ → ℕ → List ℕ → List ℕ
 usedAt kind at s = cleaned (shapeOf kind) (parameterAt kind at s)
 
--- one parameter of a list: its selector, the three bytes behind it that a line looks at, and where the next one begins
+-- where the parameter behind the one at a place begins; from the end on, the place itself
+unfoldable pub nextFrom : ℕ → ℕ → List ℕ → ℕ
+nextFrom kind at s = pick (ltb at (length s)) (at + sizeOf (shapeOf kind) (drop at s)) at
+
+-- one parameter of a list: its selector, the three bytes behind it that a line looks at, and where the next one begins; from
+-- the end on it is empty, so that its selector and bytes are 0
 pub record ParameterIs (kind at : ℕ) (s : List ℕ) (p : Parameter) : Type 0 where
   pub selected : p .selector ≡ selector (usedAt kind at s)
   pub one : p .first ≡ byteAt (usedAt kind at s) 2
   pub two : p .second ≡ byteAt (usedAt kind at s) 3
   pub three : p .third ≡ byteAt (usedAt kind at s) 4
-  pub behind : p .next ≡ at + sizeOf (shapeOf kind) (drop at s)
-  pub further : at < p .next
+  pub behind : p .next ≡ nextFrom kind at s
+  pub further : at < length s → at < p .next
   -- the list from here on is this parameter and the list from the next one on
-  pub list : parametersFrom kind at s ≡ usedAt kind at s ∷ parametersFrom kind (p .next) s
+  pub list : at < length s → parametersFrom kind at s ≡ usedAt kind at s ∷ parametersFrom kind (p .next) s

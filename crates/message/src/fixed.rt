@@ -1,14 +1,13 @@
 // Messages of a fixed length.
-ghost use mathlib.Core.Path.{_≡_};
-ghost use Rattle.message.specs.Found.{IsType, foundIn, readAs};
+ghost use Rattle.message.specs.Found.{IsType, Finds, readAs};
 use crate::Found;
 use crate::Message;
 use crate::bytes::byte_at;
 use crate::bytes::word_at;
 
-pub fn read_out_of_band(s: &[u8]) -> Found
+pub(crate) fn read_out_of_band(s: &[u8]) -> Found
     requires { ⌜ IsType 4 (now s) ⌝ }
-    ensures { λ r. ⌜ foundIn (now (s .entry)) r ≡ readAs 4 (now (s .entry)) ⌝ }
+    ensures { λ r. ⌜ Finds (now (s .entry)) (readAs 4 (now (s .entry))) r ⌝ }
 {
     if s.len() != 3 {
         return Found::Refused(5);
@@ -21,9 +20,9 @@ pub fn read_out_of_band(s: &[u8]) -> Found
     })
 }
 
-pub fn read_unread(s: &[u8]) -> Found
+pub(crate) fn read_unread(s: &[u8]) -> Found
     requires { ⌜ IsType 5 (now s) ⌝ }
-    ensures { λ r. ⌜ foundIn (now (s .entry)) r ≡ readAs 5 (now (s .entry)) ⌝ }
+    ensures { λ r. ⌜ Finds (now (s .entry)) (readAs 5 (now (s .entry))) r ⌝ }
 {
     if s.len() != 2 {
         return Found::Refused(5);
@@ -34,9 +33,9 @@ pub fn read_unread(s: &[u8]) -> Found
     })
 }
 
-pub fn read_clear_input(s: &[u8]) -> Found
+pub(crate) fn read_clear_input(s: &[u8]) -> Found
     requires { ⌜ IsType 6 (now s) ⌝ }
-    ensures { λ r. ⌜ foundIn (now (s .entry)) r ≡ readAs 6 (now (s .entry)) ⌝ }
+    ensures { λ r. ⌜ Finds (now (s .entry)) (readAs 6 (now (s .entry))) r ⌝ }
 {
     if s.len() != 2 {
         return Found::Refused(5);
@@ -44,9 +43,9 @@ pub fn read_clear_input(s: &[u8]) -> Found
     Found::Message(Message::ClearInput)
 }
 
-pub fn read_write_completion(s: &[u8]) -> Found
+pub(crate) fn read_write_completion(s: &[u8]) -> Found
     requires { ⌜ IsType 8 (now s) ⌝ }
-    ensures { λ r. ⌜ foundIn (now (s .entry)) r ≡ readAs 8 (now (s .entry)) ⌝ }
+    ensures { λ r. ⌜ Finds (now (s .entry)) (readAs 8 (now (s .entry))) r ⌝ }
 {
     if s.len() != 6 {
         return Found::Refused(5);
@@ -61,9 +60,9 @@ pub fn read_write_completion(s: &[u8]) -> Found
     })
 }
 
-pub fn read_discard_state(s: &[u8]) -> Found
+pub(crate) fn read_discard_state(s: &[u8]) -> Found
     requires { ⌜ IsType 9 (now s) ⌝ }
-    ensures { λ r. ⌜ foundIn (now (s .entry)) r ≡ readAs 9 (now (s .entry)) ⌝ }
+    ensures { λ r. ⌜ Finds (now (s .entry)) (readAs 9 (now (s .entry))) r ⌝ }
 {
     if s.len() != 2 {
         return Found::Refused(5);
@@ -72,9 +71,9 @@ pub fn read_discard_state(s: &[u8]) -> Found
     Found::Message(Message::DiscardState { kept: flags % 2 })
 }
 
-pub fn read_check_input(s: &[u8]) -> Found
+pub(crate) fn read_check_input(s: &[u8]) -> Found
     requires { ⌜ IsType 12 (now s) ⌝ }
-    ensures { λ r. ⌜ foundIn (now (s .entry)) r ≡ readAs 12 (now (s .entry)) ⌝ }
+    ensures { λ r. ⌜ Finds (now (s .entry)) (readAs 12 (now (s .entry))) r ⌝ }
 {
     if s.len() != 2 {
         return Found::Refused(5);
@@ -82,9 +81,9 @@ pub fn read_check_input(s: &[u8]) -> Found
     Found::Message(Message::CheckInput)
 }
 
-pub fn read_input_count(s: &[u8]) -> Found
+pub(crate) fn read_input_count(s: &[u8]) -> Found
     requires { ⌜ IsType 13 (now s) ⌝ }
-    ensures { λ r. ⌜ foundIn (now (s .entry)) r ≡ readAs 13 (now (s .entry)) ⌝ }
+    ensures { λ r. ⌜ Finds (now (s .entry)) (readAs 13 (now (s .entry))) r ⌝ }
 {
     if s.len() != 4 {
         return Found::Refused(5);
@@ -93,9 +92,9 @@ pub fn read_input_count(s: &[u8]) -> Found
     Found::Message(Message::InputCount { count })
 }
 
-pub fn read_input_state(s: &[u8]) -> Found
+pub(crate) fn read_input_state(s: &[u8]) -> Found
     requires { ⌜ IsType 14 (now s) ⌝ }
-    ensures { λ r. ⌜ foundIn (now (s .entry)) r ≡ readAs 14 (now (s .entry)) ⌝ }
+    ensures { λ r. ⌜ Finds (now (s .entry)) (readAs 14 (now (s .entry))) r ⌝ }
 {
     if s.len() != 2 {
         return Found::Refused(5);

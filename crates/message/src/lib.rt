@@ -1,7 +1,7 @@
 // The fourteen messages of the Network Command Terminal protocol: their fields, and reading them from bytes.
 ghost use mathlib.Core.Path.{_≡_};
 ghost use Rattle.rules.specs.Messages.Codec as codec;
-ghost use Rattle.message.specs.Found.{asHeld, foundIn};
+ghost use Rattle.message.specs.Found.{Finds, asHeld, foundNumber};
 
 mod bytes;
 mod fixed;
@@ -11,6 +11,7 @@ mod parts;
 mod start_read;
 mod texts;
 
+pub use crate::bytes::bit_of;
 pub use crate::bytes::byte_at;
 pub use crate::lists::parameter_at;
 pub use crate::lists::whole_list;
@@ -137,9 +138,9 @@ pub struct Parameter {
     pub next: usize,
 }
 
-// Reads a message without a line: 2, 3 or 5 in that order, else its fields.
+// Reads a message without a line: 2, 3 or 5 in that order, else its fields, with parts that lie in the slice.
 pub fn read(s: &[u8]) -> Found
-    ensures { λ r. ⌜ foundIn (now (s .entry)) r ≡ asHeld (codec.read (now (s .entry))) ⌝ }
+    ensures { λ r. ⌜ Finds (now (s .entry)) (asHeld (codec.read (now (s .entry)))) r ⌝ }
 {
     let size = s.len();
     let fits = (1 <= size) & (size <= rules::MESSAGE);
@@ -163,5 +164,15 @@ pub fn read(s: &[u8]) -> Found
         13 => fixed::read_input_count(s),
         14 => fixed::read_input_state(s),
         _ => Found::Refused(3),
+    }
+}
+
+// The number of what was found; of a message it is 0.
+pub fn number_of(f: Found) -> u8
+    ensures { λ r. ⌜ r ≡ foundNumber f ⌝ }
+{
+    match f {
+        Found::Message(_) => 0,
+        Found::Refused(number) => number,
     }
 }

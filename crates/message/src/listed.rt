@@ -1,11 +1,8 @@
 // Messages that end in a parameter list.
-ghost use mathlib.Core.Path.{_≡_};
 ghost use Prim.Native.Nat.{_≤_};
 ghost use lib.ListN.{length};
-ghost use Rattle.rules.specs.Messages.Forms.{formOf};
-ghost use Rattle.rules.specs.Messages.Codec.{fieldsAs, message};
 ghost use Rattle.message.specs.declared.Message.the-variants as variants;
-ghost use Rattle.message.specs.Found.{IsType, heldIn, foundIn, readAs};
+ghost use Rattle.message.specs.Found.{IsType, FieldsIn, Finds, readAs};
 use crate::Found;
 use crate::InitiateFields;
 use crate::Message;
@@ -16,7 +13,7 @@ use crate::parts::rest_from;
 
 fn initiate_fields(s: &[u8]) -> InitiateFields
     requires { ⌜ IsType 1 (now s) × (13 ≤ length (now s)) ⌝ }
-    ensures { λ r. ⌜ heldIn (now (s .entry)) (variants.Initiate r) ≡ message (fieldsAs (formOf 1) (now (s .entry))) ⌝ }
+    ensures { λ r. ⌜ FieldsIn 1 (now (s .entry)) (variants.Initiate r) ⌝ }
 {
     let version = byte_at(s, 2);
     let eco = byte_at(s, 3);
@@ -31,9 +28,9 @@ fn initiate_fields(s: &[u8]) -> InitiateFields
     }
 }
 
-pub fn read_initiate(s: &[u8]) -> Found
+pub(crate) fn read_initiate(s: &[u8]) -> Found
     requires { ⌜ IsType 1 (now s) ⌝ }
-    ensures { λ r. ⌜ foundIn (now (s .entry)) r ≡ readAs 1 (now (s .entry)) ⌝ }
+    ensures { λ r. ⌜ Finds (now (s .entry)) (readAs 1 (now (s .entry))) r ⌝ }
 {
     if s.len() < 13 {
         return Found::Refused(5);
@@ -45,9 +42,9 @@ pub fn read_initiate(s: &[u8]) -> Found
     Found::Message(Message::Initiate(f))
 }
 
-pub fn read_read_characteristics(s: &[u8]) -> Found
+pub(crate) fn read_read_characteristics(s: &[u8]) -> Found
     requires { ⌜ IsType 10 (now s) ⌝ }
-    ensures { λ r. ⌜ foundIn (now (s .entry)) r ≡ readAs 10 (now (s .entry)) ⌝ }
+    ensures { λ r. ⌜ Finds (now (s .entry)) (readAs 10 (now (s .entry))) r ⌝ }
 {
     if s.len() < 2 {
         return Found::Refused(5);
@@ -59,9 +56,9 @@ pub fn read_read_characteristics(s: &[u8]) -> Found
     Found::Message(Message::ReadCharacteristics { parameters })
 }
 
-pub fn read_characteristics(s: &[u8]) -> Found
+pub(crate) fn read_characteristics(s: &[u8]) -> Found
     requires { ⌜ IsType 11 (now s) ⌝ }
-    ensures { λ r. ⌜ foundIn (now (s .entry)) r ≡ readAs 11 (now (s .entry)) ⌝ }
+    ensures { λ r. ⌜ Finds (now (s .entry)) (readAs 11 (now (s .entry))) r ⌝ }
 {
     if s.len() < 2 {
         return Found::Refused(5);

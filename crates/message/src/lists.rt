@@ -144,11 +144,19 @@ fn used_at(s: &[u8], at: usize, limit: u16) -> u8
     (b % limit) as u8
 }
 
-// The parameter that begins at a place.
+// The parameter that begins at a place; from the end on it is empty, and the next one begins at the same place.
 pub fn parameter_at(kind: u8, s: &[u8], at: usize) -> Parameter
-    requires { ⌜ at < length (now s) ⌝ }
     ensures { λ r. ⌜ ParameterIs kind at (now (s .entry)) r ⌝ }
 {
+    if s.len() <= at {
+        return Parameter {
+            selector: 0,
+            first: 0,
+            second: 0,
+            third: 0,
+            next: at,
+        };
+    }
     let l = limits_at(kind, s, at);
     let low = s[at] as u16;
     let high = byte_at(s, at + 1) as u16;

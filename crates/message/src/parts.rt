@@ -6,7 +6,7 @@ ghost use Rattle.message.specs.Found.{RestFrom, partOf};
 use crate::Part;
 
 // What stands from a place on, up to the end.
-pub fn rest_from(s: &[u8], at: u16) -> Part
+pub(crate) fn rest_from(s: &[u8], at: u16) -> Part
     requires { ⌜ length (now s) ≤ 256 ⌝ }
     ensures { λ r. ⌜ RestFrom at (now (s .entry)) r ⌝ }
 {

@@ -5,7 +5,7 @@ ghost use mathlib.Core.List.{List};
 ghost use lib.ListN.{length};
 ghost use Rattle.rules.specs.Numbers.{inputSize};
 ghost use Rattle.rules.specs.StartRead.{soundStartRead};
-ghost use Rattle.message.specs.Found.{IsType, FlagsAre, StartReadIs, partOf, startReadIn, foundIn, readAs};
+ghost use Rattle.message.specs.Found.{IsType, FlagsAre, StartReadIs, partOf, startReadIn, Finds, readAs};
 use crate::Found;
 use crate::Message;
 use crate::Part;
@@ -101,9 +101,9 @@ pub fn start_read_test(f: StartReadFields) -> bool
         & (text.len == shown)
 }
 
-pub fn read_start_read(s: &[u8]) -> Found
+pub(crate) fn read_start_read(s: &[u8]) -> Found
     requires { ⌜ IsType 2 (now s) ⌝ }
-    ensures { λ r. ⌜ foundIn (now (s .entry)) r ≡ readAs 2 (now (s .entry)) ⌝ }
+    ensures { λ r. ⌜ Finds (now (s .entry)) (readAs 2 (now (s .entry))) r ⌝ }
 {
     if s.len() < 16 {
         return Found::Refused(5);

@@ -1,9 +1,6 @@
 // Messages that end in DATA.
-ghost use mathlib.Core.Path.{_≡_};
-ghost use Rattle.rules.specs.Messages.Forms.{formOf};
-ghost use Rattle.rules.specs.Messages.Codec.{fieldsAs, message};
 ghost use Rattle.message.specs.declared.Message.the-variants as variants;
-ghost use Rattle.message.specs.Found.{IsType, heldIn, foundIn, readAs};
+ghost use Rattle.message.specs.Found.{IsType, FieldsIn, Finds, readAs};
 use crate::Found;
 use crate::Message;
 use crate::ReadDataFields;
@@ -15,7 +12,7 @@ use crate::parts::rest_from;
 // The fields, whatever they hold: the reader below tests the length and the values.
 fn read_data_fields(s: &[u8]) -> ReadDataFields
     requires { ⌜ IsType 3 (now s) ⌝ }
-    ensures { λ r. ⌜ heldIn (now (s .entry)) (variants.ReadData r) ≡ message (fieldsAs (formOf 3) (now (s .entry))) ⌝ }
+    ensures { λ r. ⌜ FieldsIn 3 (now (s .entry)) (variants.ReadData r) ⌝ }
 {
     let flags = byte_at(s, 1);
     let low_water = word_at(s, 2);
@@ -34,9 +31,9 @@ fn read_data_fields(s: &[u8]) -> ReadDataFields
     }
 }
 
-pub fn read_read_data(s: &[u8]) -> Found
+pub(crate) fn read_read_data(s: &[u8]) -> Found
     requires { ⌜ IsType 3 (now s) ⌝ }
-    ensures { λ r. ⌜ foundIn (now (s .entry)) r ≡ readAs 3 (now (s .entry)) ⌝ }
+    ensures { λ r. ⌜ Finds (now (s .entry)) (readAs 3 (now (s .entry))) r ⌝ }
 {
     if s.len() < 8 {
         return Found::Refused(5);
@@ -50,7 +47,7 @@ pub fn read_read_data(s: &[u8]) -> Found
 
 fn write_fields(s: &[u8]) -> WriteFields
     requires { ⌜ IsType 7 (now s) ⌝ }
-    ensures { λ r. ⌜ heldIn (now (s .entry)) (variants.Write r) ≡ message (fieldsAs (formOf 7) (now (s .entry))) ⌝ }
+    ensures { λ r. ⌜ FieldsIn 7 (now (s .entry)) (variants.Write r) ⌝ }
 {
     let flags = word_at(s, 1);
     let newline = flags / 4;
@@ -80,9 +77,9 @@ fn write_fields(s: &[u8]) -> WriteFields
     }
 }
 
-pub fn read_write(s: &[u8]) -> Found
+pub(crate) fn read_write(s: &[u8]) -> Found
     requires { ⌜ IsType 7 (now s) ⌝ }
-    ensures { λ r. ⌜ foundIn (now (s .entry)) r ≡ readAs 7 (now (s .entry)) ⌝ }
+    ensures { λ r. ⌜ Finds (now (s .entry)) (readAs 7 (now (s .entry))) r ⌝ }
 {
     if s.len() < 5 {
         return Found::Refused(5);

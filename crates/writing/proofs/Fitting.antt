@@ -1,24 +1,26 @@
 -- Whether a message fits: from what the code tests to what the definition does.
-use mathlib.Core.Path.{_≡_, refl, sym, ap, ap₂, _∙_}
+use mathlib.Core.Path.{_≡_, refl, sym, ap, ap₂, subst, _∙_}
 use Prim.Native.Nat.{ℕ, zero, suc, _<_}
 use mathlib.Core.Bool.{Bool, true, false, _&&_, and-assoc, and-true}
 use mathlib.Core.List.{List, [], _∷_}
 use lib.Dec.{leb, ltb}
-use lib.ListN.{length, take, drop}
+use lib.ListN.{length}
 use borrow.Author.Tests.{lt-ltb}
 use Rattle.rules.specs.Choice.{pick, isEmpty, all}
 use Rattle.rules.specs.Messages.Layout.{byteAt, widthsOf, fits}
 use Rattle.rules.specs.Messages.Forms.{forms, formOf}
-use Rattle.rules.specs.Messages.Codec.{message, allBytes, definedFields, fitsTail, fitsAs, fitsHeld}
+use Rattle.rules.specs.Messages.Codec.{allBytes, definedFields, fitsTail, fitsAs, fitsHeld}
 use Rattle.rules.specs.Numbers.{inputSize}
 use Rattle.rules.specs.StartRead.{soundStartRead}
 use Rattle.rules.proofs.Tests.{both, all-split}
 use Rattle.message.specs.declared.Part.{Part}
 use Rattle.message.specs.declared.Message.{Message}
-use Rattle.message.specs.declared.Message.the-variants.{OutOfBand, Unread, WriteCompletion, DiscardState, InputCount, InputState}
+use Rattle.message.specs.declared.Message.the-variants.{StartRead, OutOfBand, Unread, WriteCompletion, DiscardState, InputCount, InputState}
 use Rattle.message.specs.declared.StartReadFields.{StartReadFields}
 use Rattle.message.specs.Found.{partOf, heldIn, startReadIn, withText}
-use Rattle.writing.specs.Fits.{Clipped}
+use Rattle.writing.specs.Fits.{FitsIn}
+use Rattle.writing.specs.Parts.{partsOf}
+use Rattle.writing.proofs.Lengths.{parts-length}
 
 -- the bytes of a slice are bytes, and so are those of a part
 pub bytes-all : (s : List ℕ) → ((i : ℕ) → byteAt s i < 256) → allBytes s ≡ true
@@ -30,21 +32,12 @@ pub part-bytes : (s : List ℕ) (p : Part) → allBytes s ≡ true → allBytes 
 unfolding allBytes partOf
 part-bytes s p h = all-split (λ b. ltb b 256) (p .len) _ (all-split (λ b. ltb b 256) (p .start) s h .1) .0
 
--- as many as there are of so many
-take-there : (n : ℕ) (l : List ℕ) → take (length (take n l)) l ≡ take n l
-take-there zero l = refl
-take-there (suc n) [] = refl
-take-there (suc n) (x ∷ l) = ap (λ r. x ∷ r) (take-there n l)
-
-pub clip : (s : List ℕ) (p : Part) {t : List ℕ} → t ≡ partOf s p → Clipped s p (record { start = p .start; len = length t })
-unfolding partOf
-clip s p e =
-    let same = ap (λ l. take (length l) (drop (p .start) s)) e ∙ take-there (p .len) (drop (p .start) s) in
-    record { same = same; long = ap length same ∙ ap length (sym e) }
-
 -- a message by its case
-pub held-fits : (s : List ℕ) {m n : Message} {t : Bool} → m ≡ n → t ≡ fitsHeld (heldIn s n) → t ≡ fitsHeld (heldIn s m)
-held-fits s e w = w ∙ ap (λ m. fitsHeld (heldIn s m)) (sym e)
+pub fits-as : (s : List ℕ) {m n : Message} {t : Bool} → m ≡ n → FitsIn s n t → FitsIn s m t
+fits-as s {t = t} e w = subst (λ k. FitsIn s k t) (sym e) w
+
+pub held-fits : (s : List ℕ) {m n : Message} {t : Bool} → m ≡ n → t ≡ fitsHeld (heldIn s n) → FitsIn s m t
+held-fits s e w = fits-as s e (record { same = λ _. w })
 
 -- Messages without lists: their flag, where they have one. What is left of the test holds.
 passes : (t a : Bool) → a ≡ true → t ≡ t && a && true && true
@@ -95,13 +88,17 @@ pub twelve : (a b c d e f g h i j k l : Bool) {r : Bool} → r ≡ true →
     a && (b && (c && (d && (e && (f && (g && (h && (i && (j && (k && (l && r)))))))))))
 twelve a b c d e f g h i j k l r = rw r (simp (and-true, and-assoc))
 
--- Start Read, with its text's own length
-pub start-read-fits : (s : List ℕ) (f : StartReadFields) → allBytes s ≡ true → {flags sound : Bool} {n : ℕ} {text : Part} →
-    flags ≡ fits (widthsOf (formOf 2 .head)) (startReadIn [] f .numbers) → n ≡ length (partOf s (f .set)) → Clipped s (f .text) text →
-    sound ≡ soundStartRead inputSize (record { kind = 2; numbers = startReadIn [] f .numbers; set = partOf s (f .set); parameters = []; text = partOf s text }) →
-    flags && leb n 32 && sound ≡ fitsHeld (message (startReadIn s f))
-unfolding fitsHeld fitsAs fitsTail definedFields pick isEmpty startReadIn formOf forms
-start-read-fits s f bytes flags size clip sound =
-    let test = sound ∙ ap (λ t. soundStartRead inputSize (record { kind = 2; numbers = startReadIn [] f .numbers; set = partOf s (f .set); parameters = []; text = t })) (clip .same) in
-    ap₂ _&&_ (ap₂ _&&_ flags (ap (λ k. leb k 32) size)) test ∙
-    simp (part-bytes s (f .set) bytes, part-bytes s (f .text) bytes, and-true)
+-- Start Read, by the lengths of its parts
+pub start-read-fits : (s : List ℕ) (f : StartReadFields) → allBytes s ≡ true → {flags sound : Bool} →
+    flags ≡ fits (widthsOf (formOf 2 .head)) (startReadIn [] f .numbers) →
+    (length (partOf s (f .text)) ≡ f .text .len → sound ≡ soundStartRead inputSize (startReadIn s f)) →
+    FitsIn s (StartRead f) (flags && leb (f .set .len) 32 && sound)
+unfolding heldIn partsOf fitsHeld fitsAs fitsTail definedFields pick isEmpty startReadIn formOf forms
+start-read-fits s f bytes flags test =
+    record {
+      same =
+          λ e.
+          let long = parts-length s (partsOf (StartRead f)) e in
+          ap₂ _&&_ (ap₂ _&&_ flags (ap (λ k. leb k 32) (sym (long .1)))) (test (long .2)) ∙
+          simp (part-bytes s (f .set) bytes, part-bytes s (f .text) bytes, and-true);
+    }

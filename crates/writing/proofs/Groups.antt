@@ -1,12 +1,12 @@
 -- The head of a message, group by group: from the bytes that the code puts to those that the definition has.
 use mathlib.Core.Path.{_≡_, refl, sym, ap, ap₂, _∙_}
-use Prim.Native.Nat.{ℕ, zero, suc, _+_, _*_, _-_, _/_, _%_, _^_, _<_, _≤_}
+use Prim.Native.Nat.{ℕ, suc, _+_, _*_, _-_, _<_, _≤_}
 use native.Mathlib.Nat.{mod-eq-of-lt}
 use native.Mathlib.Omega.{arith}
 use mathlib.Core.List.{List, [], _∷_, _++_}
 use lib.ListN.{length, drop, replicate}
 use lib.Seq.{drop-drop}
-use Rattle.rules.specs.Messages.Layout.{Group, flags, byte, word, byteAt, fieldsIn, numberOf, bytesOf, writeGroups}
+use Rattle.rules.specs.Messages.Layout.{Group, flags, byte, byteAt, fieldsIn, numberOf, bytesOf, writeGroups}
 use Rattle.message.specs.declared.Message.{Message}
 use Rattle.message.specs.Found.{heldIn}
 use Rattle.message.proofs.Numbers.{byte-behind}

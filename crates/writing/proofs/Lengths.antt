@@ -1,22 +1,22 @@
 -- How long messages are: by their forms, and by the lengths of their parts.
 use mathlib.Core.Path.{_≡_, refl, sym, ap, ap₂, _∙_}
-use Prim.Native.Nat.{ℕ, zero, suc, _+_, _-_, _*_, _%_, _<_, _≤_}
+use Prim.Native.Nat.{ℕ, zero, suc, _+_, _-_, _%_, _<_, _≤_}
 use native.Mathlib.Nat.{mod-eq-of-lt}
 use native.Mathlib.Omega.{arith}
 use mathlib.Core.Bool.{true}
 use mathlib.Core.List.{List, [], _∷_, _++_, map, zipWith}
 use lib.Dec.{leb}
 use lib.ListN.{length, take, drop, length-append, length-take, length-drop}
-use lib.Seq.{getD-take, length-take-le}
+use lib.Seq.{length-take-le}
 use borrow.Author.Tests.{le-leb, leb-true}
 use Rattle.rules.specs.Choice.{all, joined}
 use Rattle.rules.specs.Calls.{framed, sentBytes}
 use Rattle.rules.specs.Messages.Layout as layout
-use Rattle.rules.specs.Messages.Layout.{byteAt, writeGroups}
+use Rattle.rules.specs.Messages.Layout.{writeGroups}
 use Rattle.rules.specs.Messages.Parameters.{Shape, initiation, question, setting, limitsOf, sizeOf, cleaned, cut}
 use Rattle.rules.specs.Messages.Forms as forms
 use Rattle.rules.specs.Messages.Forms.{Tail, nothing, text, setAndText, list, Form, formOf}
-use Rattle.rules.specs.Messages.Codec.{Held, message, other, tailBytes, bytesAs, bytesOf}
+use Rattle.rules.specs.Messages.Codec.{message, tailBytes, bytesAs, bytesOf}
 use Rattle.rules.proofs.Tests.{both, quarters, all-cons}
 use Rattle.rules.proofs.Fields.{length-writeGroups}
 use Rattle.rules.proofs.ParameterLists.{joined-cut}
@@ -25,20 +25,17 @@ use Rattle.message.specs.declared.Message.{Message}
 use Rattle.message.specs.declared.Message.the-variants.{Initiate, StartRead, ReadData, OutOfBand, Unread, ClearInput, Write}
 use Rattle.message.specs.declared.Message.the-variants.{WriteCompletion, DiscardState, ReadCharacteristics, Characteristics}
 use Rattle.message.specs.declared.Message.the-variants.{CheckInput, InputCount, InputState, Other}
-use Rattle.message.specs.Found.{partOf, parametersOf, startReadIn, heldIn}
-use Rattle.message.proofs.Walk.{size-least}
+use Rattle.message.specs.Found.{partOf, parametersOf, startReadIn, heldIn, placesOf, lies, allLie}
+use Rattle.message.proofs.Walk.{size-taken, size-least}
 use Rattle.writing.specs.Front.{frontTail, frontBytes}
 use Rattle.writing.specs.Parts as parts
-use Rattle.writing.specs.Parts.{partsOf, sizeIn, lies, inside}
+use Rattle.writing.specs.declared.parts.Parts.{Parts}
+use Rattle.writing.specs.Parts.{partsOf, inside}
 
 -- A parameter list: cleaning keeps the length, whole or not.
 module _ (shape : Shape) where
   abbrev short : List ℕ → Type 0
   short p = length p ≤ sizeOf shape p
-
-  pub size-taken : (n : ℕ) (p : List ℕ) → 2 ≤ n → sizeOf shape (take n p) ≡ sizeOf shape p
-  unfolding sizeOf limitsOf
-  size-taken n p h = ap₂ (λ low high. 2 + length (shape .limits low high)) (getD-take n p 0 0 (omega arith)) (getD-take n p 1 0 (omega arith))
 
   -- what is cut is no longer than it should be
   pub cut-short : (n : ℕ) (xs : List ℕ) → all (λ p. leb (length p) (sizeOf shape p)) (cut shape n xs) ≡ true
@@ -49,7 +46,7 @@ module _ (shape : Shape) where
   cut-short zero (x ∷ xs) =
       let size = sizeOf shape (x ∷ xs) in
       let l = length-take size (x ∷ xs) in
-      let same = size-taken size (x ∷ xs) (size-least shape (x ∷ xs)) in
+      let same = size-taken shape size (x ∷ xs) (size-least shape (x ∷ xs)) in
       both (le-leb (length (take size (x ∷ xs))) (sizeOf shape (take size (x ∷ xs))) (omega arith)) (cut-short (size - 1) xs)
 
   pub cleaned-length : (p : List ℕ) → short p → length (cleaned shape p) ≡ length p
@@ -83,9 +80,13 @@ form-length f x =
     omega arith
 
 module _ (s : List ℕ) where
+  -- by the bytes that there are of its parts
+  abbrev sizeIn : Parts → ℕ
+  sizeIn p = p .head + length (partOf s (p .list)) + length (partOf s (p .set)) + length (partOf s (p .text))
+
   listed : (kind head : ℕ) (shape : Shape) (p : Part) (x : forms.Message ℕ) → formOf kind .tail ≡ list shape →
       1 + layout.sizeOf (formOf kind .head) ≡ head → x .parameters ≡ parametersOf shape s p →
-      length (bytesAs (formOf kind) x) ≡ sizeIn s (parts.withList kind head p)
+      length (bytesAs (formOf kind) x) ≡ sizeIn (parts.withList kind head p)
   unfolding tailBytes parametersOf partOf
   listed kind head shape p x is size e =
       let f = form-length (formOf kind) x in
@@ -94,7 +95,7 @@ module _ (s : List ℕ) where
       let l = list-length shape (take (p .len) (drop (p .start) s)) in
       omega arith
 
-  pub held-length : (m : Message) → length (bytesOf (heldIn s m)) ≡ sizeIn s (partsOf m)
+  pub held-length : (m : Message) → length (bytesOf (heldIn s m)) ≡ sizeIn (partsOf m)
   unfolding heldIn startReadIn bytesOf partsOf formOf forms.forms layout.sizeOf tailBytes partOf
   held-length (Initiate f) = listed 1 13 initiation (f .parameters) _ refl refl refl
   held-length (StartRead f) =
@@ -123,16 +124,62 @@ module _ (s : List ℕ) where
       let d = length-drop (p .start) s in
       length-take-le (p .len) (drop (p .start) s) (omega arith)
 
-  pub inside-length : (m : Message) → inside (length s) (partsOf m) ≡ true → parts.sizeOf (partsOf m) ≡ length (bytesOf (heldIn s m))
+  pub parts-length : (p : Parts) → inside (length s) p ≡ true →
+      (length (partOf s (p .list)) ≡ p .list .len) × (length (partOf s (p .set)) ≡ p .set .len) ×
+      (length (partOf s (p .text)) ≡ p .text .len) × (length (partOf s (p .revision)) ≡ p .revision .len)
   unfolding inside
-  inside-length m e =
-      let p = partsOf m in
+  parts-length p e =
       let n = length s in
       let h = quarters (lies n (p .list)) (lies n (p .set)) (lies n (p .text)) (lies n (p .revision)) e in
-      let list = part-length (p .list) (h .0) in
-      let set = part-length (p .set) (h .1) in
-      let text = part-length (p .text) (h .2) in
+      (part-length (p .list) (h .0), part-length (p .set) (h .1), part-length (p .text) (h .2), part-length (p .revision) (h .3))
+
+  pub inside-length : (m : Message) → inside (length s) (partsOf m) ≡ true → parts.sizeOf (partsOf m) ≡ length (bytesOf (heldIn s m))
+  inside-length m e =
+      let h = parts-length (partsOf m) e in
+      let list = h .0 in
+      let set = h .1 in
+      let text = h .2 in
       omega (arith, held-length m)
+
+-- Where every part of a message lies in the slice, so do the four that it is written by.
+module _ (size : ℕ) where
+  abbrev Lies : Part → Type 0
+  Lies p = lies size p ≡ true
+
+  none-lies : Lies parts.none
+  none-lies = le-leb 0 size (omega arith)
+
+  four-lie : (p : Parts) → Lies (p .list) → Lies (p .set) → Lies (p .text) → Lies (p .revision) → inside size p ≡ true
+  unfolding inside
+  four-lie p l s t r = both (both (both l s) t) r
+
+  first-lies : (p : Part) (ps : List Part) → all (lies size) (p ∷ ps) ≡ true → Lies p
+  first-lies p ps e = all-cons (lies size) p ps e .0
+
+  bare-inside : (kind head : ℕ) → inside size (parts.bare kind head) ≡ true
+  bare-inside kind head = four-lie _ none-lies none-lies none-lies none-lies
+
+  pub all-inside : (m : Message) → allLie size m ≡ true → inside size (partsOf m) ≡ true
+  unfolding placesOf partsOf
+  all-inside (Initiate f) e =
+      let h = all-cons (lies size) (f .revision) (f .parameters ∷ []) e in
+      four-lie _ (first-lies (f .parameters) [] (h .1)) none-lies none-lies (h .0)
+  all-inside (StartRead f) e =
+      let h = all-cons (lies size) (f .set) (f .text ∷ []) e in
+      four-lie _ none-lies (h .0) (first-lies (f .text) [] (h .1)) none-lies
+  all-inside (ReadData f) e = four-lie _ none-lies none-lies (first-lies (f .text) [] e) none-lies
+  all-inside (OutOfBand discard character) e = bare-inside 4 3
+  all-inside (Unread condition) e = bare-inside 5 2
+  all-inside ClearInput e = bare-inside 6 2
+  all-inside (Write f) e = four-lie _ none-lies none-lies (first-lies (f .text) [] e) none-lies
+  all-inside (WriteCompletion lost horizontal vertical) e = bare-inside 8 6
+  all-inside (DiscardState kept) e = bare-inside 9 2
+  all-inside (ReadCharacteristics p) e = four-lie _ (first-lies p [] e) none-lies none-lies none-lies
+  all-inside (Characteristics p) e = four-lie _ (first-lies p [] e) none-lies none-lies none-lies
+  all-inside CheckInput e = bare-inside 12 2
+  all-inside (InputCount count) e = bare-inside 13 4
+  all-inside (InputState nonzero) e = bare-inside 14 2
+  all-inside (Other kind body) e = four-lie _ none-lies none-lies (first-lies body [] e) none-lies
 
 -- What a line sends: a message without parameters.
 pub record Sendable (s : List ℕ) (m : Message) (x : forms.Message ℕ) : Type 0 where

@@ -1,26 +1,27 @@
 -- The parameters of a Characteristics, one at a time.
 use mathlib.Core.Path.{_≡_, refl, sym, ap, _∙_}
-use Prim.Native.Nat.{ℕ, zero, suc, _+_, _*_, _-_, _<_, _≤_}
+use Prim.Native.Nat.{ℕ, _+_, _*_, _-_, _<_, _≤_}
 use native.Mathlib.Nat.{mod-lt}
 use native.Mathlib.Omega.{arith}
 use mathlib.Core.Bool.{true}
 use mathlib.Core.List.{List, [], _∷_, _++_}
-use lib.ListN.{length, drop}
+use lib.ListN.{length, getD, drop}
 use borrow.Author.Tests.{lt-ltb}
 use Rattle.rules.specs.Choice.{pick, joined}
 use Rattle.rules.specs.Messages.Layout.{byteAt, numberOf, fits, bytesOf}
-use Rattle.rules.specs.Messages.Parameters.{selector, valueLimits, limitsOf, sizeOf, soundParameter, cleaned}
+use Rattle.rules.specs.Messages.Parameters.{Shape, selector, valueLimits, limitsOf, sizeOf, soundParameter, cleaned}
 use Rattle.rules.proofs.Tests.{both, halves, pick-case}
 use Rattle.rules.proofs.Fields.{fieldsIn-numberOf}
 use Rattle.rules.proofs.ParameterLists.{sound-size, size-cleaned}
 use Rattle.message.specs.declared.Parameter.{Parameter}
 use Rattle.message.specs.Lists.{ParameterIs, shapeOf, parameterAt, soundFrom, parametersFrom, usedAt}
-use Rattle.message.proofs.Walk.{cleaned-byte, size-least}
-use Rattle.message.proofs.Shapes.{sound-step, parameters-end}
+use Rattle.message.proofs.Walk.{cleaned-byte, size-least, size-here}
+use Rattle.message.proofs.Shapes.{sound-step, parameters-end, next-inside}
+use Rattle.writing.specs.Puts.{Puts}
 use Rattle.writing.specs.Front.{settingBytes}
-use Rattle.writing.proofs.Lengths.{size-taken}
+use Rattle.writing.proofs.Putting.{Left, turn}
 
--- A parameter of at most three bytes behind its selector, taken apart.
+-- A selector is its two bytes.
 two-bytes : {x y : ℕ} → x < 256 → y < 256 → bytesOf 2 (x + 256 * y) ≡ x ∷ y ∷ []
 unfolding numberOf fits
 two-bytes {x} {y} x< y< =
@@ -28,16 +29,25 @@ two-bytes {x} {y} x< y< =
     ap (bytesOf 2) e ∙
     fieldsIn-numberOf (8 ∷ 8 ∷ []) (x ∷ y ∷ []) (both (lt-ltb x 256 x<) (both (lt-ltb y 256 y<) refl))
 
-apart : (u : List ℕ) → 2 ≤ length u → length u ≤ 5 → byteAt u 0 < 256 → byteAt u 1 < 256 →
+used-byte : (shape : Shape) (p : List ℕ) (k : ℕ) → getD (256 ∷ 256 ∷ limitsOf shape p) k 1 ≡ 256 → byteAt (cleaned shape p) k < 256
+unfolding cleaned
+used-byte shape p k limit = rw (cleaned-byte p (256 ∷ 256 ∷ limitsOf shape p) k, limit) (mod-lt (byteAt p k) (omega arith))
+
+module _ (shape : Shape) (p : List ℕ) where
+  pub selector-bytes : bytesOf 2 (selector (cleaned shape p)) ≡ byteAt (cleaned shape p) 0 ∷ byteAt (cleaned shape p) 1 ∷ []
+  selector-bytes = two-bytes (used-byte shape p 0 refl) (used-byte shape p 1 refl)
+
+-- A parameter of at most three bytes behind its selector, taken apart.
+apart : (u : List ℕ) → 2 ≤ length u → length u ≤ 5 → bytesOf 2 (selector u) ≡ byteAt u 0 ∷ byteAt u 1 ∷ [] →
     u ≡ settingBytes (selector u) (byteAt u 2) (byteAt u 3) (byteAt u 4) (length u - 2)
 unfolding settingBytes
-apart [] h k p q = absurd (omega arith)
-apart (x ∷ []) h k p q = absurd (omega arith)
-apart (x ∷ y ∷ []) h k p q = ap (λ b. b ++ []) (sym (two-bytes p q))
-apart (x ∷ y ∷ a ∷ []) h k p q = ap (λ b. b ++ (a ∷ [])) (sym (two-bytes p q))
-apart (x ∷ y ∷ a ∷ b ∷ []) h k p q = ap (λ l. l ++ (a ∷ b ∷ [])) (sym (two-bytes p q))
-apart (x ∷ y ∷ a ∷ b ∷ d ∷ []) h k p q = ap (λ l. l ++ (a ∷ b ∷ d ∷ [])) (sym (two-bytes p q))
-apart (x ∷ y ∷ a ∷ b ∷ d ∷ e ∷ u) h k p q = absurd (omega arith)
+apart [] h k s = absurd (omega arith)
+apart (x ∷ []) h k s = absurd (omega arith)
+apart (x ∷ y ∷ []) h k s = ap (λ l. l ++ []) (sym s)
+apart (x ∷ y ∷ a ∷ []) h k s = ap (λ l. l ++ (a ∷ [])) (sym s)
+apart (x ∷ y ∷ a ∷ b ∷ []) h k s = ap (λ l. l ++ (a ∷ b ∷ [])) (sym s)
+apart (x ∷ y ∷ a ∷ b ∷ d ∷ []) h k s = ap (λ l. l ++ (a ∷ b ∷ d ∷ [])) (sym s)
+apart (x ∷ y ∷ a ∷ b ∷ d ∷ e ∷ u) h k s = absurd (omega arith)
 
 few-values : (n : ℕ) → length (valueLimits n) ≤ 3
 unfolding valueLimits
@@ -63,38 +73,40 @@ module _ (t : List ℕ) (i : ℕ) (h : i < length t) (e : soundFrom 11 i t ≡ t
   used-size : length (usedAt 11 i t) ≡ size
   unfolding parameterAt
   used-size =
-      size-cleaned (shapeOf 11) here (tests .0) ∙ sound-size (shapeOf 11) here (tests .0) ∙
-      size-taken (shapeOf 11) size (drop i t) (size-least (shapeOf 11) (drop i t))
+      size-cleaned (shapeOf 11) here (tests .0) ∙ sound-size (shapeOf 11) here (tests .0) ∙ size-here (shapeOf 11) i t
 
   few : size ≤ 5
   unfolding shapeOf pick sizeOf limitsOf
   few = omega (arith, few-values (byteAt (drop i t) 0 + 256 * byteAt (drop i t) 1))
 
-  used-byte : (k : ℕ) → k < 2 → byteAt (usedAt 11 i t) k < 256
-  unfolding cleaned
-  used-byte zero k< = rw (cleaned-byte here _ 0) (mod-lt (byteAt here 0) (omega arith))
-  used-byte (suc zero) k< = rw (cleaned-byte here _ 1) (mod-lt (byteAt here 1) (omega arith))
-  used-byte (suc (suc k)) k< = absurd (omega arith)
+  behind : p .next ≡ i + size
+  behind = is .behind ∙ next-inside 11 i t h
 
   pub whole-next : soundFrom 11 (p .next) t ≡ true
-  whole-next = ap (λ n. soundFrom 11 n t) (is .behind) ∙ tests .1
+  whole-next = ap (λ n. soundFrom 11 n t) behind ∙ tests .1
 
   pub behind-two : i + 2 ≤ p .next
-  behind-two = omega (arith, is .behind, size-least (shapeOf 11) (drop i t))
+  behind-two = omega (arith, behind, size-least (shapeOf 11) (drop i t))
 
   used : usedAt 11 i t ≡ settingBytes (p .selector) (p .first) (p .second) (p .third) (p .next - i - 2)
   used =
       let least = size-least (shapeOf 11) (drop i t) in
       let n = used-size in
       let most = few in
-      let count : length (usedAt 11 i t) - 2 ≡ p .next - i - 2 = omega (arith, is .behind) in
-      apart (usedAt 11 i t) (omega arith) (omega arith) (used-byte 0 (omega arith)) (used-byte 1 (omega arith)) ∙
+      let count : length (usedAt 11 i t) - 2 ≡ p .next - i - 2 = omega (arith, behind) in
+      apart (usedAt 11 i t) (omega arith) (omega arith) (selector-bytes (shapeOf 11) here) ∙
       (λ k. settingBytes (sym (is .selected) k) (sym (is .one) k) (sym (is .two) k) (sym (is .three) k) (count k))
 
-  pub first-setting : joined (parametersFrom 11 i t) ≡
+  first-setting : joined (parametersFrom 11 i t) ≡
       settingBytes (p .selector) (p .first) (p .second) (p .third) (p .next - i - 2) ++ joined (parametersFrom 11 (p .next) t)
   unfolding joined
-  first-setting = ap joined (is .list) ∙ ap (λ u. u ++ joined (parametersFrom 11 (p .next) t)) used
+  first-setting = ap joined (is .list h) ∙ ap (λ u. u ++ joined (parametersFrom 11 (p .next) t)) used
+
+  -- a turn of the loop
+  pub setting-put : {all before area after : List ℕ} {at next end : ℕ} → Left all before at (joined (parametersFrom 11 i t)) area next →
+      Puts (settingBytes (p .selector) (p .first) (p .second) (p .third) (p .next - i - 2)) area next end after →
+      Left all before at (joined (parametersFrom 11 (p .next) t)) after end
+  setting-put l w = turn first-setting l w
 
 pub no-settings : (t : List ℕ) (i : ℕ) → length t ≤ i → joined (parametersFrom 11 i t) ≡ []
 unfolding joined

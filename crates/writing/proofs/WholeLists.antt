@@ -1,20 +1,19 @@
 -- Parameter lists: a list fits when it is whole, and is its own bytes where every bit is used.
 use mathlib.Core.Path.{_≡_, refl, sym, ap, ap₂, _∙_}
-use Prim.Native.Nat.{ℕ, zero, suc, _+_, _*_, _%_, _<_, _≤_}
-use native.Mathlib.Nat.{mod-eq-of-lt}
+use Prim.Native.Nat.{ℕ, zero, suc, _+_, _*_, _<_}
 use native.Mathlib.Omega.{arith}
 use mathlib.Core.Bool.{Bool, true, false, _&&_, and-true, and-false, and-assoc}
-use mathlib.Core.List.{List, [], _∷_, map, zipWith}
+use mathlib.Core.List.{List, [], _∷_, map}
 use lib.Dec.{leb, ltb, eqb}
 use lib.ListN.{length, replicate}
 use borrow.Author.Tests.{leb-true, lt-ltb, eqb-true, eqb-false, eq-eqb, ne-eqb}
-use Rattle.rules.specs.Choice.{pick, within, isEmpty, all, joined}
-use Rattle.rules.specs.Messages.Layout.{byteAt, widthsOf, fits}
+use Rattle.rules.specs.Choice.{pick, within, isEmpty, all}
+use Rattle.rules.specs.Messages.Layout.{widthsOf, fits}
 use Rattle.rules.specs.Messages.Parameters.{Shape, initiation, question, setting, selector, inputCountState, definedSelector, definedValue}
-use Rattle.rules.specs.Messages.Parameters.{questionLimits, limitsOf, sizeOf, soundParameter, fitsParameter, cleaned, cut}
+use Rattle.rules.specs.Messages.Parameters.{sizeOf, soundParameter, fitsParameter, cleaned, cut}
 use Rattle.rules.specs.Messages.Forms.{forms, formOf}
 use Rattle.rules.specs.Messages.Codec.{allBytes, definedFields, fitsTail, fitsAs, fitsHeld}
-use Rattle.rules.proofs.Tests.{both, halves, pick-case, pick-same, all-cons, all-joined}
+use Rattle.rules.proofs.Tests.{both, halves, pick-same, all-cons, all-joined}
 use Rattle.rules.proofs.ParameterLists.{Cleanable, initiation-cleanable, question-cleanable, setting-cleanable}
 use Rattle.rules.proofs.ParameterLists.{joined-cut, limits-cleaned, selector-cleaned, count-cleaned, cut-cleaned-fits, cut-cleaned-sound}
 use Rattle.message.specs.declared.Part.{Part}

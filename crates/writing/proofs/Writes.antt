@@ -1,45 +1,47 @@
 -- Writing to the front of an area: each refusal, and the bytes.
 use mathlib.Core.Path.{_≡_, refl, sym, ap, ap₂, _∙_}
-use Prim.Native.Nat.{ℕ, zero, suc, _+_, _*_, _%_, _<_, _≤_}
+use Prim.Native.Nat.{ℕ, zero, suc, _+_, _*_, _%_, _≤_}
 use native.Mathlib.Nat.{mod-eq-of-lt}
 use native.Mathlib.Omega.{arith}
 use mathlib.Core.Bool.{Bool, true, false, _&&_, false≢true}
-use mathlib.Core.List.{List, [], _∷_, _++_, map, zipWith, append-nil, append-assoc}
+use mathlib.Core.List.{List, [], _∷_, _++_, map, zipWith, append-nil}
 use lib.Dec.{leb, ltb, eqb}
-use lib.ListN.{length, replicate, length-append}
-use borrow.Author.Tests.{lt-ltb, le-ltb, ltb-true, leb-true, eqb-true}
+use lib.ListN.{length, take, drop, replicate}
+use lib.Seq.{take-append-seam}
+use borrow.Author.Tests.{ltb-true, ltb-false, leb-true, eqb-true}
 use Rattle.rules.specs.Choice.{pick, isEmpty, all, joined}
-use Rattle.rules.specs.Numbers.{messageSize, messageArea}
+use Rattle.rules.specs.Numbers.{messageSize, messageArea, accepted, smallArea, wrongLength, wrongType, unsound}
 use Rattle.rules.specs.Calls.{areaAfter}
-use Rattle.rules.specs.Area.{puts, spot}
 use Rattle.rules.specs.Messages.Layout.{widthsOf, fits, writeGroups}
-use Rattle.rules.specs.Messages.Parameters.{Shape, initiation, question, setting, questionLimits, limitsOf, cleaned, cut}
+use Rattle.rules.specs.Messages.Parameters.{Shape, initiation, question, questionLimits, limitsOf, cleaned, cut}
 use Rattle.rules.specs.Messages.Parameters as parameters
 use Rattle.rules.specs.Messages.Forms as forms
-use Rattle.rules.specs.Messages.Forms.{formOf, nothing, text, setAndText, list}
+use Rattle.rules.specs.Messages.Forms.{formOf, text, setAndText, list}
 use Rattle.rules.specs.Messages.Codec.{Outcome, refused, sound, Held, message, other, allBytes, definedKind, definedFields, fitsTail, fitsAs, fitsHeld}
 use Rattle.rules.specs.Messages.Codec.{tailBytes, bytesAs, bytesOf, kindOf, read, written}
-use Rattle.rules.proofs.Tests.{both, halves, thirds, quarters, pick-true, pick-false, pick-case, all-cons, all-joined}
+use Rattle.rules.proofs.Tests.{halves, thirds, quarters, pick-true, pick-false, pick-case, all-cons, all-joined}
 use Rattle.rules.proofs.Areas.{puts-front}
 use Rattle.rules.proofs.Outcomes.{refused-sound, sound-same}
 use Rattle.rules.proofs.RoundTrip.{round-trip}
 use Rattle.rules.proofs.ParameterLists.{joined-cut}
-use Rattle.message.specs.declared.Part.{Part}
 use Rattle.message.specs.declared.Message.{Message}
 use Rattle.message.specs.declared.StartReadFields.{StartReadFields}
 use Rattle.message.specs.declared.Message.the-variants.{Initiate, StartRead, ReadData, OutOfBand, Unread, ClearInput, Write}
 use Rattle.message.specs.declared.Message.the-variants.{WriteCompletion, DiscardState, ReadCharacteristics, Characteristics}
 use Rattle.message.specs.declared.Message.the-variants.{CheckInput, InputCount, InputState, Other}
-use Rattle.message.specs.Found.{partOf, parametersOf, startReadIn, heldIn, asHeld}
-use Rattle.message.specs.Lists.{shapeOf, soundFrom, parametersFrom}
+use Rattle.message.specs.declared.Found.{Found}
+use Rattle.message.specs.declared.Found.the-variants as variants
+use Rattle.message.specs.Found.{Finds, partOf, parametersOf, startReadIn, heldIn, asHeld, foundIn, foundInside}
+use Rattle.message.specs.Lists.{soundFrom}
 use Rattle.message.proofs.Shapes.{list-from, is-setting}
 use Rattle.writing.specs.declared.Written.{Written}
 use Rattle.writing.specs.Puts.{Puts}
 use Rattle.writing.specs.Front.{frontTail, frontBytes}
 use Rattle.writing.specs.declared.parts.Parts.{Parts}
-use Rattle.writing.specs.Parts.{partsOf, sizeOf, sizeIn, inside, listBytes}
-use Rattle.writing.specs.Writing.{Answers, writing, again, copied, numberIn, bytesIn}
-use Rattle.writing.proofs.Lengths.{cut-short, held-length, inside-length}
+use Rattle.writing.specs.Parts.{partsOf, sizeOf, inside, listBytes}
+use Rattle.writing.specs.Fits.{FitsIn}
+use Rattle.writing.specs.Writing.{Answers, firstRefusal, writing, again, copied, numberIn, bytesIn}
+use Rattle.writing.proofs.Lengths.{cut-short, inside-length, all-inside}
 use Rattle.writing.proofs.Fitting.{part-bytes}
 use Rattle.writing.proofs.WholeLists.{setting-fits}
 
@@ -58,6 +60,16 @@ refusal {before = before} e =
 -- one outcome for another that it equals
 pub answers-as : {o o′ : Outcome (List ℕ)} {before after : List ℕ} {r : Written} → o ≡ o′ → Answers o′ before r after → Answers o before r after
 answers-as e w = rw e w
+
+-- bytes that were written stand in front
+module _ {bytes before after : List ℕ} {r : Written} (w : Answers (sound bytes) before r after) where
+  answer-accepted : r .number ≡ accepted
+  unfolding numberIn
+  answer-accepted = w .number
+
+  front-bytes : take (r .len) after ≡ bytes
+  unfolding bytesIn areaAfter
+  front-bytes = ap₂ take (w .len) (w .area) ∙ take-append-seam bytes (drop (length bytes) before)
 
 -- bytes put from the front on, where there is room
 pub put-in-front : {o : Outcome (List ℕ)} {bytes before after : List ℕ} {n : ℕ} → o ≡ sound bytes → length bytes ≤ length before →
@@ -192,79 +204,47 @@ module _ (s : List ℕ) (bytes : allBytes s ≡ true) where
   whole-bytes (Other kind body) e = absurd (never-other kind (partOf s body) e)
 
 -- The rows, in their order.
-module _ (area : ℕ) (h : Held) where
-  pub row-area : area < 256 → written area h ≡ refused 1
-  unfolding written messageArea
-  row-area a = pick-true _ _ (lt-ltb area 256 a)
+abbrev rows : ℕ → ℕ → ℕ → Bool → Outcome (List ℕ) → Outcome (List ℕ)
+rows area size kind fits x =
+    pick (ltb area messageArea) (refused smallArea)
+    (pick (ltb messageSize size) (refused wrongLength)
+    (pick (definedKind kind) (pick fits x (refused unsound)) (refused wrongType)))
 
-  module _ (a : 256 ≤ area) where
-    pub row-length : 256 < length (bytesOf h) → written area h ≡ refused 2
-    unfolding written messageArea messageSize
-    row-length l = pick-false _ _ (le-ltb area 256 a) ∙ pick-true _ _ (lt-ltb 256 (length (bytesOf h)) l)
+row-of : (a l k f : Bool) {n : ℕ} → n ≡ pick a 1 (pick l 2 (pick k (pick f 0 5) 3)) → (n ≡ 0 → ⊥) → (x : Outcome (List ℕ)) →
+    pick a (refused 1) (pick l (refused 2) (pick k (pick f x (refused 5)) (refused 3))) ≡ refused n
+unfolding pick
+row-of true l k f e z x = ap refused (sym e)
+row-of false true k f e z x = ap refused (sym e)
+row-of false false false f e z x = ap refused (sym e)
+row-of false false true false e z x = ap refused (sym e)
+row-of false false true true e z x = absurd (z e)
 
-    module _ (l : length (bytesOf h) ≤ 256) where
-      pub row-type : definedKind (kindOf h) ≡ false → written area h ≡ refused 3
-      unfolding written messageArea messageSize
-      row-type k = pick-false _ _ (le-ltb area 256 a) ∙ pick-false _ _ (le-ltb 256 (length (bytesOf h)) l) ∙ pick-false _ _ k
+all-passed : (a l k f : Bool) {n : ℕ} → n ≡ pick a 1 (pick l 2 (pick k (pick f 0 5) 3)) → n ≡ 0 →
+    (a ≡ false) × (l ≡ false) × (k ≡ true) × (f ≡ true)
+unfolding pick
+all-passed true l k f e z = absurd (omega arith)
+all-passed false true k f e z = absurd (omega arith)
+all-passed false false false f e z = absurd (omega arith)
+all-passed false false true false e z = absurd (omega arith)
+all-passed false false true true e z = (refl, refl, refl, refl)
 
-      module _ (k : definedKind (kindOf h) ≡ true) where
-        pub row-fits : fitsHeld h ≡ false → written area h ≡ refused 5
-        unfolding written messageArea messageSize
-        row-fits f =
-            pick-false _ _ (le-ltb area 256 a) ∙ pick-false _ _ (le-ltb 256 (length (bytesOf h)) l) ∙ pick-true _ _ k ∙ pick-false _ _ f
+module _ (area size kind : ℕ) (fits : Bool) {n : ℕ} (e : n ≡ firstRefusal area size kind fits) where
+  rows-refused : (n ≡ 0 → ⊥) → (x : Outcome (List ℕ)) → rows area size kind fits x ≡ refused n
+  unfolding firstRefusal
+  rows-refused z x = row-of (ltb area messageArea) (ltb messageSize size) (definedKind kind) fits e z x
 
-        pub row-sound : fitsHeld h ≡ true → written area h ≡ sound (bytesOf h)
-        unfolding written messageArea messageSize
-        row-sound f =
-            pick-false _ _ (le-ltb area 256 a) ∙ pick-false _ _ (le-ltb 256 (length (bytesOf h)) l) ∙ pick-true _ _ k ∙ pick-true _ _ f
+  module _ (z : n ≡ 0) where
+    tests : (ltb area messageArea ≡ false) × (ltb messageSize size ≡ false) × (definedKind kind ≡ true) × (fits ≡ true)
+    unfolding firstRefusal
+    tests = all-passed (ltb area messageArea) (ltb messageSize size) (definedKind kind) fits e z
 
--- What the code finds of a message by its parts.
-module _ (s : List ℕ) (m : Message) {p : Parts} (is : p ≡ partsOf m) where
-  pub size-held : {n : ℕ} → n ≡ sizeIn s p → n ≡ length (bytesOf (heldIn s m))
-  size-held e = e ∙ ap (sizeIn s) is ∙ sym (held-length s m)
+    rows-passed : (x : Outcome (List ℕ)) → rows area size kind fits x ≡ x
+    rows-passed x =
+        pick-false _ _ (tests .0) ∙ pick-false _ _ (tests .1) ∙ pick-true _ _ (tests .2) ∙ pick-true _ _ (tests .3)
 
-  pub known-held : {t : Bool} → t ≡ definedKind (p .kind) → t ≡ definedKind (kindOf (heldIn s m))
-  known-held e = e ∙ ap (λ q. definedKind (q .kind)) is ∙ ap definedKind (kind-held s m)
-
--- The rows of writing by the parts' own lengths.
-module _ (area : ℕ) (s : List ℕ) (m : Message) where
-  pub first-area : area < 256 → writing area s m ≡ refused 1
-  unfolding writing messageArea
-  first-area a = pick-true _ _ (lt-ltb area 256 a)
-
-  module _ (a : 256 ≤ area) {p : Parts} (is : p ≡ partsOf m) where
-    pub first-length : {n : ℕ} → n ≡ sizeOf p → 256 < n → writing area s m ≡ refused 2
-    unfolding writing messageArea messageSize
-    first-length e l =
-        let n = e ∙ ap sizeOf is in
-        pick-false _ _ (le-ltb area 256 a) ∙ pick-true _ _ (lt-ltb 256 (sizeOf (partsOf m)) (omega arith))
-
-    module _ {n : ℕ} (e : n ≡ sizeOf p) (l : n ≤ 256) where
-      short : ltb messageSize (sizeOf (partsOf m)) ≡ false
-      unfolding messageSize
-      short = let n = e ∙ ap sizeOf is in le-ltb 256 (sizeOf (partsOf m)) (omega arith)
-
-      pub first-type : {t : Bool} → t ≡ definedKind (p .kind) → t ≡ false → writing area s m ≡ refused 3
-      unfolding writing messageArea
-      first-type k f =
-          pick-false _ _ (le-ltb area 256 a) ∙ pick-false _ _ short ∙
-          pick-false _ _ (ap (λ q. definedKind (q .kind)) (sym is) ∙ sym k ∙ f)
-
-      module _ {t : Bool} (k : t ≡ definedKind (p .kind)) (y : t ≡ true) where
-        typed : definedKind (partsOf m .kind) ≡ true
-        typed = ap (λ q. definedKind (q .kind)) (sym is) ∙ sym k ∙ y
-
-        pub first-outside : {i : Bool} → i ≡ inside (length s) p → i ≡ false → writing area s m ≡ refused 5
-        unfolding writing messageArea
-        first-outside i f =
-            pick-false _ _ (le-ltb area 256 a) ∙ pick-false _ _ short ∙ pick-true _ _ typed ∙
-            pick-false _ _ (ap (inside (length s)) (sym is) ∙ sym i ∙ f)
-
-        pub first-inside : {i : Bool} → i ≡ inside (length s) p → i ≡ true → writing area s m ≡ written area (heldIn s m)
-        unfolding writing messageArea
-        first-inside i f =
-            pick-false _ _ (le-ltb area 256 a) ∙ pick-false _ _ short ∙ pick-true _ _ typed ∙
-            pick-true _ _ (ap (inside (length s)) (sym is) ∙ sym i ∙ f)
+    rows-room : size ≤ area
+    unfolding messageArea messageSize
+    rows-room = omega (arith, ltb-false area 256 (tests .0), ltb-false 256 size (tests .1))
 
 -- Where every part lies in the slice, the rows are the definition's own.
 same-rows : {A : Type 0} (a l k : Bool) (one two three five x : A) →
@@ -275,15 +255,75 @@ same-rows false true k one two three five x = refl
 same-rows false false true one two three five x = refl
 same-rows false false false one two three five x = refl
 
-pub writing-inside : (area : ℕ) (s : List ℕ) (m : Message) → inside (length s) (partsOf m) ≡ true → writing area s m ≡ written area (heldIn s m)
+writing-inside : (area : ℕ) (s : List ℕ) (m : Message) → inside (length s) (partsOf m) ≡ true → writing area s m ≡ written area (heldIn s m)
 unfolding writing written
 writing-inside area s m e =
     rw (e, inside-length s m e, kind-held s m)
     (same-rows (ltb area messageArea) (ltb messageSize (length (bytesOf (heldIn s m)))) (definedKind (kindOf (heldIn s m))) _ _ _ _ _)
 
+-- The same rows, by the test of its parts and the test of its fields together.
+written-rows : (area : ℕ) (h : Held) {size kind : ℕ} → length (bytesOf h) ≡ size → kindOf h ≡ kind →
+    written area h ≡ rows area size kind (fitsHeld h) (sound (bytesOf h))
+unfolding written
+written-rows area h long is = λ i. rows area (long i) (is i) (fitsHeld h) (sound (bytesOf h))
+
+outside-rows : (area : ℕ) (s : List ℕ) (m : Message) (x : Outcome (List ℕ)) → inside (length s) (partsOf m) ≡ false →
+    writing area s m ≡ rows area (sizeOf (partsOf m)) (partsOf m .kind) false x
+unfolding writing pick
+outside-rows area s m x e = rw e refl
+
+-- What the code finds of a message.
+module _ (area : ℕ) (s : List ℕ) (m : Message) {p : Parts} (is : p ≡ partsOf m) {size : ℕ} (sized : size ≡ sizeOf p)
+    {lie fits : Bool} (lies : lie ≡ inside (length s) p) (fit : FitsIn s m fits)
+    {n : ℕ} (e : n ≡ firstRefusal area size (p .kind) (lie && fits)) where
+  abbrev held : Held
+  held = heldIn s m
+
+  abbrev lying : Bool
+  lying = inside (length s) (partsOf m)
+
+  own : n ≡ firstRefusal area (sizeOf (partsOf m)) (partsOf m .kind) (lying && fitsHeld held)
+  own =
+      e ∙ (λ i. firstRefusal area ((sized ∙ ap sizeOf is) i) (is i .kind) ((lies ∙ ap (inside (length s)) is) i && fits)) ∙
+      ap (firstRefusal area (sizeOf (partsOf m)) (partsOf m .kind)) (by-places lying refl)
+    where
+      by-places : (b : Bool) → lying ≡ b → b && fits ≡ b && fitsHeld held
+      by-places true l = fit .same l
+      by-places false l = refl
+
+  as-rows : writing area s m ≡ rows area (sizeOf (partsOf m)) (partsOf m .kind) (lying && fitsHeld held) (sound (bytesOf held))
+  as-rows = by-places lying refl
+    where
+      by-places : (b : Bool) → lying ≡ b →
+          writing area s m ≡ rows area (sizeOf (partsOf m)) (partsOf m .kind) (b && fitsHeld held) (sound (bytesOf held))
+      by-places true l =
+          writing-inside area s m l ∙ written-rows area held (sym (inside-length s m l)) (sym (kind-held s m))
+      by-places false l = outside-rows area s m (sound (bytesOf held)) l
+
+  pub write-refused : (n ≡ 0 → ⊥) → writing area s m ≡ refused n
+  write-refused z =
+      as-rows ∙ rows-refused area (sizeOf (partsOf m)) (partsOf m .kind) (lying && fitsHeld held) own z (sound (bytesOf held))
+
+  module _ (z : n ≡ 0) where
+    passed : (lying ≡ true) × (fitsHeld held ≡ true)
+    passed = halves lying (fitsHeld held) (tests area (sizeOf (partsOf m)) (partsOf m .kind) (lying && fitsHeld held) own z .3)
+
+    pub write-sound : writing area s m ≡ sound (bytesOf held)
+    write-sound =
+        as-rows ∙ rows-passed area (sizeOf (partsOf m)) (partsOf m .kind) (lying && fitsHeld held) own z (sound (bytesOf held))
+
+    pub write-fits : fitsHeld held ≡ true
+    write-fits = passed .1
+
+    pub write-room : length (bytesOf held) ≤ area
+    write-room =
+        let long = inside-length s m (passed .0) in
+        let room = rows-room area (sizeOf (partsOf m)) (partsOf m .kind) (lying && fitsHeld held) own z in
+        omega arith
+
 -- Copying: what was found, written again.
 module _ (area : ℕ) (s : List ℕ) where
-  pub copy-found : {h : Held} → sound h ≡ asHeld (read s) → copied area s ≡ written area h
+  copy-found : {h : Held} → sound h ≡ asHeld (read s) → copied area s ≡ written area h
   unfolding copied again asHeld
   copy-found {h} e = by-outcome (read s) e
     where
@@ -306,3 +346,36 @@ module _ (area : ℕ) (s : List ℕ) where
   copy-back x bytes e room =
       let r = round-trip s x area bytes e room in
       (r .0, ap (again area) e ∙ r .1, r .2)
+
+-- What reading promises and what writing promises, together: the answer is that of copying, and what was written reads back as
+-- the same fields.
+module _ {s : List ℕ} {f : Found} (found : Finds s (asHeld (read s)) f) {m : Message} (e : f ≡ variants.Message m) where
+  writes-found : (area : ℕ) → copied area s ≡ writing area s m
+  unfolding foundIn foundInside
+  writes-found area =
+      copy-found area s (ap (foundIn s) (sym e) ∙ found .fields) ∙
+      sym (writing-inside area s m (all-inside (length s) m (ap (foundInside (length s)) (sym e) ∙ found .inside)))
+
+  module _ {before after : List ℕ} {r : Written} (w : Answers (writing (length before) s m) before r after) where
+    pub answers-again : Answers (copied (length before) s) before r after
+    answers-again = answers-as (writes-found (length before)) w
+
+    abbrev wrote : List ℕ
+    wrote = take (r .len) after
+
+    abbrev Back : Type 0
+    Back = (r .number ≡ accepted) × ((g : Found) → Finds wrote (asHeld (read wrote)) g → foundIn wrote g ≡ foundIn s f)
+
+    pub reads-back : allBytes s ≡ true → messageArea ≤ length before → Back
+    unfolding foundIn asHeld
+    reads-back bytes room = by-outcome (read s) refl
+      where
+        by-outcome : (o : Outcome (forms.Message ℕ)) → read s ≡ o → Back
+        by-outcome (refused n) o = absurd (refused-sound (sym (ap asHeld o) ∙ sym (found .fields) ∙ ap (foundIn s) e))
+        by-outcome (sound x) o =
+            let b = copy-back (length before) s x bytes o room in
+            let answer : Answers (sound (b .0)) before r after = answers-as (sym (b .1)) answers-again in
+            let there = front-bytes answer in (
+              answer-accepted answer,
+              λ g h. h .fields ∙ ap (λ bytes. asHeld (read bytes)) there ∙ ap asHeld (b .2 ∙ sym o) ∙ sym (found .fields),
+            )

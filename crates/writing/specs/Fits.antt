@@ -5,15 +5,14 @@ use mathlib.Core.Bool.{Bool, true}
 use mathlib.Core.List.{List}
 use lib.ListN.{length}
 use Rattle.rules.specs.Messages.Codec.{allBytes, fitsHeld}
-use Rattle.message.specs.declared.Part.{Part}
 use Rattle.message.specs.declared.Message.{Message}
-use Rattle.message.specs.Found.{heldIn, partOf}
+use Rattle.message.specs.Found.{heldIn}
+use Rattle.writing.specs.Parts.{partsOf, inside}
 
--- whatever bytes its parts have
+-- of a message whose parts lie in the slice
+pub record FitsIn (s : List ℕ) (m : Message) (r : Bool) : Type 0 where
+  pub same : inside (length s) (partsOf m) ≡ true → r ≡ fitsHeld (heldIn s m)
+
+-- the same whatever bytes the parts have
 pub record Fits (m : Message) (r : Bool) : Type 0 where
-  pub same : (s : List ℕ) → allBytes s ≡ true → r ≡ fitsHeld (heldIn s m)
-
--- the same bytes, and as many as the part says
-pub record Clipped (s : List ℕ) (p r : Part) : Type 0 where
-  pub same : partOf s r ≡ partOf s p
-  pub long : length (partOf s r) ≡ r .len
+  pub each : (s : List ℕ) → allBytes s ≡ true → FitsIn s m r

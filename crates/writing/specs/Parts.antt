@@ -2,15 +2,14 @@
 use Prim.Native.Nat.{ℕ, _+_}
 use mathlib.Core.Bool.{Bool, _&&_}
 use mathlib.Core.List.{List}
-use lib.Dec.{leb, eqb}
-use lib.ListN.{length}
+use lib.Dec.{eqb}
 use Rattle.rules.specs.Choice.{pick, joined}
 use Rattle.message.specs.declared.Part.{Part}
 use Rattle.message.specs.declared.Message.{Message}
 use Rattle.message.specs.declared.Message.the-variants.{Initiate, StartRead, ReadData, OutOfBand, Unread, ClearInput, Write}
 use Rattle.message.specs.declared.Message.the-variants.{WriteCompletion, DiscardState, ReadCharacteristics, Characteristics}
 use Rattle.message.specs.declared.Message.the-variants.{CheckInput, InputCount, InputState, Other}
-use Rattle.message.specs.Found.{partOf}
+use Rattle.message.specs.Found.{lies}
 use Rattle.message.specs.Lists.{parametersFrom}
 use Rattle.writing.specs.declared.parts.Parts.{Parts}
 
@@ -52,13 +51,6 @@ partsOf (Other kind body) = withText kind 1 body
 -- how long the message is by the lengths of its parts
 abbrev pub sizeOf : Parts → ℕ
 sizeOf p = p .head + p .list .len + p .set .len + p .text .len
-
--- the same by the bytes that there are
-abbrev pub sizeIn : List ℕ → Parts → ℕ
-sizeIn s p = p .head + length (partOf s (p .list)) + length (partOf s (p .set)) + length (partOf s (p .text))
-
-abbrev pub lies : ℕ → Part → Bool
-lies size p = leb (p .start + p .len) size
 
 unfoldable pub inside : ℕ → Parts → Bool
 inside size p = lies size (p .list) && lies size (p .set) && lies size (p .text) && lies size (p .revision)

@@ -1,6 +1,7 @@
 -- Writing a message: its outcome, and what it leaves in the area.
 use Prim.Native.Nat.{ℕ}
 use mathlib.Core.Path.{_≡_}
+use mathlib.Core.Bool.{Bool}
 use mathlib.Core.List.{List, []}
 use lib.Dec.{ltb}
 use lib.ListN.{length}
@@ -10,11 +11,16 @@ use Rattle.rules.specs.Calls.{areaAfter}
 use Rattle.rules.specs.Messages.Forms as forms
 use Rattle.rules.specs.Messages.Codec.{Outcome, refused, sound, message, definedKind, read, written}
 use Rattle.message.specs.declared.Message.{Message}
-use Rattle.message.specs.declared.Found.{Found}
-use Rattle.message.specs.declared.Found.the-variants as found
 use Rattle.message.specs.Found.{heldIn}
 use Rattle.writing.specs.declared.Written.{Written}
 use Rattle.writing.specs.Parts.{partsOf, sizeOf, inside}
+
+-- the number of the first refusal, or 0: by the area, the length, the type and one more test
+unfoldable pub firstRefusal : ℕ → ℕ → ℕ → Bool → ℕ
+firstRefusal area size kind fits =
+    pick (ltb area messageArea) smallArea
+    (pick (ltb messageSize size) wrongLength
+    (pick (definedKind kind) (pick fits accepted unsound) wrongType))
 
 -- 1, 2 by the parts' own lengths, 3, 5 where a part lies outside the slice, else as the definition has it
 unfoldable pub writing : ℕ → List ℕ → Message → Outcome (List ℕ)
@@ -29,11 +35,6 @@ writing area s m =
 unfoldable pub again : ℕ → Outcome (forms.Message ℕ) → Outcome (List ℕ)
 again area (refused n) = refused n
 again area (sound x) = written area (message x)
-
--- the number of what was found
-abbrev pub foundNumber : Found → ℕ
-foundNumber (found.Message m) = accepted
-foundNumber (found.Refused n) = n
 
 unfoldable pub copied : ℕ → List ℕ → Outcome (List ℕ)
 copied area s = again area (read s)

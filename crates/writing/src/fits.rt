@@ -3,11 +3,10 @@ ghost use mathlib.Core.Path.{_≡_};
 ghost use mathlib.Core.List.{[]};
 ghost use Rattle.rules.specs.Messages.Layout.{widthsOf, fits};
 ghost use Rattle.rules.specs.Messages.Forms.{formOf};
-ghost use Rattle.rules.specs.Messages.Codec.{fitsHeld};
 ghost use Rattle.message.specs.declared.Message.the-variants as variants;
-ghost use Rattle.message.specs.Found.{heldIn, partOf, startReadIn};
+ghost use Rattle.message.specs.Found.{partOf, startReadIn};
 ghost use Rattle.message.specs.Lists.{soundFrom};
-ghost use Rattle.writing.specs.Fits.{Fits, Clipped};
+ghost use Rattle.writing.specs.Fits.{Fits, FitsIn};
 use message::InitiateFields;
 use message::Message;
 use message::Part;
@@ -55,29 +54,13 @@ fn fits_flags(f: StartReadFields) -> bool
         & (f.escapes < 4)
 }
 
-// A part with the length of what there is of it.
-pub(crate) fn clipped(s: &[u8], p: Part) -> Part
-    ensures { λ r. ⌜ Clipped (now (s .entry)) p r ⌝ }
-{
-    let t = message::bytes_of(s, p);
-    Part {
-        start: p.start,
-        len: t.len() as u16,
-    }
-}
-
-fn fits_start_read(f: StartReadFields, s: &[u8]) -> bool
-    ensures { λ r. ⌜ r ≡ fitsHeld (heldIn (now (s .entry)) (variants.StartRead f)) ⌝ }
+fn fits_start_read(f: StartReadFields) -> bool
+    ensures { λ r. ⌜ Fits (variants.StartRead f) r ⌝ }
 {
     let set = f.set;
-    let text = f.text;
     let flags = fits_flags(f);
-    let bytes = message::bytes_of(s, set);
-    let size = bytes.len();
-    let mut g = f;
-    g.text = clipped(s, text);
-    let sound = message::start_read_test(g);
-    flags & (size <= 32) & sound
+    let sound = message::start_read_test(f);
+    flags & (set.len <= 32) & sound
 }
 
 fn fits_list(kind: u8, p: Part, s: &[u8]) -> bool
@@ -88,22 +71,20 @@ fn fits_list(kind: u8, p: Part, s: &[u8]) -> bool
 }
 
 fn fits_initiate(f: InitiateFields, s: &[u8]) -> bool
-    ensures { λ r. ⌜ r ≡ fitsHeld (heldIn (now (s .entry)) (variants.Initiate f)) ⌝ }
+    ensures { λ r. ⌜ FitsIn (now (s .entry)) (variants.Initiate f) r ⌝ }
 {
     let revision = f.revision;
     let parameters = f.parameters;
-    let bytes = message::bytes_of(s, revision);
-    let size = bytes.len();
     let whole = fits_list(1, parameters, s);
-    (size == 8) & whole
+    (revision.len == 8) & whole
 }
 
 pub(crate) fn fits_message(m: Message, s: &[u8]) -> bool
-    ensures { λ r. ⌜ r ≡ fitsHeld (heldIn (now (s .entry)) m) ⌝ }
+    ensures { λ r. ⌜ FitsIn (now (s .entry)) m r ⌝ }
 {
     match m {
         Message::Initiate(f) => fits_initiate(f, s),
-        Message::StartRead(f) => fits_start_read(f, s),
+        Message::StartRead(f) => fits_start_read(f),
         Message::ReadData(f) => fits_read_data(f),
         Message::OutOfBand { discard, character } => discard < 2,
         Message::Unread { condition } => condition < 2,

@@ -1,5 +1,6 @@
 // Each message but Start Read, up to its parameter list.
 ghost use mathlib.Core.Path.{_≡_};
+ghost use Prim.Native.Nat.{_+_, _*_};
 ghost use Rattle.rules.specs.Messages.Layout.{byte, numberOf, writeGroups};
 ghost use lib.ListN.{replicate};
 ghost use Rattle.message.specs.declared.Message.the-variants as variants;
@@ -11,6 +12,7 @@ use crate::put::put_number;
 use crate::put::put_pair;
 use crate::put::put_part;
 use crate::put::put_word;
+use crate::start_read::low_flags;
 use message::InitiateFields;
 use message::Part;
 use message::ReadDataFields;
@@ -67,13 +69,26 @@ pub(crate) fn put_out_of_band(
     put_pair(discard, character, area, next)
 }
 
+// The flags of a Write behind the first four.
+fn high_flags(last: u8, prefix: u8, postfix: u8, wants_completion: u8, transparent: u8) -> u16
+    ensures { λ r. ⌜ r ≡ last + 2 * (prefix + 4 * (postfix + 4 * («wants_completion» + 2 * transparent))) ⌝ }
+{
+    let completion = wants_completion as u16 + 2 * (transparent as u16);
+    last as u16 + 2 * (prefix as u16 + 4 * (postfix as u16 + 4 * completion))
+}
+
 fn write_flags(f: WriteFields) -> u32
     ensures { λ r. ⌜ r ≡ numberOf writeWidths (writeFlags f) ⌝ }
 {
-    let high = f.prefix as u32
-        + 4 * (f.postfix as u32 + 4 * (f.wants_completion as u32 + 2 * (f.transparent as u32)));
-    let low = f.keeps_output as u32 + 2 * (f.first as u32 + 2 * (f.last as u32 + 2 * high));
-    f.lock as u32 + 4 * (f.newline as u32 + 2 * low)
+    let low = low_flags(f.lock, f.newline, f.keeps_output, f.first);
+    let high = high_flags(
+        f.last,
+        f.prefix,
+        f.postfix,
+        f.wants_completion,
+        f.transparent,
+    );
+    low as u32 + 32 * (high as u32)
 }
 
 pub(crate) fn put_write(f: WriteFields, s: &[u8], area: &mut [u8], at: usize) -> usize

@@ -1,6 +1,7 @@
 // The type and the parts of a message, by which its length is known and whether it lies in a slice.
 ghost use mathlib.Core.Path.{_≡_};
-ghost use Rattle.writing.specs.Parts.{partsOf, sizeOf, lies, inside, bare, withText, withList, initiateParts, startReadParts};
+ghost use Rattle.message.specs.Found.{lies};
+ghost use Rattle.writing.specs.Parts.{partsOf, sizeOf, inside, bare, withText, withList, initiateParts, startReadParts};
 use message::Message;
 use message::Part;
 
@@ -15,20 +16,6 @@ pub(crate) struct Parts {
     pub revision: Part,
 }
 
-fn bare(kind: u8, head: u16) -> Parts
-    ensures { λ r. ⌜ r ≡ bare kind head ⌝ }
-{
-    let none = Part { start: 0, len: 0 };
-    Parts {
-        kind,
-        head,
-        list: none,
-        set: none,
-        text: none,
-        revision: none,
-    }
-}
-
 fn with_text(kind: u8, head: u16, text: Part) -> Parts
     ensures { λ r. ⌜ r ≡ withText kind head text ⌝ }
 {
@@ -41,6 +28,13 @@ fn with_text(kind: u8, head: u16, text: Part) -> Parts
         text,
         revision: none,
     }
+}
+
+fn bare(kind: u8, head: u16) -> Parts
+    ensures { λ r. ⌜ r ≡ bare kind head ⌝ }
+{
+    let none = Part { start: 0, len: 0 };
+    with_text(kind, head, none)
 }
 
 fn with_list(kind: u8, head: u16, list: Part) -> Parts

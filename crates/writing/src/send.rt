@@ -13,7 +13,7 @@ use crate::heads::put_write;
 use crate::heads::put_write_completion;
 use crate::parts::parts_of;
 use crate::parts::size_of;
-use crate::put::put_byte;
+use crate::put::put_bytes;
 use crate::put::put_number;
 use crate::put::put_pair;
 use crate::put::put_word;
@@ -76,17 +76,10 @@ pub fn put_setting(
 ) -> usize
     ensures { λ r. ⌜ Puts (settingBytes selector first second third count) (now (area .entry)) at r (now (area .exit)) ⌝ }
 {
+    let value = [first, second, third];
     let next = put_word(selector, area, at);
-    if count == 0 {
-        return next;
+    if count < 3 {
+        return put_bytes(&value[..count], area, next);
     }
-    let next = put_byte(first, area, next);
-    if count == 1 {
-        return next;
-    }
-    let next = put_byte(second, area, next);
-    if count == 2 {
-        return next;
-    }
-    put_byte(third, area, next)
+    put_bytes(&value, area, next)
 }

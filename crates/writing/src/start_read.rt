@@ -12,11 +12,11 @@ use crate::put::put_part;
 use crate::put::put_word;
 use message::StartReadFields;
 
-// The flags of a Start Read, four at a time.
-fn low_flags(underflow: u8, clears: u8, formats: u8, vertical: u8) -> u16
-    ensures { λ r. ⌜ r ≡ underflow + 4 * (clears + 2 * (formats + 2 * vertical)) ⌝ }
+// The flags of a Start Read, four at a time. A Write begins alike: two bits, and three flags of one.
+pub(crate) fn low_flags(first: u8, second: u8, third: u8, fourth: u8) -> u16
+    ensures { λ r. ⌜ r ≡ first + 4 * (second + 2 * (third + 2 * fourth)) ⌝ }
 {
-    underflow as u16 + 4 * (clears as u16 + 2 * (formats as u16 + 2 * (vertical as u16)))
+    first as u16 + 4 * (second as u16 + 2 * (third as u16 + 2 * (fourth as u16)))
 }
 
 fn middle_flags(continues: u8, raises: u8, disables: u8, silent: u8) -> u16

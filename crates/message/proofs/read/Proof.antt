@@ -4,8 +4,10 @@ use mathlib.Core.Bool.{true, _&&_}
 use lib.Dec.{leb}
 use borrow.Author.Needs.{needs}
 use borrow.Author.Tests.{not-true, not-false}
-use Rattle.rules.specs.Messages.Codec.{Outcome, Held, read}
-use Rattle.message.specs.Found.{IsType, asHeld, foundIn, readAs}
+use Rattle.rules.specs.Messages.Codec.{read}
+use Rattle.message.specs.declared.Found.{Found}
+use Rattle.message.specs.Found.{IsType, Finds, asHeld, readAs}
+use Rattle.message.proofs.Reading.{finds-refusal}
 use Rattle.message.proofs.Types.{undefined-kind, wrong-length, wrong-type, is-type, as-type}
 use Rattle.message.proofs.read.Statement.{statement}
 use Rattle.message.proofs.read.Tie as tie
@@ -15,14 +17,19 @@ module _ (b : tie.After-byte-at) {n : ℕ} (t : b .byte-at .result ≡ n) where
   of-type : IsType n (b .before .before .before .args .s .now)
   of-type = is-type (b .before .before .before .args .s .now) (not-false _ (b .before .if1 .left)) (b .byte-at .ensures) t
 
-  as-read : leb 1 n && leb n 14 ≡ true → {o : Outcome Held} → o ≡ readAs n (b .before .before .before .args .s .now) →
-      o ≡ asHeld (read (b .before .before .before .args .s .now))
-  as-read d e =
-      e ∙ as-type (b .before .before .before .args .s .now) (not-false _ (b .before .if1 .left)) (b .byte-at .ensures) t d
+  as-read : leb 1 n && leb n 14 ≡ true → {f : Found} →
+      Finds (b .before .before .before .args .s .now) (readAs n (b .before .before .before .args .s .now)) f →
+      Finds (b .before .before .before .args .s .now) (asHeld (read (b .before .before .before .args .s .now))) f
+  as-read d found =
+      record {
+        fields =
+            found .fields ∙
+            as-type (b .before .before .before .args .s .now) (not-false _ (b .before .if1 .left)) (b .byte-at .ensures) t d;
+        inside = found .inside;
+      }
 
 returns : tie.Need-returns
-unfolding foundIn
-returns c = wrong-length (c .before .before .args .s .now) (not-true _ (c .if1 .taken))
+returns c = finds-refusal (wrong-length (c .before .before .args .s .now) (not-true _ (c .if1 .taken)))
 
 byte-at-requires : tie.Need-byte-at-requires
 byte-at-requires c κs = search needs
@@ -112,11 +119,11 @@ returns-15 : tie.Need-returns-15
 returns-15 c = as-read (c .before .before) (c .before .match .keys14) refl (c .read-input-state .ensures)
 
 returns-16 : tie.Need-returns-16
-unfolding foundIn
 returns-16 c =
     let b = c .before in
-    wrong-type (b .before .before .before .args .s .now) (not-false _ (b .before .if1 .left)) (b .byte-at .ensures)
-    (undefined-kind (c .match .rest))
+    finds-refusal
+    (wrong-type (b .before .before .before .args .s .now) (not-false _ (b .before .if1 .left)) (b .byte-at .ensures)
+    (undefined-kind (c .match .rest)))
 
 pub read-spec : {M : Type 1} → statement M
 read-spec =

@@ -5,21 +5,20 @@ use Rattle.rules.specs.Choice.{pick}
 use Rattle.rules.specs.Messages.Layout.{sizeOf}
 use Rattle.rules.specs.Messages.Forms.{forms, formOf}
 use Rattle.rules.specs.Messages.Codec.{behindHead, wholeTail}
-use Rattle.message.specs.Found.{foundIn}
 use Rattle.message.specs.Lists.{shapeOf, soundFrom}
 use Rattle.message.proofs.Reading.{isFree, head-cut, tail-unsound, free-defined, read-sound}
 use Rattle.message.proofs.listed.read_initiate.Statement.{statement}
 use Rattle.message.proofs.listed.read_initiate.Tie as tie
 
 returns : tie.Need-returns
-unfolding foundIn formOf forms sizeOf
+unfolding formOf forms sizeOf
 returns c = head-cut 1 (c .before .before .args .s .now) (c .if1 .taken)
 
 whole-list-requires : tie.Need-whole-list-requires
 whole-list-requires c κs = search needs
 
 returns-2 : tie.Need-returns-2
-unfolding foundIn formOf forms sizeOf behindHead wholeTail soundFrom shapeOf pick
+unfolding formOf forms sizeOf behindHead wholeTail soundFrom shapeOf pick
 returns-2 c =
     let b = c .before in
     tail-unsound 1 (b .before .before .before .args .s .now) (sym (b .whole-list .ensures) ∙ not-true _ (c .if2 .taken))
@@ -28,7 +27,7 @@ initiate-fields-requires : tie.Need-initiate-fields-requires
 initiate-fields-requires c κs = search needs
 
 returns-3 : tie.Need-returns-3
-unfolding foundIn formOf forms sizeOf behindHead wholeTail soundFrom shapeOf pick isFree
+unfolding formOf forms sizeOf behindHead wholeTail soundFrom shapeOf pick isFree
 returns-3 c =
     let b = c .before .before in
     let a = b .before .before .before in

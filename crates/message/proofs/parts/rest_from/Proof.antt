@@ -18,13 +18,13 @@ returns : tie.Need-returns
 unfolding partOf
 returns c =
     let a = c .before .args in
-    record { same = all-behind (a .s .now) (a .at) (length (a .s .now) - a .at) (omega arith); long = refl }
+    record { same = all-behind (a .s .now) (a .at) (length (a .s .now) - a .at) (omega arith); long = refl; inside = λ h. omega arith }
 
 returns-2 : tie.Need-returns-2
 unfolding partOf
 returns-2 c =
     let a = c .before .args in
-    record { same = all-behind (a .s .now) (a .at) 0 (omega arith); long = omega arith }
+    record { same = all-behind (a .s .now) (a .at) 0 (omega arith); long = omega arith; inside = λ h. omega arith }
 
 pub rest-from-spec : {M : Type 1} → statement M
 rest-from-spec = tie.close (tie.spec cast-size sub-t6 returns returns-2)

@@ -1,18 +1,18 @@
-use mathlib.Core.Path.{sym, ap, _∙_}
+use mathlib.Core.Path.{sym, _∙_}
 use borrow.Author.Tests.{not-true, not-false}
 use borrow.Author.Needs.{needs}
 use Rattle.rules.specs.Choice.{pick}
 use Rattle.rules.specs.Messages.Layout.{sizeOf}
 use Rattle.rules.specs.Messages.Forms.{forms, formOf}
-use Rattle.rules.specs.Messages.Codec.{message, definedFields}
-use Rattle.message.specs.Found.{startReadIn, heldIn, foundIn}
+use Rattle.rules.specs.Messages.Codec.{definedFields}
+use Rattle.message.specs.Found.{startReadIn, heldIn}
 use Rattle.message.proofs.Reading.{head-cut, tail-unsound, field-undefined, defined-as, read-sound}
 use Rattle.message.proofs.SetAndText.{whole-set}
 use Rattle.message.proofs.start_read.read_start_read.Statement.{statement}
 use Rattle.message.proofs.start_read.read_start_read.Tie as tie
 
 returns : tie.Need-returns
-unfolding foundIn formOf forms sizeOf
+unfolding formOf forms sizeOf
 returns c = head-cut 2 (c .before .before .args .s .now) (c .if1 .taken)
 
 sub-behind : tie.Need-sub-behind
@@ -25,7 +25,6 @@ cast-count : tie.Need-cast-count
 cast-count c = search needs
 
 returns-2 : tie.Need-returns-2
-unfolding foundIn
 returns-2 c =
     let b = c .before in
     let s = b .before .before .before .args .s .now in
@@ -38,23 +37,22 @@ start-read-test-requires : tie.Need-start-read-test-requires
 start-read-test-requires c κs = search needs
 
 returns-3 : tie.Need-returns-3
-unfolding foundIn heldIn formOf forms sizeOf startReadIn definedFields pick
+unfolding heldIn formOf forms sizeOf startReadIn definedFields pick
 returns-3 c =
     let b = c .before .before in
     let d = b .before .before in
     let s = d .before .before .before .args .s .now in
     let is = b .start-read-fields .ensures in
-    let e = ap message (is .fields) in
-    read-sound 2 s e (d .before .if1 .left) (whole-set s (d .byte-at .ensures) ∙ not-false _ (b .before .if2 .left))
-    (defined-as 2 s e (sym (c .before .start-read-test .ensures s (is .long)) ∙ c .if3 .taken))
+    read-sound 2 s (is .read) (d .before .if1 .left) (whole-set s (d .byte-at .ensures) ∙ not-false _ (b .before .if2 .left))
+    (defined-as 2 s (is .read .fields) (sym (c .before .start-read-test .ensures s (is .long)) ∙ c .if3 .taken))
 
 returns-4 : tie.Need-returns-4
-unfolding foundIn startReadIn definedFields pick
+unfolding heldIn startReadIn definedFields pick
 returns-4 c =
     let b = c .before .before in
     let s = b .before .before .before .before .before .args .s .now in
     let is = b .start-read-fields .ensures in
-    field-undefined 2 s (defined-as 2 s (ap message (is .fields)) (sym (c .before .start-read-test .ensures s (is .long)) ∙ c .if3 .left))
+    field-undefined 2 s (defined-as 2 s (is .read .fields) (sym (c .before .start-read-test .ensures s (is .long)) ∙ c .if3 .left))
 
 pub read-start-read-spec : {M : Type 1} → statement M
 read-start-read-spec =

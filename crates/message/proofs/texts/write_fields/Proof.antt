@@ -2,11 +2,13 @@ use mathlib.Core.Path.{refl}
 use mathlib.Core.List.{[], _∷_}
 use native.Mathlib.Omega.{arith}
 use borrow.Author.Needs.{needs}
+use Rattle.rules.specs.Choice.{all}
 use Rattle.rules.specs.Messages.Layout.{sizeOf, fieldsIn}
 use Rattle.rules.specs.Messages.Forms.{forms, formOf}
-use Rattle.message.specs.Found.{heldIn}
+use Rattle.rules.proofs.Tests.{both}
+use Rattle.message.specs.Found.{heldIn, placesOf}
 use Rattle.message.proofs.Heads.{no-more, flags-first, byte-first}
-use Rattle.message.proofs.Reading.{text-fields}
+use Rattle.message.proofs.Reading.{rest-lies, text-fields}
 use Rattle.message.proofs.texts.write_fields.Statement.{statement}
 use Rattle.message.proofs.texts.write_fields.Tie as tie
 
@@ -50,15 +52,20 @@ cast-t31 : tie.Need-cast-t31
 cast-t31 c = search needs
 
 returns : tie.Need-returns
-unfolding heldIn formOf forms sizeOf fieldsIn
+unfolding heldIn placesOf all formOf forms sizeOf fieldsIn
 returns c =
     let b = c .before .before .before in
     let a = b .before .before in
-    text-fields 7 (a .args .s .now) (a .pre .typed)
-    (flags-first 2 (2 ∷ 1 ∷ 1 ∷ 1 ∷ 1 ∷ 2 ∷ 2 ∷ 1 ∷ 1 ∷ []) (b .word-at .result) (b .word-at .ensures)
-    (byte-first (c .before .before .byte-at .ensures) (omega arith)
-    (byte-first (c .before .byte-at2 .ensures) (omega arith) no-more)))
-    (c .rest-from .ensures) refl
+    let s = a .args .s .now in
+    let rest = c .rest-from .ensures in
+    record {
+      fields = text-fields 7 s (a .pre .typed)
+          (flags-first 2 (2 ∷ 1 ∷ 1 ∷ 1 ∷ 1 ∷ 2 ∷ 2 ∷ 1 ∷ 1 ∷ []) (b .word-at .result) (b .word-at .ensures)
+          (byte-first (c .before .before .byte-at .ensures) (omega arith)
+          (byte-first (c .before .byte-at2 .ensures) (omega arith) no-more)))
+          rest refl;
+      inside = λ e. both (rest-lies 7 s rest e) refl;
+    }
 
 pub write-fields-spec : {M : Type 1} → statement M
 write-fields-spec =

@@ -5,7 +5,7 @@ use Rattle.rules.specs.Messages.Layout.{widthsOf, fits}
 use Rattle.rules.specs.Messages.Forms.{forms, formOf}
 use Rattle.rules.specs.Messages.Codec.{definedFields, fitsTail, fitsAs, fitsHeld}
 use Rattle.message.specs.Found.{heldIn}
-use Rattle.writing.proofs.Fitting.{bytes-all, held-fits, unread-fits, discard-fits, state-fits, band-fits, completion-fits, count-fits}
+use Rattle.writing.proofs.Fitting.{bytes-all, fits-as, held-fits, unread-fits, discard-fits, state-fits, band-fits, completion-fits, count-fits}
 use Rattle.writing.proofs.WholeLists.{question-fits, setting-fits}
 use borrow.Author.Needs.{needs}
 use Rattle.writing.proofs.fits.fits_message.Statement.{statement}
@@ -75,13 +75,13 @@ enum-told-3 : tie.Need-enum-told-3
 enum-told-3 c = search needs
 
 returns : tie.Need-returns
-returns c = held-fits (c .before .before .before .before .before .args .s .now) (c .before .before .m .given .1) (c .fits-initiate .ensures)
+returns c = fits-as (c .before .before .before .before .before .args .s .now) (c .before .before .m .given .1) (c .fits-initiate .ensures)
 
 returns-2 : tie.Need-returns-2
-returns-2 c = held-fits (c .before .before .before .before .before .args .s .now) (c .before .before .m2 .given .1) (c .fits-start-read .ensures)
+returns-2 c = fits-as (c .before .before .before .before .before .args .s .now) (c .before .before .m2 .given .1) (c .fits-start-read .ensures .each _ (bytes-all (c .before .before .before .before .before .args .s .now) (λ i. omega (arith, c .before .before .before .before .shared-slice-known .given i))))
 
 returns-3 : tie.Need-returns-3
-returns-3 c = held-fits (c .before .before .before .before .before .args .s .now) (c .before .before .m3 .given .1) (c .fits-read-data .ensures .same _ (bytes-all (c .before .before .before .before .before .args .s .now) (λ i. omega (arith, c .before .before .before .before .shared-slice-known .given i))))
+returns-3 c = fits-as (c .before .before .before .before .before .args .s .now) (c .before .before .m3 .given .1) (c .fits-read-data .ensures .each _ (bytes-all (c .before .before .before .before .before .args .s .now) (λ i. omega (arith, c .before .before .before .before .shared-slice-known .given i))))
 
 returns-4 : tie.Need-returns-4
 returns-4 c = held-fits (c .before .before .before .before .args .s .now) (c .before .m4 .given .1) (band-fits _ _ _ (omega arith))
@@ -94,7 +94,7 @@ unfolding heldIn fitsHeld fitsAs formOf forms widthsOf fits fitsTail definedFiel
 returns-6 c = held-fits (c .before .before .before .args .s .now) (c .enum-told .given .1) refl
 
 returns-7 : tie.Need-returns-7
-returns-7 c = held-fits (c .before .before .before .before .before .args .s .now) (c .before .before .m6 .given .1) (c .fits-write .ensures .same _ (bytes-all (c .before .before .before .before .before .args .s .now) (λ i. omega (arith, c .before .before .before .before .shared-slice-known .given i))))
+returns-7 c = fits-as (c .before .before .before .before .before .args .s .now) (c .before .before .m6 .given .1) (c .fits-write .ensures .each _ (bytes-all (c .before .before .before .before .before .args .s .now) (λ i. omega (arith, c .before .before .before .before .shared-slice-known .given i))))
 
 returns-8 : tie.Need-returns-8
 returns-8 c = held-fits (c .before .before .before .before .args .s .now) (c .before .m7 .given .1) (completion-fits _ _ _ _ (omega arith) (omega arith))

@@ -1,6 +1,7 @@
+use mathlib.Core.Path.{refl}
 use native.Mathlib.Omega.{arith}
 use Rattle.message.specs.Found.{heldIn}
-use Rattle.writing.proofs.Fitting.{part-bytes, write-fits}
+use Rattle.writing.proofs.Fitting.{part-bytes, held-fits, write-fits}
 use Rattle.writing.proofs.fits.fits_write.Statement.{statement}
 use Rattle.writing.proofs.fits.fits_write.Tie as tie
 
@@ -9,10 +10,11 @@ unfolding heldIn
 returns c =
     let f = c .before .before .before .before .before .before .before .before .before .before .before .args .f in
     record {
-      same =
+      each =
           λ s bytes.
-          write-fits (f .lock) (f .newline) (f .«keeps_output») (f .first) (f .last) (f .prefix) (f .postfix) (f .«wants_completion»)
-          (f .transparent) _ (omega (arith, c .struct-known11 .given)) (omega (arith, c .struct-known11 .given)) (part-bytes s (f .text) bytes);
+          held-fits s refl
+          (write-fits (f .lock) (f .newline) (f .«keeps_output») (f .first) (f .last) (f .prefix) (f .postfix) (f .«wants_completion»)
+          (f .transparent) _ (omega (arith, c .struct-known11 .given)) (omega (arith, c .struct-known11 .given)) (part-bytes s (f .text) bytes));
     }
 
 pub fits-write-spec : {M : Type 1} → statement M

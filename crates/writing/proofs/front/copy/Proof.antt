@@ -1,8 +1,7 @@
 use mathlib.Core.Path.{sym, ap, _∙_}
 use Rattle.rules.specs.Messages.Codec.{refused}
-use Rattle.message.specs.Found.{foundIn}
-use Rattle.writing.specs.Writing.{foundNumber}
-use Rattle.writing.proofs.Writes.{refusal, answers-as, copy-found, copy-refused}
+use Rattle.message.specs.Found.{foundIn, foundNumber}
+use Rattle.writing.proofs.Writes.{refusal, copy-refused, answers-again}
 use borrow.Author.Needs.{needs}
 use Rattle.writing.proofs.front.copy.Statement.{statement}
 use Rattle.writing.proofs.front.copy.Tie as tie
@@ -25,19 +24,18 @@ returns c =
     let s = c .before .before .before .before .before .before .args .s .now in
     let e = c .before .enum-told .given .1 in
     refusal
-    (copy-refused _ s (ap (foundIn s) (sym e) ∙ c .before .before .before .read .ensures) ∙ ap refused (sym (c .number-of .ensures ∙ ap foundNumber e)))
+    (copy-refused _ s (ap (foundIn s) (sym e) ∙ c .before .before .before .read .ensures .fields) ∙ ap refused (sym (c .number-of .ensures ∙ ap foundNumber e)))
 
-write-held-requires : tie.Need-write-held-requires
-write-held-requires c κs = tt
+write-requires : tie.Need-write-requires
+write-requires c κs = tt
 
 same-length : tie.Need-same-length
-same-length c = c .before .before .write-held .ensures .same
+same-length c = c .before .before .write .ensures .same
 
 returns-2 : tie.Need-returns-2
-unfolding foundIn
 returns-2 c =
-    let s = c .before .before .before .before .before .before .before .before .before .before .args .s .now in
-    answers-as (copy-found _ s (ap (foundIn s) (sym (c .before .before .before .before .before .f .given .1)) ∙ c .before .before .before .before .before .before .before .read .ensures)) (c .before .before .write-held .ensures)
+    let b = c .before .before .before .before .before in
+    answers-again (b .before .before .read .ensures) (b .f .given .1) (c .before .before .write .ensures)
 
 pub copy-spec : {M : Type 1} → statement M
 copy-spec =
@@ -48,6 +46,6 @@ copy-spec =
     enum-told
     number-of-requires
     returns
-    write-held-requires
+    write-requires
     same-length
     returns-2)

@@ -1,64 +1,87 @@
-use mathlib.Core.Path.{sym}
-use borrow.Author.Tests.{not-true, not-false}
-use Rattle.writing.proofs.Writes.{refusal, answers-as, first-area, first-length, first-type, first-outside, first-inside}
+use mathlib.Core.Path.{sym, ap, _∙_}
+use native.Mathlib.Omega.{arith}
+use Rattle.message.specs.Found.{partOf}
+use Rattle.message.specs.Lists.{soundFrom}
+use Rattle.writing.specs.Parts.{listBytes}
+use Rattle.writing.proofs.Putting.{equals, joins}
+use Rattle.writing.proofs.Fitting.{bytes-all}
+use Rattle.writing.proofs.Writes.{refusal, put-in-front, list-whole, whole-bytes, write-refused, write-sound, write-fits, write-room}
 use Rattle.writing.proofs.front.write.Statement.{statement}
 use Rattle.writing.proofs.front.write.Tie as tie
 
 parts-of-requires : tie.Need-parts-of-requires
 parts-of-requires c κs = tt
 
-returns : tie.Need-returns
-returns c = refusal (first-area _ _ _ (c .if1 .taken))
-
 size-of-requires : tie.Need-size-of-requires
 size-of-requires c κs = tt
-
-returns-2 : tie.Need-returns-2
-returns-2 c = refusal (first-length _ _ _ (c .before .before .if1 .left) (c .before .before .before .parts-of .ensures) (c .before .size-of .ensures) (c .if2 .taken))
-
-is-known-requires : tie.Need-is-known-requires
-is-known-requires c κs = tt
-
-returns-3 : tie.Need-returns-3
-returns-3 c =
-    refusal
-    (first-type _ _ _ (c .before .before .before .before .if1 .left) (c .before .before .before .before .before .parts-of .ensures) (c .before .before .before .size-of .ensures) (c .before .before .if2 .left) (c .before .is-known .ensures)
-    (not-true _ (c .if3 .taken)))
 
 inside-requires : tie.Need-inside-requires
 inside-requires c κs = tt
 
-returns-4 : tie.Need-returns-4
-returns-4 c =
-    refusal
-    (first-outside _ _ _ (c .before .before .before .before .before .before .if1 .left) (c .before .before .before .before .before .before .before .parts-of .ensures) (c .before .before .before .before .before .size-of .ensures) (c .before .before .before .before .if2 .left) (c .before .before .before .is-known .ensures)
-    (not-false _ (c .before .before .if3 .left)) (c .before .inside .ensures) (not-true _ (c .if4 .taken)))
+fits-message-requires : tie.Need-fits-message-requires
+fits-message-requires c κs = tt
 
-write-held-requires : tie.Need-write-held-requires
-write-held-requires c κs = tt
+first-refusal-requires : tie.Need-first-refusal-requires
+first-refusal-requires c κs = tt
+
+returns : tie.Need-returns
+returns c =
+    let b = c .before .before .before .before in
+    refusal
+    (write-refused _ _ _ (b .before .before .parts-of .ensures) (b .size-of .ensures) (c .before .before .before .inside .ensures)
+    (c .before .before .fits-message .ensures) (c .before .first-refusal .ensures) (c .if1 .taken))
+
+put-message-requires : tie.Need-put-message-requires
+put-message-requires c κs = tt
+
+put-list-requires : tie.Need-put-list-requires
+put-list-requires c κs =
+    let t = c .before .before .before .before .before in
+    let b = t .before .before .before .before in
+    let is = b .before .before .parts-of .ensures in
+    let known = b .before .before .before .before in
+    let a = known .before .args in
+    let s = a .s .now in
+    let bytes = bytes-all s (λ i. omega (arith, known .shared-slice-known .given i)) in
+    let fits =
+    write-fits _ s (a .m) is (b .size-of .ensures) (t .before .before .before .inside .ensures) (t .before .before .fits-message .ensures)
+    (t .before .first-refusal .ensures) (t .if1 .left)
+    in
+    λ k. ap (λ q. soundFrom 11 0 (partOf s (q .list))) is ∙ list-whole s bytes (a .m) fits (ap (λ q. q .kind) (sym is) ∙ k)
 
 same-length : tie.Need-same-length
-same-length c = c .before .before .write-held .ensures .same
+same-length c = c .before .before .put-list .ensures .same ∙ c .before .before .before .before .before .before .put-message .ensures .same
 
-returns-5 : tie.Need-returns-5
-returns-5 c =
-    answers-as
-    (first-inside _ _ _ (c .before .before .before .before .before .before .before .before .before .before .if1 .left) (c .before .before .before .before .before .before .before .before .before .before .before .parts-of .ensures) (c .before .before .before .before .before .before .before .before .before .size-of .ensures) (c .before .before .before .before .before .before .before .before .if2 .left) (c .before .before .before .before .before .before .before .is-known .ensures)
-    (not-false _ (c .before .before .before .before .before .before .if3 .left)) (c .before .before .before .before .before .inside .ensures) (not-false _ (c .before .before .before .before .if4 .left)))
-    (c .before .before .write-held .ensures)
+returns-2 : tie.Need-returns-2
+returns-2 c =
+    let w = c .before .before .before .before .before .before in
+    let t = w .before .before in
+    let b = t .before .before .before .before in
+    let is = b .before .before .parts-of .ensures in
+    let known = b .before .before .before .before in
+    let a = known .before .args in
+    let s = a .s .now in
+    let bytes = bytes-all s (λ i. omega (arith, known .shared-slice-known .given i)) in
+    let size = b .size-of .ensures in
+    let lies = t .before .before .before .inside .ensures in
+    let fit = t .before .before .fits-message .ensures in
+    let number = t .before .first-refusal .ensures in
+    let none = t .if1 .left in
+    let list = equals (ap (λ q. listBytes (q .kind) (partOf s (q .list))) is) (c .before .before .put-list .ensures) in
+    put-in-front (write-sound _ s (a .m) is size lies fit number none) (write-room _ s (a .m) is size lies fit number none)
+    (equals (whole-bytes s bytes (a .m) (write-fits _ s (a .m) is size lies fit number none)) (joins (w .put-message .ensures) list))
 
 pub write-spec : {M : Type 1} → statement M
 write-spec =
     tie.close
     (tie.spec
     parts-of-requires
-    returns
     size-of-requires
-    returns-2
-    is-known-requires
-    returns-3
     inside-requires
-    returns-4
-    write-held-requires
+    fits-message-requires
+    first-refusal-requires
+    returns
+    put-message-requires
+    put-list-requires
     same-length
-    returns-5)
+    returns-2)

@@ -1,5 +1,5 @@
 use mathlib.Core.Path.{_∙_}
-use mathlib.Core.List.{[], _∷_}
+use mathlib.Core.List.{[]}
 use Rattle.rules.specs.Messages.Layout.{fieldsIn}
 use Rattle.writing.proofs.Groups.{headed, field-first, no-more}
 use Rattle.rules.specs.Messages.Forms.{forms, formOf}

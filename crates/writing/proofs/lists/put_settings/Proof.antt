@@ -5,8 +5,8 @@ use mathlib.Core.Bool.{true}
 use lib.ListN.{length}
 use Rattle.rules.specs.Choice.{joined}
 use Rattle.message.specs.Lists.{soundFrom, parametersFrom}
-use Rattle.writing.proofs.Putting.{Left, all-left, turn, none-left}
-use Rattle.writing.proofs.Settings.{whole-next, behind-two, first-setting, no-settings}
+use Rattle.writing.proofs.Putting.{Left, all-left, none-left}
+use Rattle.writing.proofs.Settings.{whole-next, behind-two, setting-put, no-settings}
 use Rattle.writing.proofs.lists.put_settings.Statement.{statement}
 use Rattle.writing.proofs.lists.put_settings.Tie as tie
 
@@ -22,7 +22,7 @@ loop-holds : tie.Need-loop-holds Inv-loop μ-loop
 loop-holds c = (c .before .before .pre, all-left)
 
 parameter-at-requires : tie.Need-parameter-at-requires Inv-loop μ-loop
-parameter-at-requires c κs = omega arith
+parameter-at-requires c κs = tt
 
 sub-count : tie.Need-sub-count Inv-loop μ-loop
 sub-count c =
@@ -44,9 +44,7 @@ put-setting-requires c κs = tt
 loop-less : tie.Need-loop-less Inv-loop μ-loop
 loop-less c =
     let b = c .before .before .before .before .before in
-    let a = b .before .before in
-    let t = a .before .before .before .args .t .now in
-    omega (arith, b .parameter-at .ensures .further)
+    omega (arith, b .parameter-at .ensures .further (b .before .loop-test .taken))
 
 loop-again : tie.Need-loop-again Inv-loop μ-loop
 loop-again c =
@@ -54,8 +52,11 @@ loop-again c =
     let a = b .before .before in
     let t = a .before .before .before .args .t .now in
     let l = b .before .loop-test .taken in
-    let first = first-setting t (a .loop .i) l (a .loop .inv .0) (b .parameter-at .ensures) in
-    (whole-next t (a .loop .i) l (a .loop .inv .0) (b .parameter-at .ensures), turn first (a .loop .inv .1) (c .before .before .put-setting .ensures))
+    let e = a .loop .inv .0 in
+    let is = b .parameter-at .ensures in (
+      whole-next t (a .loop .i) l e is,
+      setting-put t (a .loop .i) l e is (a .loop .inv .1) (c .before .before .put-setting .ensures),
+    )
 
 same-length : tie.Need-same-length Inv-loop μ-loop
 same-length c = c .before .loop .inv .1 .same
