@@ -1,0 +1,31 @@
+-- For the line: the two messages by the bytes of their list, and an answer that is carried.
+use mathlib.Core.Path.{_≡_, refl, ap}
+use Prim.Native.Nat.{ℕ}
+use native.Mathlib.Omega.{arith}
+use mathlib.Core.Bool.{true}
+use mathlib.Core.List.{List, []}
+use Rattle.rules.specs.Messages.Forms as forms
+use Rattle.rules.specs.Messages.Codec.{message}
+use Rattle.rules.specs.State.{Host, State, withHost}
+use Rattle.rules.specs.Calls.{carriesQuestions}
+use Rattle.rules.proofs.Tests.{pick-true}
+use Rattle.message.specs.declared.Part.{Part}
+use Rattle.message.specs.declared.Message.the-variants.{ReadCharacteristics, Characteristics}
+use Rattle.message.specs.Found.{heldIn, partOf, withList}
+use Rattle.message.proofs.Shapes.{is-question, is-setting, list-from}
+use Rattle.characteristics.specs.Lists.{settingsIn, questionsIn, answerTo, reportBytes}
+
+pub held-settings : (s : List ℕ) (p : Part) → heldIn s (Characteristics p) ≡ message (settingsIn (partOf s p))
+unfolding heldIn
+held-settings s p =
+    ap (withList forms.characteristics []) (list-from 11 (is-setting (λ e. omega arith) (λ e. omega arith)) s p)
+
+pub held-questions : (s : List ℕ) (p : Part) → heldIn s (ReadCharacteristics p) ≡ message (questionsIn (partOf s p))
+unfolding heldIn
+held-questions s p =
+    ap (withList forms.readCharacteristics []) (list-from 10 (is-question (λ e. omega arith) refl) s p)
+
+pub report-carried : (h : Host) (list : List ℕ) (s : State ℕ) → carriesQuestions (withHost h s) (questionsIn list) ≡ true →
+    reportBytes h list ≡ answerTo list h
+unfolding reportBytes carriesQuestions
+report-carried h list s e = pick-true _ _ e

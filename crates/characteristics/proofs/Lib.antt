@@ -1,0 +1,7 @@
+-- Laws that the proofs of the functions apply; Held has those that a line cites.
+mod Sizes
+mod Masks
+mod Walks
+mod Obeying
+mod Answers
+pub mod Held

@@ -1,0 +1,51 @@
+-- Tests of a list from a place on, an element at a time.
+use mathlib.Core.Path.{_≡_, sym, ap, _∙_}
+use Prim.Native.Nat.{ℕ, _+_, _<_, _≤_}
+use mathlib.Core.Bool.{Bool, true, false, _&&_, _||_}
+use mathlib.Core.List.{List}
+use lib.ListN.{length, getD, drop, drop-of-length-le}
+use Rattle.rules.specs.Choice.{all, any}
+use Rattle.rules.specs.Messages.Parameters.{selector}
+use Rattle.rules.specs.Characteristics.{isCarried}
+use Rattle.message.specs.declared.Parameter.{Parameter}
+use Rattle.message.specs.Lists.{ParameterIs, parametersFrom}
+use Rattle.message.proofs.Shapes.{parameters-end}
+use Rattle.writing.proofs.Putting.{first-byte}
+
+-- one of a table passes
+module _ (test : ℕ → Bool) (table : List ℕ) (i : ℕ) where
+  any-step : i < length table → any test (drop i table) ≡ test (getD table i 0) || any test (drop (i + 1) table)
+  unfolding any
+  any-step h = ap (any test) (first-byte table i h)
+
+  pub any-stops : i < length table → test (getD table i 0) ≡ true → any test (drop i table) ≡ true
+  any-stops h e = any-step h ∙ rw e
+
+  pub any-goes-on : i < length table → test (getD table i 0) ≡ false → any test (drop (i + 1) table) ≡ any test (drop i table)
+  any-goes-on h e = sym (any-step h ∙ rw e)
+
+  pub any-end : length table ≤ i → any test (drop i table) ≡ false
+  unfolding any
+  any-end h = ap (any test) (drop-of-length-le table h)
+
+-- every parameter is carried
+abbrev pub allCarried : List (List ℕ) → Bool
+allCarried ps = all (λ p. isCarried (selector p)) ps
+
+module _ {kind at : ℕ} {s : List ℕ} {p : Parameter} (is : ParameterIs kind at s p) (h : at < length s)
+    {t : Bool} (e : t ≡ isCarried (p .selector)) where
+  all-step : allCarried (parametersFrom kind at s) ≡ t && allCarried (parametersFrom kind (p .next) s)
+  unfolding all
+  all-step =
+      ap allCarried (is .list h) ∙
+      ap (λ b. b && allCarried (parametersFrom kind (p .next) s)) (sym (e ∙ ap isCarried (is .selected)))
+
+  pub all-stops : t ≡ false → allCarried (parametersFrom kind at s) ≡ false
+  all-stops f = all-step ∙ rw f
+
+  pub all-goes-on : t ≡ true → allCarried (parametersFrom kind (p .next) s) ≡ allCarried (parametersFrom kind at s)
+  all-goes-on f = sym (all-step ∙ rw f)
+
+pub all-end : (kind at : ℕ) (s : List ℕ) → length s ≤ at → allCarried (parametersFrom kind at s) ≡ true
+unfolding all
+all-end kind at s h = ap allCarried (parameters-end kind at s h)

@@ -1,0 +1,59 @@
+use mathlib.Core.Path.{_≡_, refl, sym, _∙_}
+use Prim.Native.Nat.{_-_}
+use native.Mathlib.Omega.{arith}
+use lib.ListN.{length, drop}
+use borrow.Author.Tests.{eq-eqb, ne-eqb}
+use Rattle.rules.specs.Choice.{any}
+use Rattle.rules.specs.Characteristics.{isDeferredClear}
+use Rattle.characteristics.proofs.Walks.{any-stops, any-goes-on, any-end}
+use Rattle.characteristics.proofs.attributes.any_deferred_clear.Statement.{statement}
+use Rattle.characteristics.proofs.attributes.any_deferred_clear.Tie as tie
+
+abbrev Inv-loop : tie.InvT-loop
+Inv-loop table i₀ i = any isDeferredClear (drop i table) ≡ any isDeferredClear table
+
+abbrev μ-loop : tie.MeasureT-loop
+μ-loop table i₀ i = length table - i
+
+loop-holds : tie.Need-loop-holds Inv-loop μ-loop
+loop-holds c = refl
+
+shared-slice-read-if1 : tie.Need-shared-slice-read-if1 Inv-loop μ-loop
+shared-slice-read-if1 c = omega arith
+
+returns : tie.Need-returns Inv-loop μ-loop
+unfolding isDeferredClear
+returns c =
+    let a = c .before .before .before in
+    sym (any-stops isDeferredClear (a .before .args .table .now) (a .loop .i) (omega arith) (eq-eqb _ 2 (c .if1 .taken))) ∙ a .loop .inv
+
+add-i : tie.Need-add-i Inv-loop μ-loop
+add-i c = omega arith
+
+loop-less : tie.Need-loop-less Inv-loop μ-loop
+loop-less c = omega arith
+
+loop-again : tie.Need-loop-again Inv-loop μ-loop
+unfolding isDeferredClear
+loop-again c =
+    let a = c .before .before .before in
+    any-goes-on isDeferredClear (a .before .args .table .now) (a .loop .i) (omega arith) (ne-eqb _ 2 (c .if1 .left)) ∙ a .loop .inv
+
+returns-2 : tie.Need-returns-2 Inv-loop μ-loop
+returns-2 c =
+    let a = c .before in
+    sym (any-end isDeferredClear (a .before .args .table .now) (a .loop .i) (omega arith)) ∙ a .loop .inv
+
+pub any-deferred-clear-spec : {M : Type 1} → statement M
+any-deferred-clear-spec =
+    tie.close
+    (tie.spec
+    Inv-loop
+    μ-loop
+    loop-holds
+    shared-slice-read-if1
+    returns
+    add-i
+    loop-less
+    loop-again
+    returns-2)

@@ -1,0 +1,31 @@
+-- Characteristics and Read Characteristics by the bytes of their parameter list, and the bytes of the answer.
+use Prim.Native.Nat.{ℕ}
+use mathlib.Core.List.{List, [], map}
+use Rattle.rules.specs.Choice.{pick, joined}
+use Rattle.rules.specs.Messages.Forms as forms
+use Rattle.rules.specs.Messages.Forms.{Message}
+use Rattle.rules.specs.State.{Host, fresh, withHost}
+use Rattle.rules.specs.Characteristics.{reported, report}
+use Rattle.rules.specs.Calls.{framed, sentBytes, carriesQuestions}
+use Rattle.message.specs.Lists.{parametersFrom}
+
+-- a message of each type, by its list
+abbrev pub settingsIn : List ℕ → Message ℕ
+settingsIn list =
+    record { kind = forms.characteristics; numbers = []; set = []; parameters = parametersFrom 11 0 list; text = [] }
+
+abbrev pub questionsIn : List ℕ → Message ℕ
+questionsIn list =
+    record { kind = forms.readCharacteristics; numbers = []; set = []; parameters = parametersFrom 10 0 list; text = [] }
+
+-- the answers to the questions from a place on
+unfoldable pub answersFrom : ℕ → List ℕ → Host → List ℕ
+answersFrom at list h = joined (map (reported h) (parametersFrom 10 at list))
+
+-- the answer behind its length
+unfoldable pub answerTo : List ℕ → Host → List ℕ
+answerTo list h = framed (sentBytes (report h (questionsIn list)))
+
+-- the answer where it is carried, whatever else the line holds; else nothing
+unfoldable pub reportBytes : Host → List ℕ → List ℕ
+reportBytes h list = pick (carriesQuestions {C = ℕ} (withHost h fresh) (questionsIn list)) (answerTo list h) []

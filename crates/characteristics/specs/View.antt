@@ -1,0 +1,29 @@
+-- What the host has set, as the rules have it; and what is asked of the struct: its arrays' lengths, which their types say, and
+-- the set's count within its array.
+use Prim.Native.Nat.{ℕ, _≤_}
+use mathlib.Core.Path.{_≡_}
+use mathlib.Core.List.{List}
+use lib.ListN.{length, take}
+use Rattle.rules.specs.State as rules
+use Rattle.characteristics.specs.declared.Switches.{Switches}
+use Rattle.characteristics.specs.declared.Set.{Set}
+use Rattle.characteristics.specs.declared.Host.{Host}
+
+unfoldable pub setOf : Set → List ℕ
+setOf s = take (s .len) (s .bytes)
+
+abbrev pub switchesOf : Switches → rules.Switches
+switchesOf s =
+    record { raising = s .raising; echoing = s .echoing; recognising = s .recognising; prompting = s .prompting }
+
+abbrev pub hostOf : Host → rules.Host
+hostOf h =
+    record { begun = h .begun; switches = switchesOf (h .switches); attributes = h .attributes; lastSet = setOf (h .«last_set») }
+
+pub record CountedSet (s : Set) : Type 0 where
+  pub size : length (s .bytes) ≡ 32
+  pub within : s .len ≤ 32
+
+pub record CountedHost (h : Host) : Type 0 where
+  pub table : length (h .attributes) ≡ 256
+  pub set : CountedSet (h .«last_set»)

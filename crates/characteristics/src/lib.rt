@@ -1,0 +1,30 @@
+// What the host sets: characteristics, character attributes and termination sets.
+mod attributes;
+mod reports;
+mod selectors;
+mod sets;
+mod settings;
+
+// The four characteristics that are switches.
+pub struct Switches {
+    pub raising: bool,
+    pub echoing: bool,
+    pub recognising: bool,
+    pub prompting: bool,
+}
+
+// A termination set: its first bytes.
+pub struct Set {
+    pub bytes: [u8; 32],
+    pub len: u8,
+}
+
+// What the host has set.
+pub struct Host {
+    // Initiate was accepted
+    pub begun: bool,
+    pub switches: Switches,
+    pub attributes: [u8; 256],
+    // the last set given with ZZ 1
+    pub last_set: Set,
+}
