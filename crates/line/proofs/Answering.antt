@@ -1,11 +1,11 @@
 -- From a part of the rules done to an answer kept, and from a refusal.
 use mathlib.Core.Path.{_≡_, refl, sym, ap, _∙_, subst}
-use Prim.Native.Nat.{ℕ, _≤_, _<_}
+use Prim.Native.Nat.{ℕ, _≤_}
 use native.Mathlib.Omega.{arith}
-use mathlib.Core.Bool.{Bool, true, false, and-false}
-use mathlib.Core.List.{List, []}
-use lib.ListN.{length, drop}
-use Rattle.rules.specs.Choice.{pick, joined}
+use mathlib.Core.Bool.{true, false}
+use mathlib.Core.List.{List}
+use lib.ListN.{length}
+use Rattle.rules.specs.Choice.{joined}
 use Rattle.rules.specs.Numbers as sizes
 use Rattle.rules.specs.State.{State, codes}
 use Rattle.rules.specs.Turns.{Part, still}
@@ -14,16 +14,17 @@ use Rattle.rules.specs.Calls as rules
 use Rattle.rules.specs.Calls.{Event, Call, answer, answers, does, refuses, isRoomy, messageBytes, areaAfter}
 use Rattle.rules.specs.Bounds as bounds
 use Rattle.rules.specs.Bounds.{isByteEvent, Within}
-use Rattle.rules.proofs.Tests.{both, pick-true, pick-false}
+use Rattle.rules.proofs.Tests.{halves, pick-true, pick-false}
 use Rattle.rules.proofs.Areas.{puts-front}
 use Rattle.rules.proofs.Bounds.Calls.{call-within}
-use borrow.Author.Tests.{le-leb, lt-leb}
+use borrow.Author.Tests.{leb-true}
 use Rattle.line.specs.declared.Line.{Line}
 use Rattle.line.specs.declared.Work.{Work}
 use Rattle.line.specs.declared.Answer.{Answer}
 use Rattle.line.specs.View.{view}
 use Rattle.line.specs.Bounded.{Bounded}
 use Rattle.line.specs.Promise.{Does}
+use Rattle.line.specs.Rows.{areRoomy}
 use Rattle.line.specs.Answers.{Answers, ruled, refusal}
 
 -- a call at its beginning, and what it answers when it is done
@@ -42,11 +43,14 @@ module _ (e : Event ℕ) (l : Line) (t m : List ℕ) (b : Bounded l) where
   call = record { terminal = length t; messages = length m; event = e }
 
   module _ (p : Part ℕ) (event : answers codes e (view l) ≡ does p (view l)) (byte : isByteEvent e ≡ true)
-      (inTerminal : sizes.terminalArea ≤ length t) (inMessages : sizes.messageArea ≤ length m) where
+      (room : areRoomy (length t) (length m) ≡ true) where
     roomy : answer codes call (view l) ≡ does p (view l)
     unfolding answer isRoomy
     roomy =
-        ap (λ (f : State ℕ → rules.Answer ℕ). f (view l)) (pick-true _ _ (both (le-leb _ _ inTerminal) (le-leb _ _ inMessages))) ∙ event
+        ap (λ (f : State ℕ → rules.Answer ℕ). f (view l)) (pick-true _ _ room) ∙ event
+
+    areas : (sizes.terminalArea ≤ length t) × (sizes.messageArea ≤ length m)
+    areas = let h = halves _ _ room in (leb-true _ _ (h .0), leb-true _ _ (h .1))
 
     within : Within (does p (view l))
     within = subst Within roomy (call-within call (view l) byte (b .state))
@@ -55,11 +59,11 @@ module _ (e : Event ℕ) (l : Line) (t m : List ℕ) (b : Bounded l) where
     module _ (w : Work) (t′ m′ : List ℕ) (d : Does p (begun l) t m w t′ m′) where
       shown-front : spot t′ (w .at) ≡ spot (areaAfter (p (view l) .bytes) t) (length (p (view l) .bytes))
       unfolding does
-      shown-front = let h = within .terminal in at-front (p (view l) .bytes) t t′ (w .at) (omega arith) (d .shows)
+      shown-front = let h = within .terminal in let k = areas .0 in at-front (p (view l) .bytes) t t′ (w .at) (omega arith) (d .shows)
 
       sent-front : spot m′ (w .sent) ≡ spot (areaAfter (messageBytes codes (p (view l))) m) (length (messageBytes codes (p (view l))))
       unfolding does
-      sent-front = let h = within .messages in at-front (messageBytes codes (p (view l))) m m′ (w .sent) (omega arith) (d .sends)
+      sent-front = let h = within .messages in let k = areas .1 in at-front (messageBytes codes (p (view l))) m m′ (w .sent) (omega arith) (d .sends)
 
       pub answered : Answers e l t m (done w) t′ m′
       unfolding does
@@ -94,15 +98,6 @@ refused e l t m n b h {r} k =
     }
 
 -- row 1: an area too small
-module _ (e : Event ℕ) (l : Line) (t m : List ℕ) where
-  cramped : isRoomy (record { terminal = length t; messages = length m; event = e }) ≡ false → ruled e l t m ≡ refuses sizes.smallArea (view l)
-  unfolding answer
-  cramped h = ap (λ (f : State ℕ → rules.Answer ℕ). f (view l)) (pick-false _ _ h)
-
-  pub small-terminal : length t < sizes.terminalArea → ruled e l t m ≡ refuses sizes.smallArea (view l)
-  unfolding isRoomy
-  small-terminal h = cramped (rw (lt-leb sizes.terminalArea (length t) h))
-
-  pub small-messages : length m < sizes.messageArea → ruled e l t m ≡ refuses sizes.smallArea (view l)
-  unfolding isRoomy
-  small-messages h = cramped (rw (lt-leb sizes.messageArea (length m) h, and-false))
+pub cramped : (e : Event ℕ) (l : Line) (t m : List ℕ) → areRoomy (length t) (length m) ≡ false → ruled e l t m ≡ refuses sizes.smallArea (view l)
+unfolding answer isRoomy
+cramped e l t m h = ap (λ (f : State ℕ → rules.Answer ℕ). f (view l)) (pick-false _ _ h)

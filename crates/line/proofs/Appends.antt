@@ -10,6 +10,7 @@ use lib.ListN.{length, getD, take, drop, set, length-set, length-append}
 use lib.Seq.{take-suc, take-suc-set, take-nil, drop-nil, length-take-le}
 use borrow.Author.Tests.{ltb-true, ltb-false}
 use Rattle.rules.specs.Choice.{pick, bit}
+use Rattle.rules.specs.Numbers.{inputSize}
 use Rattle.rules.specs.State.{codes, withInput}
 use Rattle.rules.specs.Editing.{endOf, hiddenCount, displayed}
 use Rattle.rules.specs.Steps.{appended}
@@ -40,7 +41,7 @@ withPushed c r =
       idle = r .idle;
     }
 
-pub pushed : (r : Reading) (c : ℕ) → CountedReading r → r .count < 132 → Appends (c ∷ []) r (withPushed c r)
+pub pushed : (r : Reading) (c : ℕ) → CountedReading r → r .count < inputSize → Appends (c ∷ []) r (withPushed c r)
 unfolding appended inputOf
 pushed r c k h =
     let room : r .count < length (r .input) = omega arith in
@@ -89,31 +90,48 @@ drop-take (suc k) (suc c) (x ∷ xs) =
     let e : c - k ≡ suc c - suc k = omega arith in
     drop-take k c xs ∙ ap (λ n. take n (drop k xs)) e
 
+pub hidden-stands : (hidden : Bool) (n : ℕ) → hidden && ltb 0 n ≡ true → 1 ≤ n
+hidden-stands hidden n e = let some = ltb-true 0 n (halves hidden (ltb 0 n) e .1) in omega arith
+
+-- The first characters: a hidden one stands in front of the others, or none does.
+module _ (hidden : Bool) (n : ℕ) (xs : List ℕ) where
+  pub hidden-before : hidden && ltb 0 n ≡ true → take (n - 1) (drop 1 xs) ≡ drop (bit hidden) (take n xs)
+  unfolding bit
+  hidden-before e =
+      let h = halves hidden (ltb 0 n) e in
+      sym (ap (λ k. drop k (take n xs)) (pick-true 1 0 (h .0)) ∙ drop-take 1 n xs)
+
+  pub none-before : hidden && ltb 0 n ≡ false → take n xs ≡ drop (bit hidden) (take n xs)
+  unfolding bit
+  none-before e = by-flag hidden refl
+    where
+      by-flag : (b : Bool) → hidden ≡ b → take n xs ≡ drop (pick hidden 1 0) (take n xs)
+      by-flag false f = ap (λ k. drop k (take n xs)) (sym (pick-false 1 0 f))
+      by-flag true f =
+          let empty : n ≤ 0 = ltb-false 0 n (rw f at e) in
+          let none : n ≡ 0 = omega arith in
+          let k = pick {A = ℕ} hidden 1 0 in
+          ap (λ j. take j xs) none ∙ sym (ap (λ j. drop k (take j xs)) none ∙ drop-nil k)
+
 module _ (r : Reading) where
-  displayed-is : displayed codes (readingOf r) ≡ drop (pick (r .hidden) 1 0) (take (r .count) (r .input))
-  unfolding displayed hiddenCount bit inputOf
-  displayed-is = ap (drop (pick (r .hidden) 1 0)) (map-id (take (r .count) (r .input)))
+  displayed-is : displayed codes (readingOf r) ≡ drop (bit (r .hidden)) (take (r .count) (r .input))
+  unfolding displayed hiddenCount inputOf
+  displayed-is = ap (drop (bit (r .hidden))) (map-id (take (r .count) (r .input)))
 
-  from-behind : {n : ℕ} → pick (r .hidden) 1 0 ≡ n → take (r .count - n) (drop n (r .input)) ≡ displayed codes (readingOf r)
-  from-behind {n} e = sym (displayed-is ∙ ap (λ k. drop k (take (r .count) (r .input))) e ∙ drop-take n (r .count) (r .input))
-
-  -- a hidden character stands there, or none does
   pub hidden-first : r .hidden && ltb 0 (r .count) ≡ true → ShownFrom r 1
   hidden-first e =
-      let h = halves (r .hidden) (ltb 0 (r .count)) e in
-      let some = ltb-true 0 (r .count) (h .1) in
-      record { text = from-behind (pick-true 1 0 (h .0)); within = omega arith }
+      record {
+        text = hidden-before (r .hidden) (r .count) (r .input) e ∙ sym displayed-is;
+        within = hidden-stands (r .hidden) (r .count) e;
+      }
 
   pub all-shown : r .hidden && ltb 0 (r .count) ≡ false → ShownFrom r 0
-  all-shown e = record { text = by-flag (r .hidden) refl; within = omega arith }
-    where
-      by-flag : (b : Bool) → r .hidden ≡ b → take (r .count - 0) (r .input) ≡ displayed codes (readingOf r)
-      by-flag false f = from-behind (pick-false 1 0 f)
-      by-flag true f =
-          let empty : r .count ≤ 0 = ltb-false 0 (r .count) (rw f at e) in
-          let none : r .count ≡ 0 = omega arith in
-          let n = pick {A = ℕ} (r .hidden) 1 0 in
-          ap (λ k. take (k - 0) (r .input)) none ∙ sym (displayed-is ∙ ap (λ k. drop n (take k (r .input))) none ∙ drop-nil n)
+  all-shown e =
+      let all : r .count - 0 ≡ r .count = omega arith in
+      record {
+        text = ap (λ n. take n (r .input)) all ∙ none-before (r .hidden) (r .count) (r .input) e ∙ sym displayed-is;
+        within = omega arith;
+      }
 
   -- how many of the first characters are displayed
   pub hidden-less : (left : ℕ) → r .hidden && ltb 0 left ≡ true → left - 1 ≡ left - hiddenCount (readingOf r)

@@ -1,33 +1,37 @@
 -- What an event does is a part of the rules.
-use mathlib.Core.Path.{_≡_, refl}
+use mathlib.Core.Path.{_≡_, refl, sym, ap, _∙_}
 use Prim.Native.Nat.{ℕ}
 use mathlib.Core.Bool.{true}
 use mathlib.Core.List.{List}
 use borrow.Author.Tests.{lt-ltb}
 use Rattle.rules.specs.State.{codes}
-use Rattle.rules.specs.Calls.{answers, does}
+use Rattle.rules.specs.Calls.{answers, hears, does}
 use Rattle.rules.specs.Bounds.{isByteEvent}
 use Rattle.line.specs.declared.events.Event.{Event}
-use Rattle.line.specs.declared.events.Event.the-variants.{Key, Tick, Step}
+use Rattle.line.specs.declared.events.Event.the-variants.{Key, Tick, Step, Host}
 use Rattle.line.specs.declared.Line.{Line}
 use Rattle.line.specs.declared.Work.{Work}
 use Rattle.line.specs.View.{view}
 use Rattle.line.specs.Promise.{Does}
+use Rattle.line.specs.Obeyed.{obeysHeld}
 use Rattle.line.specs.Events.{Admitted, eventPart, eventOf}
 
-module _ {w r : Work} {t m t′ m′ : List ℕ} {e f : Event} where
-  pub event-does : e ≡ f → Does (eventPart f) w t m r t′ m′ → Does (eventPart e) w t m r t′ m′
+module _ (s : List ℕ) {w r : Work} {t m t′ m′ : List ℕ} {e f : Event} where
+  pub event-does : e ≡ f → Does (eventPart s f) w t m r t′ m′ → Does (eventPart s e) w t m r t′ m′
   event-does h d = rw h d
 
 -- the rules answer an event that is admitted by the part that it is
-pub event-answers : (l : Line) (e : Event) → answers codes (eventOf e) (view l) ≡ does (eventPart e) (view l)
-unfolding eventOf eventPart answers
-event-answers l (Key c) = refl
-event-answers l Tick = refl
-event-answers l Step = refl
+module _ (l : Line) (s : List ℕ) where
+  pub event-answers : (e : Event) → Admitted l s e → answers codes (eventOf s e) (view l) ≡ does (eventPart s e) (view l)
+  unfolding eventOf eventPart answers hears obeysHeld
+  event-answers (Key c) a = refl
+  event-answers Tick a = refl
+  event-answers Step a = refl
+  event-answers (Host m) a = ap (λ o. hears codes o (view l)) (a .taken) ∙ ap (λ h. does (obeysHeld h) (view l)) (sym (a .held))
 
-pub event-bytes : (e : Event) → Admitted e → isByteEvent (eventOf e) ≡ true
-unfolding eventOf isByteEvent
-event-bytes (Key c) a = lt-ltb c 256 a
-event-bytes Tick a = refl
-event-bytes Step a = refl
+  pub event-bytes : (e : Event) → Admitted l s e → isByteEvent (eventOf s e) ≡ true
+  unfolding eventOf isByteEvent
+  event-bytes (Key c) a = lt-ltb c 256 a
+  event-bytes Tick a = refl
+  event-bytes Step a = refl
+  event-bytes (Host m) a = a .bytes

@@ -1,20 +1,19 @@
 -- A line made of fresh parts is fresh, and within bounds.
-use mathlib.Core.Path.{_≡_, refl, sym, subst}
+use mathlib.Core.Path.{_≡_, sym, subst}
 use mathlib.Core.Bool.{false}
 use mathlib.Core.List.{[]}
 use mathlib.Core.Option.{none}
-use Prim.Native.Nat.{ℕ}
-use Rattle.rules.specs.State as rules
 use Rattle.rules.specs.State.{fresh, freshHost, freshTerminal}
 use Rattle.rules.specs.Bounds as bounds
 use Rattle.rules.proofs.Bounds.Calls.{fresh-bounded}
-use Rattle.line.specs.declared.Host.{Host}
+use Rattle.characteristics.specs.declared.Host.{Host}
 use Rattle.line.specs.declared.Terminal.{Terminal}
 use Rattle.line.specs.declared.Typed.{Typed}
 use Rattle.line.specs.declared.Reading.{Reading}
 use Rattle.line.specs.declared.Line.{Line}
-use Rattle.line.specs.View.{hostOf, terminalOf, typedOf, view}
-use Rattle.line.specs.Bounded.{CountedHost, CountedTyped, CountedReading, IsFresh}
+use Rattle.characteristics.specs.View.{hostOf, CountedHost}
+use Rattle.line.specs.View.{terminalOf, typedOf, view}
+use Rattle.line.specs.Bounded.{CountedTyped, CountedReading, IsFresh}
 
 abbrev pub lineOf : Host → Terminal → Typed → Reading → Line
 lineOf h k t r = record { host = h; terminal = k; typed = t; pending = false; reading = r }

@@ -10,15 +10,16 @@ use lib.ListN.{length, getD, take, drop, set, length-set, length-map}
 use lib.Seq.{take-suc, take-suc-set, take-nil, length-take-le}
 use borrow.Author.Tests.{ne-eqb}
 use Rattle.rules.specs.Choice.{isEmpty, bit}
+use Rattle.rules.specs.Numbers.{typeAheadSize, tokenSize}
 use Rattle.rules.specs.State as rules
 use Rattle.rules.specs.Token.{isWhole, isPartial}
 use Rattle.rules.proofs.Tests.{pick-true, pick-false}
+use Rattle.rules.proofs.Bounds.Steps.{whole-room}
 use Rattle.line.specs.declared.Key.{Key}
 use Rattle.line.specs.declared.Typed.{Typed}
 use Rattle.line.specs.View.{keyOf, keysOf, tokenOf}
 use Rattle.line.specs.Bounded.{CountedTyped}
 use Rattle.line.specs.TokenParts.{codesOf, tokened, FirstTaken}
-use Rattle.line.proofs.Places.{whole-room}
 
 -- a list counted into an array is empty where its count is 0
 pub empty-take : {A : Type 0} (n : ℕ) (xs : List A) → n ≤ length xs → isEmpty (take n xs) ≡ eqb n 0
@@ -72,7 +73,7 @@ module _ (t : Typed) (c : CountedTyped t) where
   nothing-waits timed due e = ap₂ (λ a b. timed && due && a && not b) (sym keys-empty) e
 
   -- a token that is not whole has room
-  pub token-short : isWhole (codesOf t) ≡ false → t .«token_len» < 16
+  pub token-short : isWhole (codesOf t) ≡ false → t .«token_len» < tokenSize
   token-short e =
       let room = whole-room (codesOf t) e in
       let same = length-map (tokenOf t) (rules.codes .code) in
@@ -80,7 +81,7 @@ module _ (t : Typed) (c : CountedTyped t) where
       omega arith
 
   -- one byte more
-  pub tokened-token : (b : ℕ) → t .«token_len» < 16 → tokenOf (tokened b t) ≡ tokenOf t ++ b ∷ []
+  pub tokened-token : (b : ℕ) → t .«token_len» < tokenSize → tokenOf (tokened b t) ≡ tokenOf t ++ b ∷ []
   unfolding tokenOf
   tokened-token b h =
       let room : t .«token_len» < length (t .token) = omega arith in
@@ -90,11 +91,11 @@ module _ (t : Typed) (c : CountedTyped t) where
   unfolding keysOf
   tokened-keys b = refl
 
-  pub tokened-counted : (b : ℕ) → t .«token_len» < 16 → CountedTyped (tokened b t)
+  pub tokened-counted : (b : ℕ) → t .«token_len» < tokenSize → CountedTyped (tokened b t)
   tokened-counted b h =
       record { keys = c .keys; waiting = c .waiting; token = length-set (t .token) (t .«token_len») b ∙ c .token; begun = omega arith }
 
-  pub grown-counted : (b : ℕ) {next : Typed} → t .«token_len» < 16 → next ≡ tokened b t → CountedTyped next
+  pub grown-counted : (b : ℕ) {next : Typed} → t .«token_len» < tokenSize → next ≡ tokened b t → CountedTyped next
   grown-counted b h e = rw e (tokened-counted b h)
 
 -- the first key and those behind it
@@ -128,7 +129,7 @@ rest-of zero keys old p e = absurd (omega arith)
 rest-of (suc n) keys [] p e = ap (map keyOf) e ∙ ap (map keyOf) (take-nil (suc n - 1))
 rest-of (suc n) keys (x ∷ old) p e = let m : suc n - 1 ≡ n = omega arith in ap (map keyOf) e ∙ ap (λ k. map keyOf (take k old)) m
 
-pub first-gone : (t : Typed) (keys : List Key) (i : ℕ) → CountedTyped t → 0 < t .waiting → length keys ≡ 64 → i ≡ t .waiting - 1 →
+pub first-gone : (t : Typed) (keys : List Key) (i : ℕ) → CountedTyped t → 0 < t .waiting → length keys ≡ typeAheadSize → i ≡ t .waiting - 1 →
     take i keys ≡ take i (drop 1 (t .keys)) → FirstTaken t (withoutFirst keys t)
 unfolding keysOf tokenOf
 first-gone t keys i c p size last e =

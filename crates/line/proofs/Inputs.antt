@@ -1,11 +1,9 @@
 -- What stands after a read's prompt.
-use mathlib.Core.Path.{_≡_, refl, sym, ap, _∙_}
-use Prim.Native.Nat.{ℕ, _+_, _≤_, _<_, min}
+use mathlib.Core.Path.{_≡_, sym}
+use Prim.Native.Nat.{ℕ, _+_, _≤_, min}
 use native.Mathlib.Omega.{arith}
-use mathlib.Core.Bool.{Bool, _&&_}
-use mathlib.Core.List.{List, [], _∷_, _++_}
+use mathlib.Core.Bool.{_&&_}
 use lib.Dec.{ltb}
-use lib.ListN.{length, take}
 use lib.Seq.{take-take}
 use Rattle.rules.specs.Editing as rules
 use Rattle.line.specs.declared.Reading.{Reading}

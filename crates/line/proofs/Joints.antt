@@ -7,6 +7,7 @@ use mathlib.Core.List.{List, [], _∷_, _++_}
 use mathlib.Core.Option.{none}
 use lib.ListN.{length, take}
 use Rattle.rules.specs.Choice.{pick, bit, isEmpty, joined}
+use Rattle.rules.specs.Numbers.{tokenSize}
 use Rattle.rules.specs.Area.{puts, spot}
 use Rattle.rules.specs.State as rules
 use Rattle.rules.specs.State.{codes, withTyped, withRead, withFrom, withIdle}
@@ -125,7 +126,7 @@ module _ {w v : Work} (c : Counted (w .line)) where
       (h ∙ ap (λ n. onLine (onTyped n (w .line)) w) e) t m
 
   -- one byte more in it
-  pub tokened-does : (b : ℕ) {next : Typed} → w .line .typed .«token_len» < 16 → next ≡ tokened b (w .line .typed) →
+  pub tokened-does : (b : ℕ) {next : Typed} → w .line .typed .«token_len» < tokenSize → next ≡ tokened b (w .line .typed) →
       v ≡ onLine (onTyped next (w .line)) w → (t m : List ℕ) →
       Does (changes (λ s. withTyped (s .typed .typeAhead) (s .typed .token ++ b ∷ []) s)) w t m v t m
   tokened-does b {next} room e h t m =

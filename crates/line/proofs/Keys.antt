@@ -15,13 +15,12 @@ use Rattle.line.specs.declared.Typed.{Typed}
 use Rattle.line.specs.View.{keyOf, keysOf, tokenOf}
 use Rattle.line.specs.Bounded.{CountedTyped}
 use Rattle.line.specs.TypedParts.{Holds}
-use Rattle.line.proofs.Sizes.{type-ahead-size}
 
 -- the key behind those that wait
 abbrev pub withStored : Key → Typed → Typed
 withStored k t = record { keys = set (t .keys) (t .waiting) k; waiting = t .waiting + 1; token = t .token; «token_len» = t .«token_len» }
 
-pub stored : (t : Typed) (k : Key) → CountedTyped t → t .waiting < 64 → Holds (keysOf t ++ (keyOf k ∷ [])) (tokenOf t) (withStored k t)
+pub stored : (t : Typed) (k : Key) → CountedTyped t → t .waiting < typeAheadSize → Holds (keysOf t ++ (keyOf k ∷ [])) (tokenOf t) (withStored k t)
 unfolding keysOf tokenOf
 stored t k c h =
     let room : t .waiting < length (t .keys) = omega arith in
@@ -49,12 +48,12 @@ emptied t c =
 
 -- The test for room.
 module _ (t : Typed) (c : CountedTyped t) where
-  keys-length : length (keysOf t) ≡ t .waiting
+  pub keys-length : length (keysOf t) ≡ t .waiting
   unfolding keysOf
   keys-length = length-map (take (t .waiting) (t .keys)) keyOf ∙ length-take-le (t .waiting) (t .keys) (omega arith)
 
-  pub has-room : t .waiting < 64 → ltb (length (keysOf t)) typeAheadSize ≡ true
-  has-room h = lt-ltb (length (keysOf t)) typeAheadSize (omega (arith, keys-length, type-ahead-size))
+  pub has-room : t .waiting < typeAheadSize → ltb (length (keysOf t)) typeAheadSize ≡ true
+  has-room h = lt-ltb (length (keysOf t)) typeAheadSize (omega (arith, keys-length))
 
-  pub no-room : 64 ≤ t .waiting → ltb (length (keysOf t)) typeAheadSize ≡ false
-  no-room h = le-ltb (length (keysOf t)) typeAheadSize (omega (arith, keys-length, type-ahead-size))
+  pub no-room : typeAheadSize ≤ t .waiting → ltb (length (keysOf t)) typeAheadSize ≡ false
+  no-room h = le-ltb (length (keysOf t)) typeAheadSize (omega (arith, keys-length))

@@ -1,16 +1,23 @@
 -- Laws of the line.
-pub mod Works
-pub mod Keys
-pub mod Inputs
-pub mod Sizes
-pub mod Arrivals
-pub mod FreshLine
-pub mod Answering
-pub mod Evented
-pub mod Sends
-pub mod Appends
-pub mod Words
-pub mod Places
-pub mod Held
-pub mod Joints
-pub mod Room
+mod Works
+mod Keys
+mod Inputs
+mod Sizes
+mod Arrivals
+mod FreshLine
+mod Answering
+mod Evented
+mod Sends
+mod Appends
+mod Words
+mod Places
+mod Held
+mod Joints
+mod Room
+mod Obeys
+mod Initiates
+mod Opened
+mod Considered
+mod Accepts
+mod Blanking
+pub mod Chains

@@ -1,18 +1,17 @@
 -- The places of a token's grammar, by their numbers.
-use mathlib.Core.Path.{_≡_, refl, sym, ap, _∙_}
+use mathlib.Core.Path.{_≡_, refl, sym, ap, ap₂, _∙_}
 use Prim.Native.Nat.{ℕ, zero, suc, _+_, _≤_, _<_}
 use native.Mathlib.Numerals.{add-one}
 use native.Mathlib.Omega.{arith}
-use mathlib.Core.Bool.{Bool, true, false, not, _&&_, true≢false}
+use mathlib.Core.Bool.{true, false, not, _&&_}
 use mathlib.Core.List.{List}
 use lib.Dec.{leb, ltb, eqb}
 use lib.ListN.{length, getD, drop, drop-of-length-le}
 use lib.Seq.{drop-cons}
-use borrow.Author.Tests.{le-leb, lt-leb, leb-false, ne-eqb, not-false}
-use Rattle.rules.specs.Choice.{pick}
+use borrow.Author.Tests.{le-leb, lt-leb, ne-eqb}
 use Rattle.rules.specs.Numbers.{tokenSize}
-use Rattle.rules.specs.Token.{Place, empty, invalid, next, placeFrom, isFinished, isValid, standing, isWhole}
-use Rattle.rules.proofs.Tests.{pick-true, pick-false, pick-case}
+use Rattle.rules.specs.Token.{Place, empty, invalid, next, placeFrom, isFinished, isValid, standing}
+use Rattle.rules.proofs.Tests.{pick-true, pick-false}
 use Rattle.line.specs.TokenParts.{placeOf}
 
 pub finished-number : (n : ℕ) → isFinished (placeOf n) ≡ leb 5 n
@@ -79,22 +78,10 @@ module _ (token : List ℕ) (p : ℕ) (h : placeOf p ≡ placeFrom empty token) 
           let m = suc (suc (suc (suc (suc n)))) in
           ap not (le-leb 5 m (omega arith)) ∙ sym (lt-leb (suc m) 5 (omega arith))
 
-  pub standing-cut : leb 16 (length token) && ltb p 5 ≡ true → standing token ≡ invalid
-  unfolding standing tokenSize
-  standing-cut t = pick-true _ _ (ap (λ b. leb 16 (length token) && b) open-number ∙ t)
+  pub standing-cut : {size : ℕ} → tokenSize ≡ size → leb size (length token) && ltb p 5 ≡ true → standing token ≡ invalid
+  unfolding standing
+  standing-cut e t = pick-true _ _ (ap₂ (λ n b. leb n (length token) && b) e open-number ∙ t)
 
-  pub standing-kept : leb 16 (length token) && ltb p 5 ≡ false → standing token ≡ placeOf p
-  unfolding standing tokenSize
-  standing-kept t = pick-false _ _ (ap (λ b. leb 16 (length token) && b) open-number ∙ t) ∙ sym h
-
--- a token that is not whole has room for a byte more
-unfinished-room : (test : Bool) (p : Place) → isFinished (pick (test && not (isFinished p)) invalid p) ≡ false → test ≡ false
-unfolding isFinished
-unfinished-room false p e = refl
-unfinished-room true p e =
-    let finished = pick-case (λ (q : Place). isFinished q ≡ true) _ {a = invalid} {b = p} (λ y. refl) (λ n. not-false (isFinished p) n) in
-    absurd (true≢false (sym finished ∙ e))
-
-pub whole-room : (token : List ℕ) → isWhole token ≡ false → length token < 16
-unfolding isWhole standing tokenSize
-whole-room token e = leb-false 16 (length token) (unfinished-room (leb 16 (length token)) (placeFrom empty token) e)
+  pub standing-kept : {size : ℕ} → tokenSize ≡ size → leb size (length token) && ltb p 5 ≡ false → standing token ≡ placeOf p
+  unfolding standing
+  standing-kept e t = pick-false _ _ (ap₂ (λ n b. leb n (length token) && b) e open-number ∙ t) ∙ sym h

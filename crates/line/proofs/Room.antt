@@ -8,7 +8,7 @@ use mathlib.Core.Option.{some}
 use lib.Dec.{eqb}
 use lib.ListN.{drop}
 use Rattle.rules.specs.Choice.{isEmpty}
-use Rattle.rules.specs.Numbers.{inputSize}
+use Rattle.rules.specs.Numbers.{tokenSize}
 use Rattle.rules.specs.State.{withTyped, withRead, withIdle}
 use Rattle.rules.specs.Turns.{changes}
 use Rattle.line.specs.declared.Line.{Line}
@@ -26,7 +26,6 @@ use Rattle.line.proofs.Held.{empty-take}
 use Rattle.line.proofs.Works.{changes-does}
 
 pub pending-room : (l : Line) → Bounded l → l .pending ≡ true → HasRoom (l .reading)
-unfolding inputSize
 pending-room l b e =
     let r = l .reading in
     let read = rw e at (b .state .read) in
@@ -62,7 +61,7 @@ module _ {w v u : Work} (rest : Typed) (next : Reading) (r : Reading) (f : First
       (λ i. withRead (some (b .view i)) (withTyped (f .keys i) (f .token i) (view (w .line)))) refl refl
       (record { table = c .table; set = c .set; typed = f .counted; reading = b .counted }))
 
-  pub taken-short : w .line .typed .«token_len» < 16 → u .line .typed .«token_len» < 16
+  pub taken-short : w .line .typed .«token_len» < tokenSize → u .line .typed .«token_len» < tokenSize
   taken-short s =
       let same = ap (λ x. x .line .typed .«token_len») (k ∙ ap (λ x. onLine (onRead next (x .line)) x) h) in
       omega (arith, same, f .begun)

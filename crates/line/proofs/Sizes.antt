@@ -1,10 +1,24 @@
--- The sizes of the rules, as the arrays have them.
+-- The sizes of the rules, as the arrays and the code have them. Nothing else in this crate looks at their numerals.
+use Prim.Native.Nat.{_<_}
+use native.Mathlib.Omega.{arith}
 use mathlib.Core.Path.{_≡_, refl}
-use Rattle.rules.specs.Numbers.{typeAheadSize, topDropped, terminalArea, messageArea}
+use Rattle.rules.specs.Numbers.{inputSize, typeAheadSize, tokenSize, messageSize, topDropped, terminalArea, messageArea}
+
+pub input-size : inputSize ≡ 132
+unfolding inputSize
+input-size = refl
+
+pub message-size : messageSize ≡ 256
+unfolding messageSize
+message-size = refl
 
 pub type-ahead-size : typeAheadSize ≡ 64
 unfolding typeAheadSize
 type-ahead-size = refl
+
+pub token-size : tokenSize ≡ 16
+unfolding tokenSize
+token-size = refl
 
 pub top-dropped : topDropped ≡ 65535
 unfolding topDropped
@@ -17,3 +31,10 @@ terminal-area = refl
 pub message-area : messageArea ≡ 256
 unfolding messageArea
 message-area = refl
+
+-- counts of what is typed fit bytes
+pub waiting-byte : typeAheadSize < 256
+waiting-byte = omega (arith, type-ahead-size)
+
+pub token-byte : tokenSize < 256
+token-byte = omega (arith, token-size)

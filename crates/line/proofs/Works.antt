@@ -1,8 +1,7 @@
 -- Parts of a call one after the other, and what a part that writes does.
 use mathlib.Core.Path.{_≡_, refl, sym, ap, ap₂, _∙_}
 use Prim.Native.Nat.{ℕ}
-use mathlib.Core.List.{List, [], _∷_, _++_, map, map-append, append-assoc}
-use lib.ListN.{length}
+use mathlib.Core.List.{List, [], _∷_, _++_, map-append, append-assoc}
 use mathlib.Core.Bool.{Bool, true, false}
 use Rattle.rules.specs.Choice.{pick, joined}
 use Rattle.rules.proofs.Tests.{pick-true, pick-false}

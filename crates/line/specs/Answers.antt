@@ -27,6 +27,5 @@ pub record Answers (e : Event ℕ) (l : Line) (terminal messages : List ℕ) (r 
   -- a refusal hands the very line back
   pub same : (r .number ≡ 0 → ⊥) → r .line ≡ l
 
--- a refusal's answer
 abbrev pub refusal : ℕ → Line → Answer
 refusal n l = record { line = l; number = n; terminal = 0; messages = 0 }

@@ -1,11 +1,11 @@
 -- What a call asks of a line: the bounds of its state, and each count within its array. `fresh` has them, and every call keeps them.
-use Prim.Native.Nat.{ℕ, _≤_}
+use Prim.Native.Nat.{_≤_}
 use mathlib.Core.Path.{_≡_}
 use lib.ListN.{length}
+use Rattle.rules.specs.Numbers.{inputSize, typeAheadSize, tokenSize}
 use Rattle.rules.specs.Bounds as rules
 use Rattle.rules.specs.State as state
-use Rattle.line.specs.declared.Set.{Set}
-use Rattle.line.specs.declared.Host.{Host}
+use Rattle.characteristics.specs.View.{CountedSet}
 use Rattle.line.specs.declared.Typed.{Typed}
 use Rattle.line.specs.declared.Terms.{Terms}
 use Rattle.line.specs.declared.Reading.{Reading}
@@ -13,29 +13,21 @@ use Rattle.line.specs.declared.Line.{Line}
 use Rattle.line.specs.View.{view}
 
 -- The arrays' lengths are their types'; here they stand beside the counts, where a proof finds them.
-pub record CountedSet (s : Set) : Type 0 where
-  pub size : length (s .bytes) ≡ 32
-  pub within : s .len ≤ 32
-
 pub record CountedTyped (t : Typed) : Type 0 where
-  pub keys : length (t .keys) ≡ 64
-  pub waiting : t .waiting ≤ 64
-  pub token : length (t .token) ≡ 16
-  pub begun : t .«token_len» ≤ 16
+  pub keys : length (t .keys) ≡ typeAheadSize
+  pub waiting : t .waiting ≤ typeAheadSize
+  pub token : length (t .token) ≡ tokenSize
+  pub begun : t .«token_len» ≤ tokenSize
 
 pub record CountedTerms (t : Terms) : Type 0 where
   pub set : CountedSet (t .set)
-  pub prompt : length (t .prompt) ≡ 132
-  pub shown : t .«prompt_len» ≤ 132
+  pub prompt : length (t .prompt) ≡ inputSize
+  pub shown : t .«prompt_len» ≤ inputSize
 
 pub record CountedReading (r : Reading) : Type 0 where
   pub terms : CountedTerms (r .terms)
-  pub input : length (r .input) ≡ 132
-  pub within : r .count ≤ 132
-
-pub record CountedHost (h : Host) : Type 0 where
-  pub table : length (h .attributes) ≡ 256
-  pub set : CountedSet (h .«last_set»)
+  pub input : length (r .input) ≡ inputSize
+  pub within : r .count ≤ inputSize
 
 pub record Counted (l : Line) : Type 0 where
   pub table : length (l .host .attributes) ≡ 256
@@ -47,7 +39,6 @@ pub record Bounded (l : Line) : Type 0 where
   pub state : rules.Bounded (view l)
   pub counted : Counted l
 
--- a fresh line
 pub record IsFresh (l : Line) : Type 0 where
   pub state : view l ≡ state.fresh
   pub bounded : Bounded l

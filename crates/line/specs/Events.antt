@@ -1,27 +1,33 @@
--- Events: what each is of the rules.
+-- Events: what each is of the rules. A host message stands in a slice.
 use Prim.Native.Nat.{ℕ, _<_}
+use mathlib.Core.List.{List}
 use Rattle.rules.specs.State.{codes}
 use Rattle.rules.specs.Turns.{Part}
 use Rattle.rules.specs.Arrival.{arrives}
 use Rattle.rules.specs.Steps.{steps, ticks}
 use Rattle.rules.specs.Calls as rules
+use Rattle.message.specs.Found.{heldIn}
+use Rattle.line.specs.declared.Line.{Line}
 use Rattle.line.specs.declared.events.Event.{Event}
-use Rattle.line.specs.declared.events.Event.the-variants.{Key, Tick, Step}
+use Rattle.line.specs.declared.events.Event.the-variants.{Key, Tick, Step, Host}
+use Rattle.line.specs.Obeyed.{Accepted, obeysHeld}
 
--- a key is a byte
-abbrev pub Admitted : Event → Type 0
-Admitted (Key c) = c < 256
-Admitted Tick = Unit {0}
-Admitted Step = Unit {0}
+-- a key is a byte, and a message is one that the line accepts
+abbrev pub Admitted : Line → List ℕ → Event → Type 0
+Admitted l s (Key c) = c < 256
+Admitted l s Tick = Unit {0}
+Admitted l s Step = Unit {0}
+Admitted l s (Host m) = Accepted l s m
 
 -- the part of the rules that an event is
-unfoldable pub eventPart : Event → Part ℕ
-eventPart (Key c) = arrives codes c
-eventPart Tick = ticks codes
-eventPart Step = steps codes
+unfoldable pub eventPart : List ℕ → Event → Part ℕ
+eventPart s (Key c) = arrives codes c
+eventPart s Tick = ticks codes
+eventPart s Step = steps codes
+eventPart s (Host m) = obeysHeld (heldIn s m)
 
--- the event of the rules
-unfoldable pub eventOf : Event → rules.Event ℕ
-eventOf (Key c) = rules.key c
-eventOf Tick = rules.tick
-eventOf Step = rules.step
+unfoldable pub eventOf : List ℕ → Event → rules.Event ℕ
+eventOf s (Key c) = rules.key c
+eventOf s Tick = rules.tick
+eventOf s Step = rules.step
+eventOf s (Host m) = rules.message s

@@ -5,6 +5,10 @@ pub mod TypedParts
 pub mod TokenParts
 pub mod ReadingParts
 pub mod StepParts
+pub mod Starts
+pub mod Obeyed
 pub mod Promise
 pub mod Answers
 pub mod Events
+pub mod Rows
+pub mod Chains

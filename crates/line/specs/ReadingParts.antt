@@ -5,6 +5,7 @@ use mathlib.Core.Bool.{Bool, not}
 use mathlib.Core.List.{List, []}
 use mathlib.Core.Option.{some}
 use lib.ListN.{length, take, drop}
+use Rattle.rules.specs.Numbers.{inputSize}
 use Rattle.rules.specs.Choice.{pick}
 use Rattle.rules.specs.State as rules
 use Rattle.rules.specs.Editing.{isWord, leftBy23, inputCodes, displayed}
@@ -42,7 +43,7 @@ ofClass word n = pick word (isWord n) (not (isWord n))
 -- a read that goes on: its arrays, and room for one character more
 pub record HasRoom (r : Reading) : Type 0 where
   pub counted : CountedReading r
-  pub largest : r .terms .«max_length» ≤ 132
+  pub largest : r .terms .«max_length» ≤ inputSize
   pub room : r .terms .«end_of_prompt» + r .count < r .terms .«max_length»
 
 -- with idle, or with the column where its data's display begins, set

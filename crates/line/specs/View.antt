@@ -1,4 +1,5 @@
--- The state of the rules that a line stands for. What lies behind a count is the program's own.
+-- The state of the rules that a line stands for. What lies behind a count is the program's own, and so is `reading` while none is pending, but
+-- for its counts within their arrays (`CountedReading`).
 use Prim.Native.Nat.{ℕ}
 use mathlib.Core.Bool.{Bool, true, false}
 use mathlib.Core.List.{List, map}
@@ -6,26 +7,13 @@ use mathlib.Core.Option.{Option, none, some}
 use lib.ListN.{take}
 use Rattle.rules.specs.State as rules
 use Rattle.screen.specs.View as screen
-use Rattle.line.specs.declared.Switches.{Switches}
-use Rattle.line.specs.declared.Set.{Set}
-use Rattle.line.specs.declared.Host.{Host}
+use Rattle.characteristics.specs.View.{setOf, hostOf}
 use Rattle.line.specs.declared.Terminal.{Terminal}
 use Rattle.line.specs.declared.Key.{Key}
 use Rattle.line.specs.declared.Typed.{Typed}
 use Rattle.line.specs.declared.Terms.{Terms}
 use Rattle.line.specs.declared.Reading.{Reading}
 use Rattle.line.specs.declared.Line.{Line}
-
-unfoldable pub setOf : Set → List ℕ
-setOf s = take (s .len) (s .bytes)
-
-abbrev pub switchesOf : Switches → rules.Switches
-switchesOf s =
-    record { raising = s .raising; echoing = s .echoing; recognising = s .recognising; prompting = s .prompting }
-
-abbrev pub hostOf : Host → rules.Host
-hostOf h =
-    record { begun = h .begun; switches = switchesOf (h .switches); attributes = h .attributes; lastSet = setOf (h .«last_set») }
 
 abbrev pub terminalOf : Terminal → rules.Terminal
 terminalOf t =

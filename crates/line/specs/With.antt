@@ -6,7 +6,7 @@ use Rattle.line.specs.declared.Terminal.{Terminal}
 use mathlib.Core.Bool.{true, false}
 use Rattle.line.specs.declared.Reading.{Reading}
 use Rattle.line.specs.declared.Typed.{Typed}
-use Rattle.line.specs.declared.Host.{Host}
+use Rattle.characteristics.specs.declared.Host.{Host}
 use Rattle.line.specs.declared.Line.{Line}
 use Rattle.line.specs.declared.Work.{Work}
 
@@ -22,6 +22,10 @@ afterShown s w = record { line = onTerminal (onScreen (s .screen) (w .line .term
 -- the call goes on with another line
 abbrev pub onLine : Line → Work → Work
 onLine l w = record { line = l; at = w .at; sent = w .sent }
+
+-- the call goes on behind what was sent
+abbrev pub afterSent : ℕ → Work → Work
+afterSent n w = record { line = w .line; at = w .at; sent = n }
 
 abbrev pub onTyped : Typed → Line → Line
 onTyped t l = record { host = l .host; terminal = l .terminal; typed = t; pending = l .pending; reading = l .reading }

@@ -3,33 +3,14 @@ ghost use mathlib.Core.List.{List};
 ghost use Rattle.rules.specs.State.{codes};
 ghost use Prim.Native.Nat.{ℕ, _+_, _<_, min};
 ghost use Rattle.rules.specs.Arrival as rules;
-ghost use Rattle.rules.specs.Choice.{bit};
-ghost use Rattle.rules.specs.Messages.Forms.{plain};
-ghost use Rattle.rules.specs.Messages.Codec as codec;
-ghost use Rattle.rules.specs.Turns.{sends};
-ghost use Rattle.message.specs.Found.{heldIn};
-ghost use Rattle.writing.specs.Parts.{partsOf, inside};
 ghost use Rattle.line.specs.View.{pendingOf};
 ghost use Rattle.line.specs.Bounded.{Counted, CountedReading};
 ghost use Rattle.line.specs.Promise.{Does};
 ghost use Rattle.rules.specs.Numbers.{typeAheadSize, topDropped};
-ghost use lib.ListN.{length, getD};
 ghost use mathlib.Core.Path.{_≡_};
-ghost use mathlib.Core.Bool.{true};
-use crate::Host;
 use crate::Reading;
 use crate::Work;
 use message::Message;
-
-// A flag as a number.
-fn bit_of(test: bool) -> u8
-    ensures { λ r. ⌜ r ≡ bit test ⌝ }
-{
-    if test {
-        return 1;
-    }
-    0
-}
 
 // A pending read has DDD 3.
 fn passes_controls(pending: bool, r: Reading) -> bool
@@ -42,29 +23,21 @@ fn passes_controls(pending: bool, r: Reading) -> bool
     false
 }
 
-impl Host {
-    // What a character's attribute is.
-    fn attribute(self, c: u8) -> u8
-        requires { ⌜ length (self .attributes) ≡ 256 ⌝ }
-        ensures { λ r. ⌜ r ≡ getD (self .attributes) c 0 ⌝ }
-    {
-        let attributes = self.attributes;
-        attributes[c as usize]
-    }
-}
-
 // A count that stops at its top.
 fn one_more(n: u16) -> u16
     ensures { λ r. ⌜ r ≡ min topDropped (n + 1) ⌝ }
 {
-    if n < 65535 { n + 1 } else { 65535 }
+    if n < rules::TOP_DROPPED {
+        return n + 1;
+    }
+    rules::TOP_DROPPED
 }
 
 impl Work {
     // One key more in type-ahead; idle is 0.
     fn keeps(self, quoted: bool, c: u8) -> Work
         requires { ⌜ Counted (self .line) ⌝ }
-        requires { ⌜ self .line .typed .waiting < 64 ⌝ }
+        requires { ⌜ self .line .typed .waiting < typeAheadSize ⌝ }
         ensures { λ w. ⌜ ((t m : List ℕ) → Does (rules.keeps quoted c) self t m w t m) ⌝ }
     {
         let line = self.line;
@@ -130,15 +103,6 @@ impl Work {
         self.with_terminal(known)
     }
 
-    // A message that has numbers alone.
-    fn sends_plain(self, messages: &mut [u8], m: Message) -> Work
-        requires { ⌜ Counted (self .line) ⌝ }
-        ensures { λ w. ⌜ ((kind : ℕ) (numbers : List ℕ) → ((s : List ℕ) → heldIn s m ≡ codec.message (plain kind numbers)) → inside 0 (partsOf m) ≡ true → (t : List ℕ) → Does (sends (plain kind numbers)) self t (now (messages .entry)) w t (now (messages .exit))) ⌝ }
-    {
-        let text = [0u8; 1];
-        self.send(messages, m, &text[..0])
-    }
-
     // Rule 3, code 15; Discard State says 1 where output is not discarded.
     fn flips_discard(self, messages: &mut [u8]) -> Work
         requires { ⌜ Counted (self .line) ⌝ }
@@ -147,13 +111,13 @@ impl Work {
         let line = self.line;
         let mut known = line.terminal;
         known.discarding = !known.discarding;
-        let kept = bit_of(!known.discarding);
+        let kept = message::bit_of(!known.discarding);
         let next = self.with_terminal(known);
         next.sends_plain(messages, Message::DiscardState { kept })
     }
 
     // Type-ahead and tokens go.
-    pub fn empties_typed(self) -> Work
+    pub(crate) fn empties_typed(self) -> Work
         requires { ⌜ Counted (self .line) ⌝ }
         ensures { λ w. ⌜ ((t m : List ℕ) → Does rules.emptiesTyped self t m w t m) ⌝ }
     {
@@ -188,7 +152,7 @@ impl Work {
     }
 
     // The clear rule of 24 and Clear Input.
-    pub fn clears(self, terminal: &mut [u8]) -> Work
+    pub(crate) fn clears(self, terminal: &mut [u8]) -> Work
         requires { ⌜ Counted (self .line) ⌝ }
         ensures { λ w. ⌜ ((m : List ℕ) → Does (rules.clears codes) self (now (terminal .entry)) m w (now (terminal .exit)) m) ⌝ }
     {
@@ -290,7 +254,7 @@ impl Work {
     }
 
     // The arrival rules; before Initiate only rule 4 applies.
-    pub fn arrives(self, terminal: &mut [u8], messages: &mut [u8], c: u8) -> Work
+    pub(crate) fn arrives(self, terminal: &mut [u8], messages: &mut [u8], c: u8) -> Work
         requires { ⌜ Counted (self .line) ⌝ }
         ensures { λ w. ⌜ Does (rules.arrives codes c) self (now (terminal .entry)) (now (messages .entry)) w (now (terminal .exit)) (now (messages .exit)) ⌝ }
     {

@@ -1,45 +1,34 @@
 // The calls: each makes an event, which goes through one method.
 ghost use mathlib.Core.Path.{_≡_};
+ghost use mathlib.Core.Bool.{true};
+ghost use mathlib.Core.List.{[]};
+ghost use lib.ListN.{length};
 ghost use Rattle.rules.specs.Calls as rules;
 ghost use Rattle.line.specs.Bounded.{Bounded};
+ghost use Rattle.line.specs.Rows.{areRoomy};
 ghost use Rattle.line.specs.Events.{Admitted, eventOf};
-ghost use Rattle.line.specs.Answers.{Answers, refusal};
+ghost use Rattle.line.specs.Answers.{Answers};
 use crate::Answer;
 use crate::Line;
 use crate::Work;
 use crate::events::Event;
+use crate::refusals::are_roomy;
+use message::Found;
 
 impl Line {
-    // A refusal writes nothing and hands the line back as it was.
-    fn refuse(self, number: u8) -> Answer
-        ensures { λ r. ⌜ r ≡ refusal number self ⌝ }
-    {
-        Answer {
-            line: self,
-            number,
-            terminal: 0,
-            messages: 0,
-        }
-    }
-
     // An event, in areas that are large enough.
-    fn take(self, e: Event, terminal: &mut [u8], messages: &mut [u8]) -> Answer
+    fn take(self, e: Event, s: &[u8], terminal: &mut [u8], messages: &mut [u8]) -> Answer
         requires { ⌜ Bounded self ⌝ }
-        requires { ⌜ Admitted e ⌝ }
-        ensures { λ r. ⌜ Answers (eventOf e) self (now (terminal .entry)) (now (messages .entry)) r (now (terminal .exit)) (now (messages .exit)) ⌝ }
+        requires { ⌜ Admitted self (now s) e ⌝ }
+        requires { ⌜ areRoomy (length (now terminal)) (length (now messages)) ≡ true ⌝ }
+        ensures { λ r. ⌜ Answers (eventOf (now (s .entry)) e) self (now (terminal .entry)) (now (messages .entry)) r (now (terminal .exit)) (now (messages .exit)) ⌝ }
     {
-        if terminal.len() < rules::TERMINAL_AREA {
-            return self.refuse(1);
-        }
-        if messages.len() < rules::MESSAGE_AREA {
-            return self.refuse(1);
-        }
         let begun = Work {
             line: self,
             at: 0,
             sent: 0,
         };
-        let done = begun.does(e, terminal, messages);
+        let done = begun.does(e, s, terminal, messages);
         let line = done.line;
         Answer {
             line,
@@ -49,20 +38,31 @@ impl Line {
         }
     }
 
+    // An event with no message, in any areas.
+    fn take_unless_small(self, e: Event, terminal: &mut [u8], messages: &mut [u8]) -> Answer
+        requires { ⌜ Bounded self ⌝ }
+        requires { ⌜ Admitted self [] e ⌝ }
+        ensures { λ r. ⌜ Answers (eventOf [] e) self (now (terminal .entry)) (now (messages .entry)) r (now (terminal .exit)) (now (messages .exit)) ⌝ }
+    {
+        if !are_roomy(terminal.len(), messages.len()) {
+            return self.refuse(1);
+        }
+        self.take(e, b"", terminal, messages)
+    }
+
     // A keystroke arrives.
     pub fn key(self, code: u8, terminal: &mut [u8], messages: &mut [u8]) -> Answer
         requires { ⌜ Bounded self ⌝ }
         ensures { λ r. ⌜ Answers (rules.key code) self (now (terminal .entry)) (now (messages .entry)) r (now (terminal .exit)) (now (messages .exit)) ⌝ }
     {
-        self.take(Event::Key(code), terminal, messages)
+        self.take_unless_small(Event::Key(code), terminal, messages)
     }
 
-    // One step.
     pub fn step(self, terminal: &mut [u8], messages: &mut [u8]) -> Answer
         requires { ⌜ Bounded self ⌝ }
         ensures { λ r. ⌜ Answers rules.step self (now (terminal .entry)) (now (messages .entry)) r (now (terminal .exit)) (now (messages .exit)) ⌝ }
     {
-        self.take(Event::Step, terminal, messages)
+        self.take_unless_small(Event::Step, terminal, messages)
     }
 
     // A second has passed.
@@ -70,6 +70,26 @@ impl Line {
         requires { ⌜ Bounded self ⌝ }
         ensures { λ r. ⌜ Answers rules.tick self (now (terminal .entry)) (now (messages .entry)) r (now (terminal .exit)) (now (messages .exit)) ⌝ }
     {
-        self.take(Event::Tick, terminal, messages)
+        self.take_unless_small(Event::Tick, terminal, messages)
+    }
+
+    // The host sends a message.
+    pub fn host(self, s: &[u8], terminal: &mut [u8], messages: &mut [u8]) -> Answer
+        requires { ⌜ Bounded self ⌝ }
+        ensures { λ r. ⌜ Answers (rules.message (now (s .entry))) self (now (terminal .entry)) (now (messages .entry)) r (now (terminal .exit)) (now (messages .exit)) ⌝ }
+    {
+        let row = self.early_row(s, terminal.len(), messages.len());
+        if row != 0 {
+            return self.refuse(row);
+        }
+        let f = message::read(s);
+        let Found::Message(m) = f else {
+            let number = message::number_of(f);
+            return self.refuse(number);
+        };
+        if !self.carries(m, s) {
+            return self.refuse(6);
+        }
+        self.take(Event::Host(m), s, terminal, messages)
     }
 }

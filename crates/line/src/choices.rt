@@ -1,14 +1,12 @@
 // How a read takes a key: what decides between the rules.
 ghost use mathlib.Core.Path.{_≡_};
 ghost use Prim.Native.Nat.{_-_};
-ghost use Rattle.rules.specs.Messages.Layout.{byteAt};
 ghost use Rattle.rules.specs.State as rules;
 ghost use Rattle.rules.specs.StartRead.{inSet};
 ghost use Rattle.rules.specs.Steps.{editsBy, beginsToken, raisedBy};
-ghost use Rattle.line.specs.View.{setOf, readingOf};
-ghost use Rattle.line.specs.Bounded.{CountedSet};
+ghost use Rattle.characteristics.specs.View.{setOf, CountedSet};
+ghost use Rattle.line.specs.View.{readingOf};
 use crate::Reading;
-use crate::Set;
 
 // 97 to 122 less 32.
 fn raised(c: u8) -> u8
@@ -20,31 +18,8 @@ fn raised(c: u8) -> u8
     c
 }
 
-impl Set {
-    // The byte at a place, 0 behind the last.
-    fn byte(self, at: usize) -> u8
-        requires { ⌜ CountedSet self ⌝ }
-        ensures { λ r. ⌜ r ≡ byteAt (setOf self) at ⌝ }
-    {
-        let bytes = self.bytes;
-        if at < self.len as usize {
-            return bytes[at];
-        }
-        0
-    }
-
-    pub fn has(self, c: u8) -> bool
-        requires { ⌜ CountedSet self ⌝ }
-        ensures { λ r. ⌜ r ≡ inSet (setOf self) c ⌝ }
-    {
-        let at = (c / 8) as usize;
-        let byte = self.byte(at);
-        (byte >> (c % 8)) % 2 == 1
-    }
-}
-
 impl Reading {
-    pub fn ends_by(self, c: u8) -> bool
+    pub(crate) fn ends_by(self, c: u8) -> bool
         requires { ⌜ CountedSet (self .terms .set) ⌝ }
         ensures { λ r. ⌜ r ≡ inSet (setOf (self .terms .set)) c ⌝ }
     {
@@ -53,7 +28,7 @@ impl Reading {
         set.has(c)
     }
 
-    pub fn edits_by(self, c: u8) -> bool
+    pub(crate) fn edits_by(self, c: u8) -> bool
         ensures { λ r. ⌜ r ≡ editsBy c (readingOf self) ⌝ }
     {
         let terms = self.terms;
@@ -61,14 +36,14 @@ impl Reading {
         ((c == 127) | (c == 23)) & (disables <= 1) | ((c == 21) | (c == 18)) & (disables == 0)
     }
 
-    pub fn begins_token(self, c: u8) -> bool
+    pub(crate) fn begins_token(self, c: u8) -> bool
         ensures { λ r. ⌜ r ≡ beginsToken c (readingOf self) ⌝ }
     {
         let terms = self.terms;
         ((c == 27) | (c == 155)) & terms.recognises
     }
 
-    pub fn raised_by(self, c: u8) -> u8
+    pub(crate) fn raised_by(self, c: u8) -> u8
         ensures { λ r. ⌜ r ≡ raisedBy rules.codes (readingOf self) c ⌝ }
     {
         let terms = self.terms;
@@ -79,7 +54,7 @@ impl Reading {
     }
 
     // How many characters 127 leaves.
-    pub fn left_by_127(self) -> u16
+    pub(crate) fn left_by_127(self) -> u16
         ensures { λ r. ⌜ r ≡ self .count - 1 ⌝ }
     {
         if 0 < self.count {

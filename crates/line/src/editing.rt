@@ -13,7 +13,7 @@ use crate::Work;
 
 impl Work {
     // Deletes all but the first characters, without rubbing out.
-    pub fn deletes_unseen(self, left: u16, r: Reading) -> Work
+    pub(crate) fn deletes_unseen(self, left: u16, r: Reading) -> Work
         requires { ⌜ Counted (self .line) ⌝ }
         requires { ⌜ CountedReading r ⌝ }
         requires { ⌜ left ≤ r .count ⌝ }
@@ -24,7 +24,7 @@ impl Work {
     }
 
     // Deletes them and, in a read that echoes, rubs them out.
-    pub fn deletes(self, terminal: &mut [u8], left: u16, r: Reading) -> Work
+    pub(crate) fn deletes(self, terminal: &mut [u8], left: u16, r: Reading) -> Work
         requires { ⌜ Counted (self .line) ⌝ }
         requires { ⌜ CountedReading r ⌝ }
         requires { ⌜ left ≤ r .count ⌝ }
@@ -61,7 +61,7 @@ impl Work {
     }
 
     // The prompt, and the echo of what follows it if the read echoes.
-    pub fn displays(self, terminal: &mut [u8], r: Reading) -> Work
+    pub(crate) fn displays(self, terminal: &mut [u8], r: Reading) -> Work
         requires { ⌜ Counted (self .line) ⌝ }
         requires { ⌜ CountedReading r ⌝ }
         ensures { λ w. ⌜ ((m : List ℕ) → Does (rules.displays codes (readingOf r)) self (now (terminal .entry)) m w (now (terminal .exit)) m) ⌝ }
@@ -74,7 +74,7 @@ impl Work {
     }
 
     // CR LF, and the display again.
-    pub fn redisplays(self, terminal: &mut [u8], r: Reading) -> Work
+    pub(crate) fn redisplays(self, terminal: &mut [u8], r: Reading) -> Work
         requires { ⌜ Counted (self .line) ⌝ }
         requires { ⌜ CountedReading r ⌝ }
         ensures { λ w. ⌜ ((m : List ℕ) → Does (rules.redisplays codes (readingOf r)) self (now (terminal .entry)) m w (now (terminal .exit)) m) ⌝ }

@@ -76,7 +76,7 @@ impl Work {
     }
 
     // Read Data with this code; so many characters at the end are a terminator, token or underflow code.
-    pub fn completes(self, messages: &mut [u8], code: u8, ending: u16, r: Reading) -> Work
+    pub(crate) fn completes(self, messages: &mut [u8], code: u8, ending: u16, r: Reading) -> Work
         requires { ⌜ Counted (self .line) ⌝ }
         requires { ⌜ CountedReading r ⌝ }
         requires { ⌜ ending ≤ r .count ⌝ }

@@ -3,21 +3,22 @@ ghost use mathlib.Core.Path.{_≡_};
 ghost use mathlib.Core.List.{[]};
 ghost use Rattle.rules.specs.State as rules;
 ghost use Rattle.rules.specs.StartRead as sets;
-ghost use Rattle.line.specs.View.{setOf, hostOf, typedOf, view};
-ghost use Rattle.line.specs.Bounded.{CountedSet, CountedHost, CountedTyped, CountedReading, IsFresh};
-use crate::Host;
+ghost use Rattle.characteristics.specs.View.{setOf, hostOf, CountedSet, CountedHost};
+ghost use Rattle.line.specs.View.{typedOf, view};
+ghost use Rattle.line.specs.Bounded.{CountedTyped, CountedReading, IsFresh};
 use crate::Key;
 use crate::Line;
 use crate::Reading;
-use crate::Set;
-use crate::Switches;
 use crate::Terminal;
 use crate::Terms;
 use crate::Typed;
+use characteristics::Host;
+use characteristics::Set;
+use characteristics::Switches;
 use screen::Screen;
 
 // Codes 0 to 31 except 8, 9, 18, 21, 23.
-fn universal() -> Set
+pub(crate) fn universal() -> Set
     ensures { λ r. ⌜ (setOf r ≡ sets.universal) × CountedSet r ⌝ }
 {
     let mut bytes = [0u8; 32];

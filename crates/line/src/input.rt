@@ -3,6 +3,7 @@ ghost use mathlib.Core.Path.{_≡_};
 ghost use Prim.Native.Nat.{_+_, _-_, _≤_, _<_, min};
 ghost use mathlib.Core.List.{[], _∷_, reverse};
 ghost use lib.ListN.{length, take};
+ghost use Rattle.rules.specs.Numbers.{inputSize};
 ghost use Rattle.rules.specs.State.{codes};
 ghost use Rattle.rules.specs.Screen as screen;
 ghost use Rattle.rules.specs.Editing as rules;
@@ -53,7 +54,7 @@ fn end_before(text: &[u8], end: usize, word: bool) -> usize
 
 impl Reading {
     // Its first characters left; LOW-WATER falls to the new end if lower.
-    pub fn shortened(self, left: u16) -> Reading
+    pub(crate) fn shortened(self, left: u16) -> Reading
         requires { ⌜ CountedReading self ⌝ }
         requires { ⌜ left ≤ self .count ⌝ }
         ensures { λ r. ⌜ Becomes (rules.shortened left (readingOf self)) r ⌝ }
@@ -68,9 +69,9 @@ impl Reading {
     }
 
     // One character more.
-    pub fn push(self, c: u8) -> Reading
+    pub(crate) fn push(self, c: u8) -> Reading
         requires { ⌜ CountedReading self ⌝ }
-        requires { ⌜ self .count < 132 ⌝ }
+        requires { ⌜ self .count < inputSize ⌝ }
         ensures { λ r. ⌜ Appends (c ∷ []) self r ⌝ }
     {
         let at = self.count as usize;
@@ -83,9 +84,9 @@ impl Reading {
     }
 
     // More characters.
-    pub fn push_all(self, cs: &[u8]) -> Reading
+    pub(crate) fn push_all(self, cs: &[u8]) -> Reading
         requires { ⌜ CountedReading self ⌝ }
-        requires { ⌜ self .count + length (now cs) ≤ 132 ⌝ }
+        requires { ⌜ self .count + length (now cs) ≤ inputSize ⌝ }
         ensures { λ r. ⌜ Appends (now (cs .entry)) self r ⌝ }
     {
         let mut next = self;
@@ -97,7 +98,7 @@ impl Reading {
         next
     }
 
-    pub fn with_idle(self, idle: u16) -> Reading
+    pub(crate) fn with_idle(self, idle: u16) -> Reading
         ensures { λ r. ⌜ r ≡ idling idle self ⌝ }
     {
         let mut next = self;
@@ -106,7 +107,7 @@ impl Reading {
     }
 
     // Its data's display begins at this column.
-    pub fn with_from(self, column: u16) -> Reading
+    pub(crate) fn with_from(self, column: u16) -> Reading
         ensures { λ r. ⌜ r ≡ shownAt column self ⌝ }
     {
         let mut next = self;
@@ -115,7 +116,7 @@ impl Reading {
     }
 
     // The end of the buffer.
-    pub fn end(self) -> u32
+    pub(crate) fn end(self) -> u32
         requires { ⌜ CountedReading self ⌝ }
         ensures { λ r. ⌜ r ≡ rules.endOf (readingOf self) ⌝ }
     {
@@ -124,7 +125,7 @@ impl Reading {
     }
 
     // Where its displayed characters begin: behind the LF that F hides.
-    pub fn first_shown(self) -> usize
+    pub(crate) fn first_shown(self) -> usize
         requires { ⌜ CountedReading self ⌝ }
         ensures { λ r. ⌜ ShownFrom self r ⌝ }
     {
@@ -145,7 +146,7 @@ impl Reading {
     }
 
     // The marks and spaces on the screen for all but its first characters.
-    pub fn marks(self, left: u16) -> usize
+    pub(crate) fn marks(self, left: u16) -> usize
         requires { ⌜ CountedReading self ⌝ }
         ensures { λ r. ⌜ r ≡ screen.marksBehind (left - rules.hiddenCount (readingOf self)) (self .from) (rules.displayed codes (readingOf self)) ⌝ }
     {
@@ -158,7 +159,7 @@ impl Reading {
     }
 
     // How many characters 23 leaves.
-    pub fn left_by_23(self) -> u16
+    pub(crate) fn left_by_23(self) -> u16
         requires { ⌜ CountedReading self ⌝ }
         ensures { λ r. ⌜ LeftBy23 self r ⌝ }
     {

@@ -1,4 +1,6 @@
 // One line of the console end: its state by value, and the four calls on it.
+use characteristics::Host;
+use characteristics::Set;
 use screen::Screen;
 
 mod arrival;
@@ -8,41 +10,23 @@ mod editing;
 mod ending;
 mod events;
 mod fresh;
+mod initiating;
 mod input;
+mod obeying;
+mod opening;
+mod output;
 mod parts;
+mod refusals;
 mod sending;
 mod shows;
+mod starting;
 mod steps;
 mod taking;
 mod tokens;
 mod waiting;
 
-// The four characteristics that are switches.
-struct Switches {
-    raising: bool,
-    echoing: bool,
-    recognising: bool,
-    prompting: bool,
-}
-
-// A termination set: its first bytes.
-struct Set {
-    bytes: [u8; 32],
-    len: u8,
-}
-
-// What the host has set.
-struct Host {
-    // Initiate was accepted
-    begun: bool,
-    switches: Switches,
-    attributes: [u8; 256],
-    // the last set given with ZZ 1
-    last_set: Set,
-}
-
 // What is known of the terminal.
-struct Terminal {
+pub struct Terminal {
     screen: Screen,
     discarding: bool,
     quoting: bool,
@@ -50,13 +34,13 @@ struct Terminal {
 }
 
 // A key that waits.
-struct Key {
+pub struct Key {
     code: u8,
     quoted: bool,
 }
 
 // Typed and not yet in a read: type-ahead, and a partial or held token.
-struct Typed {
+pub struct Typed {
     keys: [Key; rules::TYPE_AHEAD],
     waiting: u8,
     token: [u8; rules::TOKEN],
@@ -64,7 +48,7 @@ struct Typed {
 }
 
 // What is fixed for the whole of a read.
-struct Terms {
+pub struct Terms {
     underflow: u8,
     disables: u8,
     raises: bool,
@@ -85,7 +69,7 @@ struct Terms {
 }
 
 // A read: what stands after its prompt, and how it goes on.
-struct Reading {
+pub struct Reading {
     terms: Terms,
     input: [u8; rules::INPUT],
     count: u16,

@@ -1,14 +1,14 @@
 // A call goes on with one part of its line changed.
 ghost use mathlib.Core.Path.{_≡_};
 ghost use Rattle.line.specs.With.{onLine, onTerminal, onTyped, onHost, onRead, offRead};
-use crate::Host;
 use crate::Reading;
 use crate::Terminal;
 use crate::Typed;
 use crate::Work;
+use characteristics::Host;
 
 impl Work {
-    pub fn with_terminal(self, t: Terminal) -> Work
+    pub(crate) fn with_terminal(self, t: Terminal) -> Work
         ensures { λ r. ⌜ r ≡ onLine (onTerminal t (self .line)) self ⌝ }
     {
         let mut line = self.line;
@@ -20,7 +20,7 @@ impl Work {
         }
     }
 
-    pub fn with_typed(self, t: Typed) -> Work
+    pub(crate) fn with_typed(self, t: Typed) -> Work
         ensures { λ r. ⌜ r ≡ onLine (onTyped t (self .line)) self ⌝ }
     {
         let mut line = self.line;
@@ -32,7 +32,7 @@ impl Work {
         }
     }
 
-    pub fn with_host(self, h: Host) -> Work
+    pub(crate) fn with_host(self, h: Host) -> Work
         ensures { λ r. ⌜ r ≡ onLine (onHost h (self .line)) self ⌝ }
     {
         let mut line = self.line;
@@ -45,7 +45,7 @@ impl Work {
     }
 
     // With this read pending.
-    pub fn with_read(self, read: Reading) -> Work
+    pub(crate) fn with_read(self, read: Reading) -> Work
         ensures { λ r. ⌜ r ≡ onLine (onRead read (self .line)) self ⌝ }
     {
         let mut line = self.line;
@@ -58,7 +58,7 @@ impl Work {
         }
     }
 
-    pub fn without_read(self) -> Work
+    pub(crate) fn without_read(self) -> Work
         ensures { λ r. ⌜ r ≡ onLine (offRead (self .line)) self ⌝ }
     {
         let mut line = self.line;

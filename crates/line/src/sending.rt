@@ -5,27 +5,47 @@ ghost use mathlib.Core.Bool.{true};
 ghost use mathlib.Core.List.{List};
 ghost use lib.ListN.{length};
 ghost use Rattle.rules.specs.Messages.Forms as forms;
+ghost use Rattle.rules.specs.Messages.Forms.{plain};
+ghost use Rattle.rules.specs.Messages.Codec as codec;
+ghost use Rattle.message.specs.Found.{heldIn};
 ghost use Rattle.rules.specs.Turns.{sends};
 ghost use Rattle.writing.specs.Parts.{partsOf, inside};
 ghost use Rattle.writing.proofs.Lengths.{Sendable};
 ghost use Rattle.line.specs.Bounded.{Counted};
+ghost use Rattle.line.specs.With.{afterSent};
 ghost use Rattle.line.specs.Promise.{Does};
 use crate::Work;
 use message::Message;
 
 impl Work {
-    // A message without parameters, whose text stands in a slice.
-    pub fn send(self, messages: &mut [u8], m: Message, s: &[u8]) -> Work
-        requires { ⌜ Counted (self .line) ⌝ }
-        ensures { λ w. ⌜ ((x : forms.Message ℕ) → Sendable (now (s .entry)) m x → inside (length (now (s .entry))) (partsOf m) ≡ true → (t : List ℕ) → Does (sends x) self t (now (messages .entry)) w t (now (messages .exit))) ⌝ }
+    // The call goes on behind what was sent.
+    pub(crate) fn sent_up_to(self, sent: usize) -> Work
+        ensures { λ r. ⌜ r ≡ afterSent sent self ⌝ }
     {
         let line = self.line;
-        let at = self.sent;
-        let sent = writing::put_framed(m, s, messages, at);
         Work {
             line,
             at: self.at,
             sent,
         }
+    }
+
+    // A message without parameters, whose text stands in a slice.
+    pub(crate) fn send(self, messages: &mut [u8], m: Message, s: &[u8]) -> Work
+        requires { ⌜ Counted (self .line) ⌝ }
+        ensures { λ w. ⌜ ((x : forms.Message ℕ) → Sendable (now (s .entry)) m x → inside (length (now (s .entry))) (partsOf m) ≡ true → (t : List ℕ) → Does (sends x) self t (now (messages .entry)) w t (now (messages .exit))) ⌝ }
+    {
+        let at = self.sent;
+        let sent = writing::put_framed(m, s, messages, at);
+        self.sent_up_to(sent)
+    }
+
+    // A message that has numbers alone.
+    pub(crate) fn sends_plain(self, messages: &mut [u8], m: Message) -> Work
+        requires { ⌜ Counted (self .line) ⌝ }
+        ensures { λ w. ⌜ ((kind : ℕ) (numbers : List ℕ) → ((s : List ℕ) → heldIn s m ≡ codec.message (plain kind numbers)) → inside 0 (partsOf m) ≡ true → (t : List ℕ) → Does (sends (plain kind numbers)) self t (now (messages .entry)) w t (now (messages .exit))) ⌝ }
+    {
+        let text = [0u8; 1];
+        self.send(messages, m, &text[..0])
     }
 }

@@ -29,7 +29,7 @@ impl Work {
     }
 
     // The bytes of a text, raw.
-    pub fn write(self, terminal: &mut [u8], text: &[u8]) -> Work
+    pub(crate) fn write(self, terminal: &mut [u8], text: &[u8]) -> Work
         requires { ⌜ Counted (self .line) ⌝ }
         ensures { λ r. ⌜ ((m : List ℕ) → Does (writes (now (text .entry))) self (now (terminal .entry)) m r (now (terminal .exit)) m) ⌝ }
     {
@@ -42,7 +42,7 @@ impl Work {
     }
 
     // One byte.
-    pub fn put(self, terminal: &mut [u8], b: u8) -> Work
+    pub(crate) fn put(self, terminal: &mut [u8], b: u8) -> Work
         requires { ⌜ Counted (self .line) ⌝ }
         ensures { λ r. ⌜ ((m : List ℕ) → Does (writes (b ∷ [])) self (now (terminal .entry)) m r (now (terminal .exit)) m) ⌝ }
     {
@@ -55,7 +55,7 @@ impl Work {
     }
 
     // A character's echo.
-    pub fn echo(self, terminal: &mut [u8], n: u8) -> Work
+    pub(crate) fn echo(self, terminal: &mut [u8], n: u8) -> Work
         requires { ⌜ Counted (self .line) ⌝ }
         ensures { λ r. ⌜ ((m : List ℕ) → Does (writes (rules.echo (self .line .terminal .screen .column) n)) self (now (terminal .entry)) m r (now (terminal .exit)) m) ⌝ }
     {
@@ -68,7 +68,7 @@ impl Work {
     }
 
     // A terminator's echo.
-    pub fn echo_terminator(self, terminal: &mut [u8], n: u8) -> Work
+    pub(crate) fn echo_terminator(self, terminal: &mut [u8], n: u8) -> Work
         requires { ⌜ Counted (self .line) ⌝ }
         ensures { λ r. ⌜ ((m : List ℕ) → Does (writes (rules.terminatorEcho (self .line .terminal .screen .column) n)) self (now (terminal .entry)) m r (now (terminal .exit)) m) ⌝ }
     {
@@ -81,7 +81,7 @@ impl Work {
     }
 
     // A text's echo.
-    pub fn echo_all(self, terminal: &mut [u8], text: &[u8]) -> Work
+    pub(crate) fn echo_all(self, terminal: &mut [u8], text: &[u8]) -> Work
         requires { ⌜ Counted (self .line) ⌝ }
         ensures { λ r. ⌜ ((m : List ℕ) → Does (writes (rules.echoAll (self .line .terminal .screen .column) (now (text .entry)))) self (now (terminal .entry)) m r (now (terminal .exit)) m) ⌝ }
     {
@@ -94,7 +94,7 @@ impl Work {
     }
 
     // Blanks over so many marks.
-    pub fn rub_out(self, terminal: &mut [u8], marks: usize) -> Work
+    pub(crate) fn rub_out(self, terminal: &mut [u8], marks: usize) -> Work
         requires { ⌜ Counted (self .line) ⌝ }
         ensures { λ r. ⌜ ((m : List ℕ) → Does (writes (rules.rubOut marks)) self (now (terminal .entry)) m r (now (terminal .exit)) m) ⌝ }
     {

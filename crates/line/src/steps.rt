@@ -1,6 +1,7 @@
 // A step takes a key as data, a terminator, an edit or a part of a token.
 ghost use Prim.Native.Nat.{ℕ, _+_, _≤_, _<_};
 ghost use mathlib.Core.List.{List};
+ghost use Rattle.rules.specs.Numbers.{inputSize, tokenSize};
 ghost use Rattle.rules.specs.State.{codes};
 ghost use Rattle.rules.specs.Steps as rules;
 ghost use Rattle.line.specs.View.{readingOf};
@@ -16,7 +17,7 @@ impl Work {
     fn ends_by_token(self, messages: &mut [u8], r: Reading) -> Work
         requires { ⌜ Counted (self .line) ⌝ }
         requires { ⌜ CountedReading r ⌝ }
-        requires { ⌜ r .count + self .line .typed .«token_len» ≤ 132 ⌝ }
+        requires { ⌜ r .count + self .line .typed .«token_len» ≤ inputSize ⌝ }
         ensures { λ w. ⌜ ((t : List ℕ) → Does (endsByToken (readingOf r)) self t (now (messages .entry)) w t (now (messages .exit))) ⌝ }
     {
         let line = self.line;
@@ -31,7 +32,7 @@ impl Work {
     }
 
     // A whole token: one that does not fit stays held.
-    pub fn takes_token(self, messages: &mut [u8], r: Reading) -> Work
+    pub(crate) fn takes_token(self, messages: &mut [u8], r: Reading) -> Work
         requires { ⌜ Counted (self .line) ⌝ }
         requires { ⌜ HasRoom r ⌝ }
         ensures { λ w. ⌜ ((t : List ℕ) → Does (rules.takesToken codes (readingOf r)) self t (now (messages .entry)) w t (now (messages .exit))) ⌝ }
@@ -46,10 +47,10 @@ impl Work {
     }
 
     // Rules 1 and 3.
-    pub fn adds_to_token(self, messages: &mut [u8], c: u8, r: Reading) -> Work
+    pub(crate) fn adds_to_token(self, messages: &mut [u8], c: u8, r: Reading) -> Work
         requires { ⌜ Counted (self .line) ⌝ }
         requires { ⌜ HasRoom r ⌝ }
-        requires { ⌜ self .line .typed .«token_len» < 16 ⌝ }
+        requires { ⌜ self .line .typed .«token_len» < tokenSize ⌝ }
         ensures { λ w. ⌜ ((t : List ℕ) → Does (rules.addsToToken codes c (readingOf r)) self t (now (messages .entry)) w t (now (messages .exit))) ⌝ }
     {
         let line = self.line;
@@ -83,7 +84,13 @@ impl Work {
     }
 
     // Rule 7, data.
-    pub fn takes_data(self, terminal: &mut [u8], messages: &mut [u8], c: u8, r: Reading) -> Work
+    pub(crate) fn takes_data(
+        self,
+        terminal: &mut [u8],
+        messages: &mut [u8],
+        c: u8,
+        r: Reading,
+    ) -> Work
         requires { ⌜ Counted (self .line) ⌝ }
         requires { ⌜ HasRoom r ⌝ }
         ensures { λ w. ⌜ Does (rules.takesData codes c (readingOf r)) self (now (terminal .entry)) (now (messages .entry)) w (now (terminal .exit)) (now (messages .exit)) ⌝ }
@@ -99,7 +106,13 @@ impl Work {
     }
 
     // Rule 5, a terminator.
-    pub fn terminates(self, terminal: &mut [u8], messages: &mut [u8], c: u8, r: Reading) -> Work
+    pub(crate) fn terminates(
+        self,
+        terminal: &mut [u8],
+        messages: &mut [u8],
+        c: u8,
+        r: Reading,
+    ) -> Work
         requires { ⌜ Counted (self .line) ⌝ }
         requires { ⌜ HasRoom r ⌝ }
         ensures { λ w. ⌜ Does (rules.terminates codes c (readingOf r)) self (now (terminal .entry)) (now (messages .entry)) w (now (terminal .exit)) (now (messages .exit)) ⌝ }
@@ -143,7 +156,7 @@ impl Work {
     }
 
     // Rule 6.
-    pub fn edits(self, terminal: &mut [u8], messages: &mut [u8], c: u8, r: Reading) -> Work
+    pub(crate) fn edits(self, terminal: &mut [u8], messages: &mut [u8], c: u8, r: Reading) -> Work
         requires { ⌜ Counted (self .line) ⌝ }
         requires { ⌜ HasRoom r ⌝ }
         ensures { λ w. ⌜ Does (rules.edits codes c (readingOf r)) self (now (terminal .entry)) (now (messages .entry)) w (now (terminal .exit)) (now (messages .exit)) ⌝ }

@@ -1,6 +1,7 @@
 // A step, and a tick.
 ghost use Prim.Native.Nat.{ℕ, _<_};
 ghost use mathlib.Core.List.{List, []};
+ghost use Rattle.rules.specs.Numbers.{tokenSize};
 ghost use Rattle.rules.specs.State.{codes};
 ghost use Rattle.rules.specs.Steps as rules;
 ghost use Rattle.line.specs.View.{keyOf, keysOf, readingOf};
@@ -31,7 +32,7 @@ impl Work {
     fn takes(self, terminal: &mut [u8], messages: &mut [u8], k: Key, r: Reading) -> Work
         requires { ⌜ Counted (self .line) ⌝ }
         requires { ⌜ HasRoom r ⌝ }
-        requires { ⌜ self .line .typed .«token_len» < 16 ⌝ }
+        requires { ⌜ self .line .typed .«token_len» < tokenSize ⌝ }
         ensures { λ w. ⌜ Does (rules.takes codes (keyOf k) (readingOf r)) self (now (terminal .entry)) (now (messages .entry)) w (now (terminal .exit)) (now (messages .exit)) ⌝ }
     {
         let line = self.line;
@@ -53,7 +54,7 @@ impl Work {
     fn takes_first(self, terminal: &mut [u8], messages: &mut [u8], r: Reading) -> Work
         requires { ⌜ Counted (self .line) ⌝ }
         requires { ⌜ HasRoom r ⌝ }
-        requires { ⌜ self .line .typed .«token_len» < 16 ⌝ }
+        requires { ⌜ self .line .typed .«token_len» < tokenSize ⌝ }
         ensures { λ w. ⌜ Does (rules.takesFirst codes (keysOf (self .line .typed)) (readingOf r)) self (now (terminal .entry)) (now (messages .entry)) w (now (terminal .exit)) (now (messages .exit)) ⌝ }
     {
         let line = self.line;
@@ -82,7 +83,7 @@ impl Work {
         self
     }
 
-    pub fn steps(self, terminal: &mut [u8], messages: &mut [u8]) -> Work
+    pub(crate) fn steps(self, terminal: &mut [u8], messages: &mut [u8]) -> Work
         requires { ⌜ Bounded (self .line) ⌝ }
         ensures { λ w. ⌜ Does (rules.steps codes) self (now (terminal .entry)) (now (messages .entry)) w (now (terminal .exit)) (now (messages .exit)) ⌝ }
     {
@@ -114,7 +115,7 @@ impl Work {
         self.with_read(next)
     }
 
-    pub fn ticks(self, messages: &mut [u8]) -> Work
+    pub(crate) fn ticks(self, messages: &mut [u8]) -> Work
         requires { ⌜ Bounded (self .line) ⌝ }
         ensures { λ w. ⌜ ((t : List ℕ) → Does (rules.ticks codes) self t (now (messages .entry)) w t (now (messages .exit))) ⌝ }
     {

@@ -5,6 +5,7 @@ ghost use mathlib.Core.Bool.{not, _||_};
 ghost use mathlib.Core.List.{_∷_};
 ghost use lib.ListN.{drop};
 ghost use Rattle.rules.specs.Choice.{pick, within, isEmpty, bit};
+ghost use Rattle.rules.specs.Numbers.{tokenSize};
 ghost use Rattle.rules.specs.State.{codes};
 ghost use Rattle.rules.specs.Token as rules;
 ghost use Rattle.rules.specs.Steps.{tokenCode};
@@ -131,7 +132,7 @@ fn is_valid(token: &[u8]) -> bool
 
 impl Typed {
     // A whole token is held.
-    pub fn is_held(self) -> bool
+    pub(crate) fn is_held(self) -> bool
         requires { ⌜ CountedTyped self ⌝ }
         ensures { λ r. ⌜ r ≡ rules.isWhole (codesOf self) ⌝ }
     {
@@ -141,7 +142,7 @@ impl Typed {
     }
 
     // One is begun and not whole.
-    pub fn is_partial(self) -> bool
+    pub(crate) fn is_partial(self) -> bool
         requires { ⌜ CountedTyped self ⌝ }
         ensures { λ r. ⌜ r ≡ rules.isPartial (codesOf self) ⌝ }
     {
@@ -150,7 +151,7 @@ impl Typed {
     }
 
     // The completion code that its token gives a read.
-    pub fn token_code(self) -> u8
+    pub(crate) fn token_code(self) -> u8
         requires { ⌜ CountedTyped self ⌝ }
         ensures { λ r. ⌜ r ≡ tokenCode codes (tokenOf self) ⌝ }
     {
@@ -163,7 +164,7 @@ impl Typed {
     }
 
     // Type-ahead or a held token remains.
-    pub fn remains(self) -> u8
+    pub(crate) fn remains(self) -> u8
         requires { ⌜ CountedTyped self ⌝ }
         ensures { λ r. ⌜ r ≡ bit (not (isEmpty (keysOf self)) || rules.isWhole (codesOf self)) ⌝ }
     {
@@ -174,7 +175,7 @@ impl Typed {
         0
     }
 
-    pub fn without_token(self) -> Typed
+    pub(crate) fn without_token(self) -> Typed
         ensures { λ r. ⌜ r ≡ untokened self ⌝ }
     {
         let mut next = self;
@@ -183,9 +184,9 @@ impl Typed {
     }
 
     // One byte more of a token.
-    pub fn tokened(self, c: u8) -> Typed
+    pub(crate) fn tokened(self, c: u8) -> Typed
         requires { ⌜ CountedTyped self ⌝ }
-        requires { ⌜ self .«token_len» < 16 ⌝ }
+        requires { ⌜ self .«token_len» < tokenSize ⌝ }
         ensures { λ r. ⌜ r ≡ tokened c self ⌝ }
     {
         let at = self.token_len as usize;
@@ -197,8 +198,7 @@ impl Typed {
         next
     }
 
-    // The first key.
-    pub fn first(self) -> Key
+    pub(crate) fn first(self) -> Key
         requires { ⌜ CountedTyped self ⌝ }
         requires { ⌜ 0 < self .waiting ⌝ }
         ensures { λ r. ⌜ keysOf self ≡ keyOf r ∷ drop 1 (keysOf self) ⌝ }
@@ -208,7 +208,7 @@ impl Typed {
     }
 
     // The others, each a place further down.
-    pub fn without_first(self) -> Typed
+    pub(crate) fn without_first(self) -> Typed
         requires { ⌜ CountedTyped self ⌝ }
         requires { ⌜ 0 < self .waiting ⌝ }
         ensures { λ r. ⌜ FirstTaken self r ⌝ }

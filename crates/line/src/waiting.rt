@@ -1,6 +1,7 @@
 // Type-ahead and the token.
 ghost use Prim.Native.Nat.{_<_};
 ghost use mathlib.Core.List.{[], _∷_, _++_};
+ghost use Rattle.rules.specs.Numbers.{typeAheadSize};
 ghost use Rattle.line.specs.Bounded.{CountedTyped};
 ghost use Rattle.line.specs.View.{keysOf, tokenOf};
 ghost use Rattle.line.specs.TypedParts.{Holds};
@@ -9,9 +10,9 @@ use crate::Typed;
 
 impl Typed {
     // One key more.
-    pub fn store(self, c: u8, quoted: bool) -> Typed
+    pub(crate) fn store(self, c: u8, quoted: bool) -> Typed
         requires { ⌜ CountedTyped self ⌝ }
-        requires { ⌜ self .waiting < 64 ⌝ }
+        requires { ⌜ self .waiting < typeAheadSize ⌝ }
         ensures { λ r. ⌜ Holds (keysOf self ++ (record { char = c; quoted = quoted } ∷ [])) (tokenOf self) r ⌝ }
     {
         let at = self.waiting as usize;
@@ -24,7 +25,7 @@ impl Typed {
     }
 
     // Neither keys nor a token.
-    pub fn emptied(self) -> Typed
+    pub(crate) fn emptied(self) -> Typed
         requires { ⌜ CountedTyped self ⌝ }
         ensures { λ r. ⌜ Holds [] [] r ⌝ }
     {

@@ -1,10 +1,10 @@
-use borrow.Author.Needs.{needs}
 use Rattle.line.specs.Events.{eventOf}
+use borrow.Author.Needs.{needs}
 use Rattle.line.proofs.Line.tick.Statement.{statement}
 use Rattle.line.proofs.Line.tick.Tie as tie
 
-take-requires : tie.Need-take-requires
-take-requires c κs = search needs
+take-unless-small-requires : tie.Need-take-unless-small-requires
+take-unless-small-requires c κs = search needs
 
 same-length : tie.Need-same-length
 same-length c = search needs
@@ -14,7 +14,7 @@ same-length-2 c = search needs
 
 returns : tie.Need-returns
 unfolding eventOf
-returns c = c .before .before .before .before .take .ensures
+returns c = c .before .before .before .before .take-unless-small .ensures
 
 pub tick-spec : {M : Type 1} → statement M
-tick-spec = tie.close (tie.spec take-requires same-length same-length-2 returns)
+tick-spec = tie.close (tie.spec take-unless-small-requires same-length same-length-2 returns)

@@ -2,12 +2,14 @@ use mathlib.Core.Path.{_≡_, refl, _∙_}
 use Prim.Native.Nat.{_≤_, _-_}
 use native.Mathlib.Omega.{arith}
 use lib.ListN.{length, take, drop, length-set}
+use Rattle.rules.specs.Numbers.{typeAheadSize}
+use Rattle.line.proofs.Sizes.{type-ahead-size}
 use Rattle.line.proofs.Held.{moved, first-gone}
 use Rattle.line.proofs.Typed.without_first.Statement.{statement}
 use Rattle.line.proofs.Typed.without_first.Tie as tie
 
 abbrev Inv-loop : tie.InvT-loop
-Inv-loop self old left last keys₀ i₀ keys i = (i ≤ last) × (length keys ≡ 64) × (take i keys ≡ take i (drop 1 old))
+Inv-loop self old left last keys₀ i₀ keys i = (i ≤ last) × (length keys ≡ typeAheadSize) × (take i keys ≡ take i (drop 1 old))
 
 abbrev μ-loop : tie.MeasureT-loop
 μ-loop self old left last keys₀ i₀ keys i = last - i
@@ -28,13 +30,13 @@ mul-keys : tie.Need-mul-keys Inv-loop μ-loop
 mul-keys c = omega arith
 
 array-copy-out-keys : tie.Need-array-copy-out-keys Inv-loop μ-loop
-array-copy-out-keys c = omega arith
+array-copy-out-keys c = omega (arith, type-ahead-size)
 
 mul-keys-2 : tie.Need-mul-keys-2 Inv-loop μ-loop
 mul-keys-2 c = omega arith
 
 array-set-from-keys : tie.Need-array-set-from-keys Inv-loop μ-loop
-array-set-from-keys c = omega arith
+array-set-from-keys c = omega (arith, type-ahead-size)
 
 add-i : tie.Need-add-i Inv-loop μ-loop
 add-i c = omega arith

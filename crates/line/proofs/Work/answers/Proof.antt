@@ -2,6 +2,7 @@ use mathlib.Core.Path.{refl}
 use native.Mathlib.Omega.{arith}
 use borrow.Author.Needs.{needs}
 use Rattle.rules.specs.ReadData.{answerOf}
+use Rattle.line.proofs.Sizes.{input-size}
 use Rattle.line.proofs.Joints.{here-part}
 use Rattle.line.proofs.Work.answers.Statement.{statement}
 use Rattle.line.proofs.Work.answers.Tie as tie
@@ -10,7 +11,7 @@ answer-requires : tie.Need-answer-requires
 answer-requires c κs = search needs
 
 slice-aggregate-send : tie.Need-slice-aggregate-send
-slice-aggregate-send c = search needs
+slice-aggregate-send c = omega (arith, input-size, c .before .before .before .before .before .pre .1 .0 .input)
 
 send-requires : tie.Need-send-requires
 send-requires c κs = search needs

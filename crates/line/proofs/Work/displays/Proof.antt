@@ -4,6 +4,7 @@ use native.Mathlib.Omega.{arith}
 use borrow.Author.Needs.{needs}
 use lib.Seq.{length-take-le}
 use Rattle.rules.specs.Editing.{displays}
+use Rattle.rules.proofs.Sizes.{input-word}
 use Rattle.line.specs.View.{promptOf}
 use Rattle.line.specs.ReadingParts.{displaysData}
 use Rattle.line.proofs.Works.{then-does}
@@ -11,7 +12,7 @@ use Rattle.line.proofs.Work.displays.Statement.{statement}
 use Rattle.line.proofs.Work.displays.Tie as tie
 
 cast-size : tie.Need-cast-size
-cast-size c = search needs
+cast-size c = omega (arith, input-word)
 
 array-share-prefix-prompt : tie.Need-array-share-prefix-prompt
 array-share-prefix-prompt c = search needs

@@ -4,6 +4,7 @@ use native.Mathlib.Omega.{arith}
 use borrow.Author.Needs.{needs}
 use Rattle.line.specs.View.{tokenOf}
 use Rattle.line.specs.StepParts.{endsByToken}
+use Rattle.line.proofs.Sizes.{token-byte}
 use Rattle.line.proofs.Works.{then-does}
 use Rattle.line.proofs.Held.{token-length, token-counted}
 use Rattle.line.proofs.Joints.{here-part, completes-as, cleared-does}
@@ -35,7 +36,7 @@ with-typed-requires : tie.Need-with-typed-requires
 with-typed-requires c κs = search needs
 
 cast-completes : tie.Need-cast-completes
-cast-completes c = omega (arith, c .before .before .before .before .before .before .before .before .before .before .before .pre .0 .typed .begun)
+cast-completes c = omega (arith, c .before .before .before .before .before .before .before .before .before .before .before .pre .0 .typed .begun, token-byte)
 
 completes-requires : tie.Need-completes-requires
 completes-requires c κs =

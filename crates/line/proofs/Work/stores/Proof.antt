@@ -1,5 +1,6 @@
 use borrow.Author.Needs.{needs}
 use Prim.Native.Nat.{ℕ}
+use native.Mathlib.Omega.{arith}
 use mathlib.Core.Bool.{Bool}
 use lib.Dec.{ltb}
 use lib.ListN.{length}
@@ -9,6 +10,7 @@ use Rattle.rules.specs.State.{State}
 use Rattle.rules.specs.Turns.{Part}
 use Rattle.rules.specs.Arrival.{keeps, drops, stores}
 use Rattle.line.proofs.Works.{here-does, first-does, second-does}
+use Rattle.line.proofs.Sizes.{type-ahead-size}
 use Rattle.line.proofs.Keys.{has-room, no-room}
 use Rattle.line.proofs.Work.stores.Statement.{statement}
 use Rattle.line.proofs.Work.stores.Tie as tie
@@ -21,7 +23,7 @@ cast-if1 : tie.Need-cast-if1
 cast-if1 c = search needs
 
 keeps-requires : tie.Need-keeps-requires
-keeps-requires c κs = search needs
+keeps-requires c κs = (c .before .before .before .before .before .pre, omega (arith, c .if1 .taken, type-ahead-size))
 
 returns : tie.Need-returns
 unfolding stores
@@ -30,7 +32,7 @@ returns c =
     let x = start .args in
     λ m.
     here-does (byRoom (x .quoted) (x .c))
-    (first-does _ _ (has-room (x .self .line .typed) (start .pre .typed) (c .before .if1 .taken)) (c .keeps .ensures _ m))
+    (first-does _ _ (has-room (x .self .line .typed) (start .pre .typed) (omega (arith, c .before .if1 .taken, type-ahead-size))) (c .keeps .ensures _ m))
 
 drops-requires : tie.Need-drops-requires
 drops-requires c κs = search needs
@@ -46,7 +48,7 @@ returns-2 c =
     let x = start .args in
     λ m.
     here-does (byRoom (x .quoted) (x .c))
-    (second-does _ _ (no-room (x .self .line .typed) (start .pre .typed) (b .before .before .if1 .left)) (b .drops .ensures _ m))
+    (second-does _ _ (no-room (x .self .line .typed) (start .pre .typed) (omega (arith, b .before .before .if1 .left, type-ahead-size))) (b .drops .ensures _ m))
 
 pub stores-spec : {M : Type 1} → statement M
 stores-spec =

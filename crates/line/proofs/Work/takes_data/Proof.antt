@@ -5,6 +5,7 @@ use native.Mathlib.Omega.{arith}
 use borrow.Author.Needs.{needs}
 use borrow.Author.Tests.{eq-eqb, ne-eqb}
 use Rattle.rules.specs.Steps.{takesData}
+use Rattle.rules.proofs.Sizes.{input-word}
 use Rattle.line.specs.StepParts.{echoesIf}
 use Rattle.line.proofs.Appends.{end-is}
 use Rattle.line.proofs.Works.{then-does, only-does, not-does, still-does, read-does}
@@ -31,10 +32,10 @@ add-if1 c =
     let start = c .before .before .before .before .before .before .before .before .before .before in
     let room = start .pre .1 in
     let is = end-is (start .args .r) (room .counted) in
-    omega (arith, c .end .ensures, room .room, room .largest)
+    omega (arith, c .end .ensures, room .room, room .largest, input-word)
 
 cast-if1 : tie.Need-cast-if1
-cast-if1 c = omega (arith, c .before .before .before .before .before .before .before .before .before .before .before .pre .1 .largest)
+cast-if1 c = omega (arith, c .before .before .before .before .before .before .before .before .before .before .before .pre .1 .largest, input-word)
 
 completes-requires : tie.Need-completes-requires
 completes-requires c κs = (c .before .before .before .before .before .before .echoes-if .ensures [] .counted, (c .before .before .before .before .before .before .before .before .before .push .ensures .becomes .counted, omega arith))

@@ -8,6 +8,8 @@ use Rattle.rules.specs.Editing.{endOf}
 use Rattle.rules.specs.Steps.{takesToken}
 use Rattle.line.specs.View.{readingOf, tokenOf}
 use Rattle.line.specs.StepParts.{endsByToken}
+use Rattle.rules.proofs.Sizes.{input-word}
+use Rattle.line.proofs.Sizes.{token-byte}
 use Rattle.line.proofs.Appends.{end-is}
 use Rattle.line.proofs.Held.{token-counted}
 use Rattle.line.proofs.Joints.{here-part, here-first, here-second}
@@ -25,7 +27,7 @@ add-if1 c =
     let start = c .before .before .before .before .before .before in
     let room = start .pre .1 in
     let is = end-is (start .args .r) (room .counted) in
-    omega (arith, c .before .end .ensures, room .room, room .largest, start .pre .0 .typed .begun)
+    omega (arith, c .before .end .ensures, room .room, room .largest, start .pre .0 .typed .begun, input-word, token-byte)
 
 cast-if1-2 : tie.Need-cast-if1-2
 cast-if1-2 c = search needs

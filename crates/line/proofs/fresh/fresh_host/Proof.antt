@@ -1,7 +1,6 @@
 use mathlib.Core.Path.{refl}
 use borrow.Author.Needs.{needs}
 use Rattle.rules.specs.State.{freshHost, freshSwitches, withLastSet}
-use Rattle.line.specs.View.{hostOf}
 use Rattle.line.proofs.fresh.fresh_host.Statement.{statement}
 use Rattle.line.proofs.fresh.fresh_host.Tie as tie
 

@@ -2,7 +2,7 @@ use mathlib.Core.Path.{refl}
 use native.Mathlib.Omega.{arith}
 use borrow.Author.Needs.{needs}
 use Rattle.rules.specs.StartRead.{universal}
-use Rattle.line.specs.View.{setOf}
+use Rattle.characteristics.specs.View.{setOf}
 use Rattle.line.proofs.fresh.universal.Statement.{statement}
 use Rattle.line.proofs.fresh.universal.Tie as tie
 

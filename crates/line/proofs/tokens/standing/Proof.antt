@@ -1,5 +1,6 @@
 use mathlib.Core.Path.{sym}
 use Rattle.line.specs.TokenParts.{placeOf}
+use Rattle.line.proofs.Sizes.{token-size}
 use Rattle.line.proofs.Places.{standing-cut, standing-kept}
 use Rattle.line.proofs.tokens.standing.Statement.{statement}
 use Rattle.line.proofs.tokens.standing.Tie as tie
@@ -11,12 +12,12 @@ returns : tie.Need-returns
 unfolding placeOf
 returns c =
     let a = c .before in
-    sym (standing-cut (a .before .before .args .token .now) (a .place-of .result) (a .place-of .ensures) (c .if1 .taken))
+    sym (standing-cut (a .before .before .args .token .now) (a .place-of .result) (a .place-of .ensures) token-size (c .if1 .taken))
 
 returns-2 : tie.Need-returns-2
 returns-2 c =
     let a = c .before in
-    sym (standing-kept (a .before .before .args .token .now) (a .place-of .result) (a .place-of .ensures) (c .if1 .left))
+    sym (standing-kept (a .before .before .args .token .now) (a .place-of .result) (a .place-of .ensures) token-size (c .if1 .left))
 
 pub standing-spec : {M : Type 1} → statement M
 standing-spec = tie.close (tie.spec place-of-requires returns returns-2)

@@ -1,0 +1,113 @@
+-- A host message's call: its refusals, and from a message that was read and is carried to one accepted.
+use mathlib.Core.Path.{_≡_, refl, sym, ap, _∙_}
+use Prim.Native.Nat.{ℕ}
+use native.Mathlib.Omega.{arith}
+use mathlib.Core.Bool.{Bool, true, false}
+use mathlib.Core.List.{List}
+use lib.ListN.{length}
+use Rattle.rules.specs.Choice.{pick}
+use Rattle.rules.specs.Numbers.{accepted, smallArea, wrongLength, wrongType, wrongTime, notCarried}
+use Rattle.rules.specs.Messages.Forms as forms
+use Rattle.rules.specs.Messages.Codec as codec
+use Rattle.rules.specs.Messages.Codec.{Outcome, refused, sound, allBytes, read}
+use Rattle.rules.specs.State.{State, codes}
+use Rattle.rules.specs.Calls as rules
+use Rattle.rules.specs.Calls.{Answer, isPending, isCarriedBy, judged, considered, refuses, isRoomy, hears, answers, answer}
+use Rattle.rules.proofs.Tests.{pick-true, pick-false}
+use Rattle.rules.proofs.Outcomes.{refused-sound, sound-same}
+use Rattle.message.specs.declared.Message.{Message}
+use Rattle.message.specs.declared.Found.the-variants as found
+use Rattle.message.specs.Found.{heldIn, asHeld, foundIn}
+use Rattle.line.specs.declared.Line.{Line}
+use Rattle.line.specs.declared.Reading.{Reading}
+use Rattle.line.specs.View.{pendingOf, view}
+use Rattle.line.specs.Answers.{ruled}
+use Rattle.line.specs.Rows.{areRoomy, isHosts, firstRow, earlyRow}
+use Rattle.line.specs.Obeyed.{Accepted}
+
+pub is-pending : (pending : Bool) (r : Reading) → isPending (pendingOf pending r) ≡ pending
+unfolding isPending
+is-pending true r = refl
+is-pending false r = refl
+
+-- The tests of the early rows, as outcomes.
+abbrev outcomeOf : Bool → Bool → Bool → Outcome (forms.Message ℕ) → Outcome (forms.Message ℕ)
+outcomeOf long hosts timely o =
+    pick long (pick hosts (pick timely o (refused wrongTime)) (refused wrongType)) (refused wrongLength)
+
+module _ (s : State ℕ) (o : Outcome (forms.Message ℕ)) where
+  refused-early : (roomy long hosts timely : Bool) (f : State ℕ → Answer ℕ) → f s ≡ hears codes (outcomeOf long hosts timely o) s →
+      (firstRow roomy long hosts timely ≡ accepted → ⊥) → pick roomy f (refuses smallArea) s ≡ refuses (firstRow roomy long hosts timely) s
+  unfolding firstRow pick hears
+  refused-early false long hosts timely f e h = refl
+  refused-early true false hosts timely f e h = e
+  refused-early true true false timely f e h = e
+  refused-early true true true false f e h = e
+  refused-early true true true true f e h = absurd (h refl)
+
+  passed-early : (roomy long hosts timely : Bool) → firstRow roomy long hosts timely ≡ accepted → (roomy ≡ true) × (outcomeOf long hosts timely o ≡ o)
+  unfolding firstRow pick
+  passed-early false long hosts timely e = absurd (omega arith)
+  passed-early true false hosts timely e = absurd (omega arith)
+  passed-early true true false timely e = absurd (omega arith)
+  passed-early true true true false e = absurd (omega arith)
+  passed-early true true true true e = (refl, refl)
+
+module _ (l : Line) (t m bytes : List ℕ) {row : ℕ} (e : row ≡ earlyRow (length t) (length m) bytes (view l)) where
+  pub early-refused : (row ≡ 0 → ⊥) → ruled (rules.message bytes) l t m ≡ refuses row (view l)
+  unfolding answer isRoomy answers considered isHosts
+  early-refused h =
+      refused-early (view l) (judged (view l) (read bytes)) _ _ _ _ _ refl (λ k. h (e ∙ k)) ∙ ap (λ n. refuses n (view l)) (sym e)
+
+  pub early-passed : row ≡ 0 → (areRoomy (length t) (length m) ≡ true) × (considered (view l) bytes ≡ judged (view l) (read bytes))
+  unfolding considered isHosts
+  early-passed h = passed-early (view l) (judged (view l) (read bytes)) _ _ _ _ (sym e ∙ h)
+
+  -- 5, and 6
+  module _ (h : row ≡ 0) {n : ℕ} where
+    pub outcome-refused : judged (view l) (read bytes) ≡ refused n → ruled (rules.message bytes) l t m ≡ refuses n (view l)
+    unfolding answer isRoomy answers hears
+    outcome-refused k =
+        let p = early-passed h in
+        ap (λ (f : State ℕ → Answer ℕ). f (view l)) (pick-true _ _ (p .0)) ∙ ap (λ o. hears codes o (view l)) (p .1 ∙ k)
+
+refused-same : {A : Type 0} {k n : ℕ} → _≡_ {A = Outcome A} (refused k) (refused n) → k ≡ n
+refused-same e = cc
+
+-- What reading found is what the rules read.
+module _ (l : Line) (bytes : List ℕ) where
+  judges-number : (o : Outcome (forms.Message ℕ)) {n : ℕ} → refused n ≡ asHeld o → judged (view l) o ≡ refused n
+  unfolding asHeld judged
+  judges-number (refused k) e = ap refused (sym (refused-same e))
+  judges-number (sound x) e = absurd (refused-sound e)
+
+  pub found-refused : {n : ℕ} → foundIn bytes (found.Refused n) ≡ asHeld (read bytes) → judged (view l) (read bytes) ≡ refused n
+  unfolding foundIn
+  found-refused e = judges-number (read bytes) e
+
+  module _ (m : Message) {carries : Bool} (found : foundIn bytes (found.Message m) ≡ asHeld (read bytes))
+      (judges : (x : forms.Message ℕ) → heldIn bytes m ≡ codec.message x → carries ≡ isCarriedBy (view l) x) where
+    judges-carried : carries ≡ false → (o : Outcome (forms.Message ℕ)) → sound (heldIn bytes m) ≡ asHeld o → judged (view l) o ≡ refused notCarried
+    unfolding asHeld judged
+    judges-carried e (refused n) h = absurd (refused-sound (sym h))
+    judges-carried e (sound x) h = pick-false _ _ (sym (judges x (sound-same h)) ∙ e)
+
+    pub not-carried : carries ≡ false → judged (view l) (read bytes) ≡ refused notCarried
+    unfolding foundIn
+    not-carried e = judges-carried e (read bytes) found
+
+    module _ (e : carries ≡ true) (small : allBytes bytes ≡ true) (passed : considered (view l) bytes ≡ judged (view l) (read bytes)) where
+      accepts : (o : Outcome (forms.Message ℕ)) → read bytes ≡ o → sound (heldIn bytes m) ≡ asHeld o → Accepted l bytes m
+      unfolding asHeld judged
+      accepts (refused n) r h = absurd (refused-sound (sym h))
+      accepts (sound x) r h =
+          record {
+            fields = x;
+            held = sound-same h;
+            taken = passed ∙ ap (judged (view l)) r ∙ pick-true _ _ (sym (judges x (sound-same h)) ∙ e);
+            bytes = small;
+          }
+
+      pub is-accepted : Accepted l bytes m
+      unfolding foundIn
+      is-accepted = accepts (read bytes) refl found

@@ -1,0 +1,42 @@
+use mathlib.Core.Path.{refl, ap}
+use mathlib.Core.List.{[], _∷_}
+use borrow.Author.Needs.{needs}
+use Rattle.rules.specs.Messages.Forms.{plain, inputCount}
+use Rattle.rules.specs.Messages.Codec as codec
+use Rattle.rules.specs.Turns.{sends}
+use Rattle.rules.specs.ReadData.{checksInput, waitingCount}
+use Rattle.message.specs.Found.{heldIn}
+use Rattle.writing.specs.Parts.{partsOf, inside}
+use Rattle.line.proofs.Works.{here-does}
+use Rattle.line.proofs.Obeys.{waiting-count}
+use Rattle.line.proofs.Work.checks_input.Statement.{statement}
+use Rattle.line.proofs.Work.checks_input.Tie as tie
+
+cast-count : tie.Need-cast-count
+cast-count c = search needs
+
+cast-count-2 : tie.Need-cast-count-2
+cast-count-2 c = search needs
+
+add-count : tie.Need-add-count
+add-count c = search needs
+
+sends-plain-requires : tie.Need-sends-plain-requires
+sends-plain-requires c κs = search needs
+
+same-length : tie.Need-same-length
+same-length c = search needs
+
+returns : tie.Need-returns
+unfolding checksInput heldIn partsOf inside
+returns c =
+    let b = c .before .before in
+    let start = b .before .before .before .before .before .before .before in
+    let count = waiting-count (start .args .self .line .typed) (start .pre .typed) in
+    λ t.
+    here-does (λ s. sends (plain inputCount (waitingCount (s .typed) ∷ [])))
+    (b .sends-plain .ensures _ _ (λ s. ap (λ n. codec.message (plain inputCount (n ∷ []))) count) refl t)
+
+pub checks-input-spec : {M : Type 1} → statement M
+checks-input-spec =
+    tie.close (tie.spec cast-count cast-count-2 add-count sends-plain-requires same-length returns)

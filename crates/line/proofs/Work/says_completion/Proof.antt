@@ -1,0 +1,82 @@
+use mathlib.Core.Path.{refl, ap, _∙_}
+use mathlib.Core.Bool.{_&&_}
+use mathlib.Core.List.{[], _∷_}
+use borrow.Author.Needs.{needs}
+use borrow.Author.Tests.{eq-eqb, ne-eqb}
+use Rattle.rules.specs.Choice.{bit}
+use Rattle.rules.specs.Messages.Forms.{plain, writeCompletion}
+use Rattle.rules.specs.Messages.Codec as codec
+use Rattle.rules.specs.Screen.{change}
+use Rattle.rules.specs.Turns.{sends}
+use Rattle.rules.specs.Host.{completion}
+use Rattle.message.specs.Found.{heldIn}
+use Rattle.writing.specs.Parts.{partsOf, inside}
+use Rattle.line.proofs.Works.{here-does, still-does, only-does, not-does}
+use Rattle.line.proofs.Work.says_completion.Statement.{statement}
+use Rattle.line.proofs.Work.says_completion.Tie as tie
+
+bit-of-requires : tie.Need-bit-of-requires
+bit-of-requires c κs = search needs
+
+change-requires : tie.Need-change-requires
+change-requires c κs = search needs
+
+cast-horizontal : tie.Need-cast-horizontal
+cast-horizontal c = search needs
+
+cast-change : tie.Need-cast-change
+cast-change c = search needs
+
+cast-change-2 : tie.Need-cast-change-2
+cast-change-2 c = search needs
+
+change-requires-2 : tie.Need-change-requires-2
+change-requires-2 c κs = search needs
+
+cast-vertical : tie.Need-cast-vertical
+cast-vertical c = search needs
+
+sends-plain-requires : tie.Need-sends-plain-requires
+sends-plain-requires c κs = search needs
+
+same-length : tie.Need-same-length
+same-length c = search needs
+
+returns : tie.Need-returns
+unfolding completion heldIn partsOf inside
+returns c =
+    let b = c .before .before in
+    let vertical = b .before .before in
+    let horizontal = vertical .before .before .before in
+    let bits = horizontal .before in
+    let branch = bits .before .before .before .before .before in
+    let start = branch .before .before in
+    let now = start .args .self .line .terminal in
+    λ x b₀ some before t.
+    let lost = bits .bit-of .ensures ∙ ap (λ f. bit (now .discarding && f)) some in
+    let across = horizontal .change .ensures ∙ ap (λ s. change (now .screen .column) (s .column)) before in
+    let down = vertical .change2 .ensures ∙ ap (λ s. change (now .screen .line) (s .line)) before in
+    only-does _ (eq-eqb (start .args .wants) 1 (branch .if1 .taken))
+    (here-does (λ s. sends (completion x b₀ s))
+    (b .sends-plain .ensures _ _ (λ s i. codec.message (plain writeCompletion (lost i ∷ across i ∷ down i ∷ []))) refl t))
+
+returns-2 : tie.Need-returns-2
+returns-2 c =
+    let start = c .before .before in
+    λ x b some before t. not-does _ (ne-eqb (start .args .wants) 1 (c .if1 .left)) (still-does (start .args .self) t _ (start .pre))
+
+pub says-completion-spec : {M : Type 1} → statement M
+says-completion-spec =
+    tie.close
+    (tie.spec
+    bit-of-requires
+    change-requires
+    cast-horizontal
+    cast-change
+    cast-change-2
+    change-requires-2
+    cast-vertical
+    sends-plain-requires
+    same-length
+    returns
+    returns-2)

@@ -1,0 +1,21 @@
+use mathlib.Core.Path.{refl, ap}
+use mathlib.Core.Bool.{not}
+use borrow.Author.Needs.{needs}
+use Rattle.line.proofs.Joints.{here-only, here-not}
+use Rattle.line.proofs.Work.writes_kept.Statement.{statement}
+use Rattle.line.proofs.Work.writes_kept.Tie as tie
+
+returns : tie.Need-returns
+returns c = λ m. here-not _ _ m refl (ap not (c .if1 .taken)) (c .before .before .before .before .before .pre)
+
+write-requires : tie.Need-write-requires
+write-requires c κs = search needs
+
+same-length : tie.Need-same-length
+same-length c = search needs
+
+returns-2 : tie.Need-returns-2
+returns-2 c = λ m. here-only _ refl (ap not (c .before .before .before .before .if1 .left)) (c .before .before .write .ensures m)
+
+pub writes-kept-spec : {M : Type 1} → statement M
+writes-kept-spec = tie.close (tie.spec returns write-requires same-length returns-2)

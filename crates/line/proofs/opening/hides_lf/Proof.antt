@@ -1,0 +1,25 @@
+use mathlib.Core.Path.{ap, _∙_}
+use mathlib.Core.Bool.{_&&_}
+use lib.Dec.{eqb}
+use borrow.Author.Needs.{needs}
+use Rattle.rules.specs.Messages.Layout.{byteAt}
+use Rattle.rules.specs.StartRead.Acceptance.{hidesLF}
+use Rattle.message.specs.Found.{startReadIn}
+use Rattle.line.proofs.opening.hides_lf.Statement.{statement}
+use Rattle.line.proofs.opening.hides_lf.Tie as tie
+
+bytes-of-requires : tie.Need-bytes-of-requires
+bytes-of-requires c κs = search needs
+
+byte-at-requires : tie.Need-byte-at-requires
+byte-at-requires c κs = search needs
+
+returns : tie.Need-returns
+unfolding hidesLF startReadIn
+returns c =
+    let start = c .before .before .before .before .before in
+    let first = c .before .byte-at .ensures ∙ ap (λ text. byteAt text 0) (c .before .before .bytes-of .ensures) in
+    ap (λ b. eqb (start .args .f .formats) 1 && eqb b 10) first
+
+pub hides-lf-spec : {M : Type 1} → statement M
+hides-lf-spec = tie.close (tie.spec bytes-of-requires byte-at-requires returns)

@@ -1,0 +1,58 @@
+// Initiate, and the answer to it.
+ghost use Prim.Native.Nat.{ℕ};
+ghost use mathlib.Core.List.{List, _++_};
+ghost use Rattle.rules.specs.Messages.Layout.{bytesOf};
+ghost use Rattle.rules.specs.Calls.{framed, sentBytes};
+ghost use Rattle.rules.specs.Host as rules;
+ghost use Rattle.writing.specs.Puts.{Puts};
+ghost use Rattle.line.specs.Bounded.{Counted};
+ghost use Rattle.line.specs.Promise.{Does};
+use crate::Work;
+use message::InitiateFields;
+use message::Message;
+use message::Part;
+
+// One parameter of Initiate: its type and the count 2 in one word, and two bytes.
+fn put_parameter(head: u16, value: usize, area: &mut [u8], at: usize) -> usize
+    ensures { λ r. ⌜ Puts (bytesOf 2 head ++ bytesOf 2 value) (now (area .entry)) at r (now (area .exit)) ⌝ }
+{
+    let low = (value % 256) as u8;
+    let high = (value / 256 % 256) as u8;
+    writing::put_setting(head, low, high, 0, 2, area, at)
+}
+
+// Version 1.0.0, eight spaces, and parameters 1 (message size), 2 (input size) and 3 (messages 1 to 14).
+fn put_initiate(area: &mut [u8], at: usize) -> usize
+    ensures { λ r. ⌜ Puts (framed (sentBytes (rules.ourInitiate {D = ℕ}))) (now (area .entry)) at r (now (area .exit)) ⌝ }
+{
+    let spaces = [32u8; 8];
+    let revision = Part { start: 0, len: 8 };
+    let parameters = Part { start: 8, len: 12 };
+    let head = Message::Initiate(InitiateFields {
+        version: 1,
+        eco: 0,
+        modification: 0,
+        revision,
+        parameters,
+    });
+    let next = writing::put_framed(head, &spaces, area, at);
+    let next = put_parameter(0x0201, rules::MESSAGE, area, next);
+    let next = put_parameter(0x0202, rules::INPUT, area, next);
+    put_parameter(0x0203, 0x7FFE, area, next)
+}
+
+impl Work {
+    // From now on messages other than Initiate are taken.
+    pub(crate) fn initiates(self, messages: &mut [u8]) -> Work
+        requires { ⌜ Counted (self .line) ⌝ }
+        ensures { λ w. ⌜ ((t : List ℕ) → Does rules.initiates self t (now (messages .entry)) w t (now (messages .exit))) ⌝ }
+    {
+        let line = self.line;
+        let mut host = line.host;
+        host.begun = true;
+        let begun = self.with_host(host);
+        let at = begun.sent;
+        let sent = put_initiate(messages, at);
+        begun.sent_up_to(sent)
+    }
+}

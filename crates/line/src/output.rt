@@ -1,0 +1,93 @@
+// Write.
+ghost use Prim.Native.Nat.{ℕ};
+ghost use mathlib.Core.Path.{_≡_};
+ghost use mathlib.Core.Bool.{false, not};
+ghost use mathlib.Core.List.{List};
+ghost use lib.Dec.{eqb};
+ghost use Rattle.rules.specs.State.{State, withTerminal, withDiscarding};
+ghost use Rattle.rules.specs.Messages.Forms as forms;
+ghost use Rattle.rules.specs.Choice.{isEmpty};
+ghost use Rattle.rules.specs.Turns.{writes, changes, sends, only};
+ghost use Rattle.rules.specs.Host as rules;
+ghost use Rattle.message.specs.Found.{writeIn};
+ghost use Rattle.screen.specs.View as screen;
+ghost use Rattle.line.specs.Bounded.{Counted};
+ghost use Rattle.line.specs.Promise.{Does};
+use crate::Work;
+use message::Message;
+use message::WriteFields;
+use screen::Screen;
+
+impl Work {
+    // Don't-discard turns discarding off.
+    fn keeps_output(self, keeps: u8) -> Work
+        requires { ⌜ Counted (self .line) ⌝ }
+        ensures { λ w. ⌜ ((t m : List ℕ) → Does (only (eqb keeps 1) (changes (λ s. withTerminal (withDiscarding false (s .terminal)) s))) self t m w t m) ⌝ }
+    {
+        if keeps == 1 {
+            let line = self.line;
+            let mut known = line.terminal;
+            known.discarding = false;
+            return self.with_terminal(known);
+        }
+        self
+    }
+
+    // The data, unless output is discarded.
+    fn writes_kept(self, terminal: &mut [u8], text: &[u8]) -> Work
+        requires { ⌜ Counted (self .line) ⌝ }
+        ensures { λ w. ⌜ ((m : List ℕ) → Does (λ s. only (not (s .terminal .discarding)) (writes (now (text .entry))) s) self (now (terminal .entry)) m w (now (terminal .exit)) m) ⌝ }
+    {
+        let line = self.line;
+        let known = line.terminal;
+        if known.discarding {
+            return self;
+        }
+        self.write(terminal, text)
+    }
+
+    // Write Completion: whether output was lost, and how far the cursor has moved.
+    fn says_completion(self, messages: &mut [u8], wants: u8, some: bool, before: Screen) -> Work
+        requires { ⌜ Counted (self .line) ⌝ }
+        ensures { λ w. ⌜ ((x : forms.Message ℕ) (b : State ℕ) → some ≡ not (isEmpty (x .text)) → screen.view before ≡ b .terminal .screen → (t : List ℕ) → Does (only (eqb wants 1) (λ s. sends (rules.completion x b s) s)) self t (now (messages .entry)) w t (now (messages .exit))) ⌝ }
+    {
+        if wants == 1 {
+            let line = self.line;
+            let known = line.terminal;
+            let cursor = known.screen;
+            let lost = message::bit_of(known.discarding & some);
+            let horizontal = screen::columns::change(cursor.column, before.column) as u16;
+            let vertical = screen::columns::change(cursor.line as u16, before.line as u16) as u16;
+            return self.sends_plain(
+                messages,
+                Message::WriteCompletion {
+                    lost,
+                    horizontal,
+                    vertical,
+                },
+            );
+        }
+        self
+    }
+
+    // Write sends its data unless output discard is on; don't-discard first turns it off.
+    pub(crate) fn writes_out(
+        self,
+        terminal: &mut [u8],
+        messages: &mut [u8],
+        f: WriteFields,
+        s: &[u8],
+    ) -> Work
+        requires { ⌜ Counted (self .line) ⌝ }
+        ensures { λ w. ⌜ Does (rules.writesOut (writeIn (now (s .entry)) f)) self (now (terminal .entry)) (now (messages .entry)) w (now (terminal .exit)) (now (messages .exit)) ⌝ }
+    {
+        let line = self.line;
+        let known = line.terminal;
+        let before = known.screen;
+        let text = message::bytes_of(s, f.text);
+        let some = text.len() != 0;
+        let kept = self.keeps_output(f.keeps_output);
+        let written = kept.writes_kept(terminal, text);
+        written.says_completion(messages, f.wants_completion, some, before)
+    }
+}
