@@ -1,0 +1,11 @@
+use mathlib.Core.Path.{refl}
+use Rattle.rules.specs.Choice.{within}
+use Rattle.replay.proofs.hex.is_within.Statement.{statement}
+use Rattle.replay.proofs.hex.is_within.Tie as tie
+
+returns : tie.Need-returns
+unfolding within
+returns c = refl
+
+pub is-within-spec : {M : Type 1} → statement M
+is-within-spec = tie.close (tie.spec returns)
