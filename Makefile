@@ -1,16 +1,22 @@
 # make test: every proof and test. make run: bench case B, call by call. make bench: calls a second.
 CARGO = cargo --quiet
 TESTS = --offline --release --manifest-path tests/Cargo.toml
+REPLAY = target/bin/replay
+SOURCES = crates.txt $(shell find crates -path '*/must-fail' -prune -o -type f -print)
 
 .PHONY: test run bench
 
 test:
 	@tests/all
 
-run:
-	@$(CARGO) run $(TESTS) --bin second < tests/scripts/case-b.script
+run: $(REPLAY)
+	@$(REPLAY) < tests/scripts/case-b.script
 
-bench:
-	@mkdir -p target
-	@$(CARGO) run $(TESTS) --bin generate -- 1 1000000 > target/bench.script
-	@time $(CARGO) run $(TESTS) --bin second < target/bench.script > target/bench.answers
+bench: $(REPLAY)
+	@$(CARGO) build $(TESTS) --bins
+	@$(CARGO) run $(TESTS) --bin bench
+
+# What rt says goes beside the answers. It links anew only what has changed: the date shows that it has looked.
+$(REPLAY): $(SOURCES)
+	@rt check replay >&2
+	@touch $@

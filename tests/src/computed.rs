@@ -49,14 +49,18 @@ fn rows(script: &Script) -> (String, usize) {
                 writeln!(rows, "    copies {} {number} {again} ∷", list(&bytes)).unwrap();
                 calls += 1;
             }
-            Some(Order::Dropped) => assert_eq!(answer[0], runner.dropped().to_string()),
+            Some(Order::Dropped) => assert_eq!(answer[0], runner.line().dropped().to_string()),
             None => assert_eq!(answer[0], "?"),
             Some(order) => {
                 let (terminal, messages) = (list(&hex(&answer[1])), list(&hex(&answer[2])));
-                let (event, dropped) = (event(&order), runner.dropped());
+                let (event, dropped) = (event(&order), runner.line().dropped());
                 let (a, b) = areas;
-                writeln!(run, "    asked {a} {b} {event} {} {terminal} {messages} {dropped} ∷", answer[0])
-                    .unwrap();
+                writeln!(
+                    run,
+                    "    asked {a} {b} {event} {} {terminal} {messages} {dropped} ∷",
+                    answer[0]
+                )
+                .unwrap();
                 calls += 1;
             }
         }
@@ -126,7 +130,10 @@ fn lay_out(repository: &Path, scratch: &Path, scripts: &[Script]) -> io::Result<
     fs::create_dir_all(&specs)?;
     fs::create_dir_all(scratch.join("crates/scripts/src"))?;
     for part in ["src", "specs"] {
-        copy(&repository.join("crates/rules").join(part), &scratch.join("crates/rules").join(part))?;
+        copy(
+            &repository.join("crates/rules").join(part),
+            &scratch.join("crates/rules").join(part),
+        )?;
     }
     fs::write(scratch.join("crates.txt"), "rules:\nscripts: rules\n")?;
     fs::write(scratch.join("crates/scripts/src/lib.rt"), "pub const SCRIPTS: usize = 1;\n")?;

@@ -1,6 +1,8 @@
 //! What occurred while scripts ran: how often each completion code, refusal
 //! number, message type and rule of page 01 was met.
 
+use std::fmt;
+
 macro_rules! rules {
     ($($name:ident),* $(,)?) => {
         /// One rule of page 01, or one side of it.
@@ -108,6 +110,11 @@ impl Coverage {
         }
     }
 
+    /// Calls on a line, and messages read without one.
+    pub fn calls(&self) -> u64 {
+        self.numbers.iter().chain(&self.read_numbers).sum()
+    }
+
     /// Each thing that can be reached, with its count.
     pub fn table(&self) -> Vec<(String, u64)> {
         let mut table = Vec::new();
@@ -125,5 +132,12 @@ impl Coverage {
     pub fn missing(&self) -> Vec<String> {
         let empty = self.table().into_iter().filter(|row| row.1 == 0);
         empty.map(|row| row.0).collect()
+    }
+}
+
+impl fmt::Display for Coverage {
+    fn fmt(&self, to: &mut fmt::Formatter) -> fmt::Result {
+        writeln!(to, "{:30} {}", "calls", self.calls())?;
+        self.table().iter().try_for_each(|(name, count)| writeln!(to, "{name:30} {count}"))
     }
 }

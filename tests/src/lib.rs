@@ -1,10 +1,12 @@
 //! A second console end of a command terminal line, written from document 01
 //! alone so that another program can be compared with it byte for byte.
 
+pub mod compare;
 pub mod computed;
 pub mod coverage;
 pub mod generator;
 pub mod line;
 pub mod message;
+pub mod replay;
 pub mod screen;
 pub mod script;

@@ -3,6 +3,7 @@
 use crate::coverage::Coverage;
 use crate::line::{Answer, Areas, Line};
 use crate::message;
+use std::fmt;
 
 /// A message kept by a runner is never longer: one byte over tells enough.
 const KEPT: usize = message::LONGEST + 1;
@@ -18,6 +19,29 @@ pub enum Order {
     Fresh,
     Read(Vec<u8>),
     Dropped,
+}
+
+impl fmt::Display for Order {
+    fn fmt(&self, to: &mut fmt::Formatter) -> fmt::Result {
+        match self {
+            Order::Key(code) => write!(to, "K {code:02X}"),
+            Order::Step => to.write_str("S"),
+            Order::Tick => to.write_str("T"),
+            Order::Host(bytes) => write_message("M", bytes, to),
+            Order::Lengths(areas) => write!(to, "A {} {}", areas.terminal, areas.message),
+            Order::Fresh => to.write_str("F"),
+            Order::Read(bytes) => write_message("R", bytes, to),
+            Order::Dropped => to.write_str("D"),
+        }
+    }
+}
+
+fn write_message(word: &str, bytes: &[u8], to: &mut fmt::Formatter) -> fmt::Result {
+    to.write_str(word)?;
+    if !bytes.is_empty() {
+        to.write_str(" ")?;
+    }
+    bytes.iter().try_for_each(|byte| write!(to, "{byte:02X}"))
 }
 
 /// The order of a script line, if it is well formed.
@@ -82,6 +106,38 @@ fn nibble(digit: u8) -> Option<u8> {
     }
 }
 
+/// What an order is answered.
+#[derive(Clone, Debug, PartialEq, Eq)]
+pub enum Reply {
+    Call(Answer),
+    /// A message read without a line and written again, or its refusal.
+    Copy(Result<Vec<u8>, u8>),
+    Dropped(u16),
+    Nothing,
+}
+
+impl Reply {
+    /// Adds the answer line, if there is one.
+    pub fn put(&self, to: &mut Vec<u8>) {
+        match self {
+            Reply::Call(answer) => {
+                to.extend([b'0' + answer.number, b' ']);
+                put_hex(&answer.terminal, to);
+                to.push(b' ');
+                put_hex(&answer.message_area(), to);
+            }
+            Reply::Copy(Ok(bytes)) => {
+                to.extend(b"0 ");
+                put_hex(bytes, to);
+            }
+            Reply::Copy(Err(number)) => to.extend([b'0' + number, b' ', b'-']),
+            Reply::Dropped(count) => to.extend(count.to_string().bytes()),
+            Reply::Nothing => return,
+        }
+        to.push(b'\n');
+    }
+}
+
 /// A line with the area lengths that hold from now on.
 #[derive(Clone, Debug, Default)]
 pub struct Runner {
@@ -93,40 +149,45 @@ pub struct Runner {
 impl Runner {
     /// Runs one script line and adds its answer line, if it has one.
     pub fn run(&mut self, text: &[u8], to: &mut Vec<u8>) {
-        let Some(order) = parse(text) else {
-            return to.extend(b"?\n");
-        };
+        match parse(text) {
+            Some(order) => self.obey(&order).put(to),
+            None => to.extend(b"?\n"),
+        }
+    }
+
+    pub fn obey(&mut self, order: &Order) -> Reply {
         match order {
-            Order::Key(code) => put_answer(&self.line.key(code, self.areas), to),
-            Order::Step => put_answer(&self.line.step(self.areas), to),
-            Order::Tick => put_answer(&self.line.tick(self.areas), to),
-            Order::Host(bytes) => put_answer(&self.line.host(&bytes, self.areas), to),
-            Order::Lengths(areas) => self.areas = areas,
+            Order::Key(code) => Reply::Call(self.line.key(*code, self.areas)),
+            Order::Step => Reply::Call(self.line.step(self.areas)),
+            Order::Tick => Reply::Call(self.line.tick(self.areas)),
+            Order::Host(bytes) => Reply::Call(self.line.host(bytes, self.areas)),
+            Order::Lengths(areas) => {
+                self.areas = *areas;
+                Reply::Nothing
+            }
             Order::Fresh => {
                 self.seen.add(&self.line.seen);
                 self.line = Line::default();
                 self.areas = Areas::default();
+                Reply::Nothing
             }
-            Order::Read(bytes) => self.read(&bytes, to),
-            Order::Dropped => to.extend(format!("{}\n", self.line.dropped()).bytes()),
+            Order::Read(bytes) => Reply::Copy(self.copy(bytes)),
+            Order::Dropped => Reply::Dropped(self.line.dropped()),
         }
     }
 
-    fn read(&mut self, bytes: &[u8], to: &mut Vec<u8>) {
-        let answer = message::read(bytes).and_then(|read| {
+    fn copy(&mut self, bytes: &[u8]) -> Result<Vec<u8>, u8> {
+        let copy = message::read(bytes).and_then(|read| {
             self.seen.read[usize::from(read.kind())] += 1;
             message::write(&read, message::LONGEST)
         });
-        let number = *answer.as_ref().err().unwrap_or(&0);
+        let number = *copy.as_ref().err().unwrap_or(&0);
         self.seen.read_numbers[usize::from(number)] += 1;
-        to.extend([b'0' + number, b' ']);
-        put_hex(&answer.unwrap_or_default(), to);
-        to.push(b'\n');
+        copy
     }
 
-    /// The line's dropped count.
-    pub fn dropped(&self) -> u16 {
-        self.line.dropped()
+    pub fn line(&self) -> &Line {
+        &self.line
     }
 
     /// What occurred on this line and on those before it.
@@ -135,14 +196,6 @@ impl Runner {
         all.add(&self.line.seen);
         all
     }
-}
-
-fn put_answer(answer: &Answer, to: &mut Vec<u8>) {
-    to.extend([b'0' + answer.number, b' ']);
-    put_hex(&answer.terminal, to);
-    to.push(b' ');
-    put_hex(&answer.message_area(), to);
-    to.push(b'\n');
 }
 
 fn put_hex(bytes: &[u8], to: &mut Vec<u8>) {

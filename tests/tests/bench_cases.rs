@@ -21,6 +21,7 @@ fn case_a_is_read_as_its_fields() {
     assert_eq!((read.max_length, read.end_of_data, read.end_of_prompt), (80, 2, 2));
     assert_eq!((read.low_water, read.data), (2, b"? ".to_vec()));
     assert_eq!(start(UU1 | T | ZZ2, b"? ", b"").bytes(), bytes(A));
+    assert_eq!(Bench::default().copied(&bytes(A)), Ok(A.to_string()));
 }
 
 #[test]
@@ -36,7 +37,7 @@ fn case_c_a_byte_short() {
     let mut bench = Bench::initiated();
     let short = &bytes(A)[..18];
     bench.refused(5, short);
-    assert_eq!(second::message::read(short), Err(5));
+    assert_eq!(bench.copied(short), Err(5));
 }
 
 #[test]
@@ -92,7 +93,7 @@ fn case_j_the_65th_waiting_key() {
     let mut bench = Bench::initiated();
     bench.keys(&[b'k'; 64]);
     assert_eq!(bench.key(b'k'), done("07", ""));
-    assert_eq!(bench.line.dropped(), 1);
+    assert_eq!(bench.dropped(), 1);
 }
 
 #[test]
@@ -113,7 +114,7 @@ fn the_dropped_count_stops() {
     let mut bench = Bench::initiated();
     bench.keys(&[b'k'; 64]);
     for _ in 0..65_540 {
-        bench.line.key(b'k', bench.areas);
+        bench.key(b'k');
     }
-    assert_eq!(bench.line.dropped(), 65_535);
+    assert_eq!(bench.dropped(), 65_535);
 }

@@ -6,19 +6,14 @@ use second::{generator, script};
 #[test]
 fn each_thing_that_can_be_reached_occurs() {
     let mut all = Coverage::default();
-    let mut calls = 0;
     for seed in 1..=40 {
         let text = generator::script(seed, 10_000);
         let (answers, seen) = script::run(text.as_bytes());
         assert!(!answers.is_empty());
         all.add(&seen);
-        calls += seen.numbers.iter().sum::<u64>();
     }
-    println!("calls {calls}");
-    for (name, count) in all.table() {
-        println!("{name:30} {count}");
-    }
-    assert!(calls >= 300_000);
+    println!("{all}");
+    assert!(all.calls() >= 300_000);
     assert_eq!(all.missing(), Vec::<String>::new());
 }
 

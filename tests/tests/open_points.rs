@@ -2,6 +2,8 @@
 
 mod common;
 
+#[path = "open_points/found.rs"]
+mod found;
 #[path = "open_points/keys.rs"]
 mod keys;
 #[path = "open_points/messages.rs"]

@@ -1,16 +1,19 @@
 //! Makes random scripts that reach deep states, from a seed.
 
+mod damage;
 mod messages;
 mod random;
 mod refusals;
 mod scenes;
 mod typing;
 
-use crate::line::{Areas, Line};
+use crate::line::Line;
 use crate::message::{Message, StartRead};
-use crate::script::Order;
+use crate::script::{Order, Runner};
 use random::Random;
 use std::fmt::Write as _;
+
+pub use damage::damaged;
 
 /// Makes a script with at least this many calls.
 pub fn script(seed: u64, calls: usize) -> String {
@@ -18,8 +21,7 @@ pub fn script(seed: u64, calls: usize) -> String {
         random: Random::new(seed),
         text: String::new(),
         calls: 0,
-        line: Line::default(),
-        areas: Areas::default(),
+        runner: Runner::default(),
     };
     generator.beginning();
     while generator.calls < calls {
@@ -34,8 +36,7 @@ struct Generator {
     calls: usize,
     /// Follows the script, so that scenes know whether a read is pending and
     /// how much waits: without it most typing would meet no read.
-    line: Line,
-    areas: Areas,
+    runner: Runner,
 }
 
 impl Generator {
@@ -43,46 +44,12 @@ impl Generator {
     fn order(&mut self, order: Order) {
         let counts = !matches!(order, Order::Lengths(_) | Order::Fresh | Order::Dropped);
         self.calls += usize::from(counts);
-        match &order {
-            Order::Key(code) => {
-                let _ = write!(self.text, "K {code:02X}");
-                self.line.key(*code, self.areas);
-            }
-            Order::Step => {
-                self.text.push('S');
-                self.line.step(self.areas);
-            }
-            Order::Tick => {
-                self.text.push('T');
-                self.line.tick(self.areas);
-            }
-            Order::Host(bytes) => {
-                self.hex('M', bytes);
-                self.line.host(bytes, self.areas);
-            }
-            Order::Lengths(areas) => {
-                let _ = write!(self.text, "A {} {}", areas.terminal, areas.message);
-                self.areas = *areas;
-            }
-            Order::Fresh => {
-                self.text.push('F');
-                self.line = Line::default();
-                self.areas = Areas::default();
-            }
-            Order::Read(bytes) => self.hex('R', bytes),
-            Order::Dropped => self.text.push('D'),
-        }
-        self.text.push('\n');
+        self.runner.obey(&order);
+        let _ = writeln!(self.text, "{order}");
     }
 
-    fn hex(&mut self, word: char, bytes: &[u8]) {
-        self.text.push(word);
-        if !bytes.is_empty() {
-            self.text.push(' ');
-        }
-        for byte in bytes {
-            let _ = write!(self.text, "{byte:02X}");
-        }
+    fn line(&self) -> &Line {
+        self.runner.line()
     }
 
     fn key(&mut self, code: u8) {
@@ -162,10 +129,10 @@ impl Generator {
 
     /// Ends the read there is, most of the time, and starts one.
     fn start(&mut self, change: impl FnOnce(&mut Random, &mut StartRead)) {
-        if self.line.read_pending() && self.random.chance(90) {
+        if self.line().read_pending() && self.random.chance(90) {
             self.send(&[5, 0]);
         }
-        if self.line.waiting() > 12 && self.random.chance(60) {
+        if self.line().waiting() > 12 && self.random.chance(60) {
             self.send(&[6, 0]);
         }
         let mut read = messages::start_read(&mut self.random);

@@ -36,7 +36,7 @@ impl Generator {
     }
 
     pub(super) fn spoiled(&mut self) {
-        if self.line.read_pending() && self.random.chance(50) {
+        if self.line().read_pending() && self.random.chance(50) {
             self.send(&[5, 0]);
         }
         let kind = self.random.pick(&[1, 2, 2, 2, 2, 5, 6, 7, 7, 10, 10, 11, 11, 11, 12]);
@@ -46,7 +46,7 @@ impl Generator {
     }
 
     pub(super) fn sound_message(&mut self) {
-        if self.line.read_pending() && self.random.chance(50) {
+        if self.line().read_pending() && self.random.chance(50) {
             self.send(&[5, 0]);
         }
         let kind =

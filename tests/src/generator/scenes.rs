@@ -33,7 +33,7 @@ impl Generator {
     pub(super) fn type_keys(&mut self, most: usize) {
         let pace = self.random.pick(&[100, 100, 90, 50, 10]);
         for _ in 0..self.random.below(most + 1) {
-            if !self.line.read_pending() && self.random.chance(60) {
+            if !self.line().read_pending() && self.random.chance(60) {
                 self.start(|_, _| {});
             }
             let code = typing::key(&mut self.random);
@@ -55,7 +55,7 @@ impl Generator {
 
     /// Steps until nothing waits or the read completes.
     pub(super) fn settle(&mut self) {
-        while self.line.read_pending() && self.line.waiting() > 0 && self.random.chance(97) {
+        while self.line().read_pending() && self.line().waiting() > 0 && self.random.chance(97) {
             self.step();
         }
     }

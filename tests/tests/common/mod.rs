@@ -1,7 +1,11 @@
-//! A bench: a line with what it wrote, in hexadecimal.
+//! A bench: a line with what it wrote, in hexadecimal. What a test does on it
+//! is done again by the proved program, which must answer the same.
 #![allow(dead_code)]
 
+use second::compare;
 use second::line::{Answer, Areas, Line};
+use second::script::{self, Order, Reply, Runner};
+use std::io::Write;
 
 pub fn bytes(hex: &str) -> Vec<u8> {
     let digits: Vec<u8> = hex.bytes().filter(|digit| *digit != b' ').collect();
@@ -21,10 +25,25 @@ pub fn told(answer: &Answer) -> (u8, String, String) {
     (answer.number, hex(&answer.terminal), messages.join(" | "))
 }
 
-#[derive(Clone, Default)]
+/// Everything goes through `obey`, which keeps the script and its answers.
+#[derive(Default)]
 pub struct Bench {
-    pub line: Line,
+    /// The lengths at which the areas are lent from now on.
     pub areas: Areas,
+    lent: Areas,
+    runner: Runner,
+    script: Vec<u8>,
+    answers: Vec<u8>,
+}
+
+impl Drop for Bench {
+    /// Here, so that no test can leave it out.
+    fn drop(&mut self) {
+        if !std::thread::panicking() {
+            assert!(script::run(&self.script).0 == self.answers, "the script is not what was done");
+            compare::check(&self.script);
+        }
+    }
 }
 
 impl Bench {
@@ -35,12 +54,49 @@ impl Bench {
         bench
     }
 
+    fn obey(&mut self, order: Order) -> Reply {
+        writeln!(self.script, "{order}").unwrap();
+        let reply = self.runner.obey(&order);
+        reply.put(&mut self.answers);
+        reply
+    }
+
+    fn call(&mut self, order: Order) -> Answer {
+        if self.areas != self.lent {
+            self.lent = self.areas;
+            self.obey(Order::Lengths(self.areas));
+        }
+        let Reply::Call(answer) = self.obey(order) else {
+            panic!("not a call");
+        };
+        answer
+    }
+
+    pub fn line(&self) -> &Line {
+        self.runner.line()
+    }
+
+    pub fn dropped(&mut self) -> u16 {
+        let Reply::Dropped(count) = self.obey(Order::Dropped) else {
+            panic!("not a count");
+        };
+        count
+    }
+
+    /// A message read without a line and written again, or its refusal.
+    pub fn copied(&mut self, message: &[u8]) -> Result<String, u8> {
+        let Reply::Copy(copy) = self.obey(Order::Read(message.to_vec())) else {
+            panic!("not a copy");
+        };
+        copy.map(|bytes| hex(&bytes))
+    }
+
     pub fn host(&mut self, message: &str) -> (u8, String, String) {
         self.host_bytes(&bytes(message))
     }
 
     pub fn host_bytes(&mut self, message: &[u8]) -> (u8, String, String) {
-        told(&self.line.host(message, self.areas))
+        told(&self.call(Order::Host(message.to_vec())))
     }
 
     pub fn number(&mut self, message: &str) -> u8 {
@@ -48,24 +104,23 @@ impl Bench {
     }
 
     pub fn key(&mut self, code: u8) -> (u8, String, String) {
-        told(&self.line.key(code, self.areas))
+        told(&self.call(Order::Key(code)))
     }
 
     pub fn step(&mut self) -> (u8, String, String) {
-        told(&self.line.step(self.areas))
+        told(&self.call(Order::Step))
     }
 
     pub fn tick(&mut self) -> (u8, String, String) {
-        told(&self.line.tick(self.areas))
+        told(&self.call(Order::Tick))
     }
 
     /// Each key arrives and is followed by a step; gives all that was written.
     pub fn typed(&mut self, codes: &[u8]) -> (String, String) {
         let (mut terminal, mut messages) = (Vec::new(), Vec::new());
         for code in codes {
-            let arrived = self.line.key(*code, self.areas);
-            let stepped = self.line.step(self.areas);
-            for answer in [arrived, stepped] {
+            for order in [Order::Key(*code), Order::Step] {
+                let answer = self.call(order);
                 assert_eq!(answer.number, 0);
                 terminal.extend(answer.terminal);
                 messages.extend(answer.messages.iter().map(|message| hex(message)));
@@ -80,14 +135,20 @@ impl Bench {
         }
     }
 
+    /// These calls leave the line alone.
+    pub fn unchanged(&mut self, calls: impl FnOnce(&mut Bench)) {
+        let mut before = self.line().clone();
+        calls(self);
+        before.seen = self.line().seen.clone();
+        assert!(before == *self.line(), "the line changed");
+    }
+
     /// The call answers this number, writes nothing and leaves the line alone.
     pub fn refused(&mut self, number: u8, message: &[u8]) {
-        let mut before = self.line.clone();
-        let answer = self.line.host(message, self.areas);
-        assert_eq!((answer.number, hex(message)), (number, hex(message)));
-        assert!(answer.terminal.is_empty() && answer.messages.is_empty());
-        before.seen = self.line.seen.clone();
-        assert!(before == self.line, "the line changed: {}", hex(message));
+        self.unchanged(|bench| {
+            let answer = (number, String::new(), String::new());
+            assert_eq!(bench.host_bytes(message), answer, "{}", hex(message));
+        });
     }
 }
 

@@ -5,12 +5,12 @@ use second::message::{read, write, Initiate, Message, ReadData, StartRead, Value
 
 /// Read and written again.
 fn again(message: &str) -> String {
-    let read = read(&bytes(message)).expect("sound");
-    hex(&write(&read, 256).expect("written"))
+    Bench::default().copied(&bytes(message)).expect("sound")
 }
 
 #[test]
 fn point_01_selectors_defined() {
+    let mut bench = Bench::default();
     for identifier in 0..=255u8 {
         for class in 0..=255u8 {
             let value: &[u8] = match identifier {
@@ -19,7 +19,7 @@ fn point_01_selectors_defined() {
             };
             let defined = class == 2 && (1..=10).contains(&identifier);
             let message = [&[10, 0, identifier, class], value].concat();
-            assert_eq!(read(&message).is_ok(), defined, "{}", hex(&message));
+            assert_eq!(bench.copied(&message).is_ok(), defined, "{}", hex(&message));
         }
     }
     assert_eq!(
@@ -50,9 +50,10 @@ fn point_03_used_bits_of_values() {
 fn point_04_input_count_state() {
     for state in 0..6u8 {
         let message = [11, 0, 8, 2, state, 0];
-        assert_eq!(read(&message).is_ok(), (1..=3).contains(&state));
+        let mut bench = Bench::initiated();
+        assert_eq!(bench.copied(&message).is_ok(), (1..=3).contains(&state));
         let number = if (1..=3).contains(&state) { 6 } else { 5 };
-        Bench::initiated().refused(number, &message);
+        bench.refused(number, &message);
     }
 }
 
@@ -126,25 +127,28 @@ fn point_12_four_looks_at_the_type_only() {
 
 #[test]
 fn point_13_continuation_without_a_line() {
+    let mut bench = Bench::default();
     for uu in 0..3 {
         let message = start(K | ZZ2 | uu, b"", b"").bytes();
-        assert_eq!(write(&read(&message).unwrap(), 256), Ok(message));
+        assert_eq!(bench.copied(&message), Ok(hex(&message)));
     }
-    assert_eq!(read(&start(K | 3, b"", b"").bytes()), Err(5));
+    assert_eq!(bench.copied(&start(K | 3, b"", b"").bytes()), Err(5));
 }
 
 #[test]
 fn point_14_prefix_and_postfix() {
-    assert_eq!(read(&bytes("07 C0 00 00 00")), Err(5));
-    assert_eq!(read(&bytes("07 00 03 00 00")), Err(5));
-    assert_eq!(Bench::initiated().host("07 00 00 41 42 43"), done("43", ""));
+    let mut bench = Bench::initiated();
+    assert_eq!(bench.copied(&bytes("07 C0 00 00 00")), Err(5));
+    assert_eq!(bench.copied(&bytes("07 00 03 00 00")), Err(5));
+    assert_eq!(bench.host("07 00 00 41 42 43"), done("43", ""));
 }
 
 #[test]
 fn point_15_read_data_codes() {
+    let mut bench = Bench::default();
     for code in 0..16u8 {
         let message = [3, code, 0, 0, 0, 0, 255, 255];
-        assert_eq!(read(&message).is_ok(), code < 14);
+        assert_eq!(bench.copied(&message).is_ok(), code < 14);
     }
     assert_eq!(again("03 FD 01 02 03 04 05 06 07"), "03 1D 01 02 03 04 05 06 07");
 }
@@ -197,8 +201,9 @@ fn point_17_writing_without_a_line() {
 
 #[test]
 fn point_18_the_buffer_limit_without_a_line() {
-    assert!(read(&start(ZZ2, b"", b"").max(132).bytes()).is_ok());
-    assert_eq!(read(&start(ZZ2, b"", b"").max(133).bytes()), Err(5));
+    let mut bench = Bench::default();
+    assert!(bench.copied(&start(ZZ2, b"", b"").max(132).bytes()).is_ok());
+    assert_eq!(bench.copied(&start(ZZ2, b"", b"").max(133).bytes()), Err(5));
 }
 
 #[test]

@@ -21,15 +21,15 @@ fn point_36_the_top_column() {
     for _ in 0..4 {
         assert_eq!(bench.number(&row), 0);
     }
-    assert_eq!(bench.line.column(), 996);
+    assert_eq!(bench.line().column(), 996);
     start(ZZ2, b"", b"").on(&mut bench);
     assert_eq!(bench.typed(b"\t").0, "20 20 20 20");
-    assert_eq!(bench.line.column(), 999);
+    assert_eq!(bench.line().column(), 999);
     assert_eq!(bench.typed(b"\t\t").0, "20 20");
     assert_eq!(bench.typed(&[21]).0, "08 20 08 ".repeat(6).trim_end());
-    assert_eq!(bench.line.column(), 993);
+    assert_eq!(bench.line().column(), 993);
     assert_eq!(bench.host("07 00 04 00 00 09"), done("09", "08 00 06 00 00 00"));
-    assert_eq!(bench.line.column(), 999);
+    assert_eq!(bench.line().column(), 999);
 }
 
 #[test]
