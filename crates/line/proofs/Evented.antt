@@ -10,15 +10,9 @@ use Rattle.rules.specs.Bounds.{isByteEvent}
 use Rattle.line.specs.declared.events.Event.{Event}
 use Rattle.line.specs.declared.events.Event.the-variants.{Key, Tick, Step, Host}
 use Rattle.line.specs.declared.Line.{Line}
-use Rattle.line.specs.declared.Work.{Work}
 use Rattle.line.specs.View.{view}
-use Rattle.line.specs.Promise.{Does}
 use Rattle.line.specs.Obeyed.{obeysHeld}
 use Rattle.line.specs.Events.{Admitted, eventPart, eventOf}
-
-module _ (s : List ℕ) {w r : Work} {t m t′ m′ : List ℕ} {e f : Event} where
-  pub event-does : e ≡ f → Does (eventPart s f) w t m r t′ m′ → Does (eventPart s e) w t m r t′ m′
-  event-does h d = rw h d
 
 -- the rules answer an event that is admitted by the part that it is
 module _ (l : Line) (s : List ℕ) where

@@ -14,6 +14,7 @@ mod Places
 mod Held
 mod Joints
 mod Room
+mod Meeting
 mod Obeys
 mod Initiates
 mod Opened

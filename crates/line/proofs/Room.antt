@@ -1,5 +1,5 @@
 -- What a step knows of a pending read, and the key that it takes.
-use mathlib.Core.Path.{_≡_, refl, ap, _∙_}
+use mathlib.Core.Path.{_≡_, refl, sym, ap, _∙_, subst}
 use Prim.Native.Nat.{ℕ, _<_}
 use native.Mathlib.Omega.{arith}
 use mathlib.Core.Bool.{true}
@@ -9,8 +9,9 @@ use lib.Dec.{eqb}
 use lib.ListN.{drop}
 use Rattle.rules.specs.Choice.{isEmpty}
 use Rattle.rules.specs.Numbers.{tokenSize}
+use Rattle.rules.specs.State as rules
 use Rattle.rules.specs.State.{withTyped, withRead, withIdle}
-use Rattle.rules.specs.Turns.{changes}
+use Rattle.rules.specs.Turns.{Part, changes, _then_}
 use Rattle.line.specs.declared.Line.{Line}
 use Rattle.line.specs.declared.Work.{Work}
 use Rattle.line.specs.declared.Reading.{Reading}
@@ -21,9 +22,11 @@ use Rattle.line.specs.With.{onLine, onRead, onTyped}
 use Rattle.line.specs.ReadingParts.{Becomes, HasRoom, idling}
 use Rattle.line.specs.TokenParts.{FirstTaken}
 use Rattle.line.specs.Promise.{Does}
+use Rattle.line.specs.Acts.{resting, takesKey, TakesKey}
 use Rattle.line.proofs.Appends.{end-is}
 use Rattle.line.proofs.Held.{empty-take}
-use Rattle.line.proofs.Works.{changes-does}
+use Rattle.line.proofs.Works.{changes-does, then-does}
+use Rattle.line.proofs.Joints.{for-equal}
 
 pub pending-room : (l : Line) → Bounded l → l .pending ≡ true → HasRoom (l .reading)
 pending-room l b e =
@@ -65,3 +68,12 @@ module _ {w v u : Work} (rest : Typed) (next : Reading) (r : Reading) (f : First
   taken-short s =
       let same = ap (λ x. x .line .typed .«token_len») (k ∙ ap (λ x. onLine (onRead next (x .line)) x) h) in
       omega (arith, same, f .begun)
+
+-- and what a rule then does with its read
+module _ {w v : Work} {r : Reading} (k : TakesKey w v) (e : r ≡ v .line .reading) where
+  pub key-room : HasRoom r
+  key-room = subst HasRoom (sym e) (k .room)
+
+  pub key-then : {u : Work} {t t′ m m′ : List ℕ} (F : rules.Reading ℕ → Part ℕ) → Does (F (readingOf r)) v t m u t′ m′ →
+      Does (takesKey (w .line) then F (resting (w .line))) w t m u t′ m′
+  key-then {u} {t} {t′} {m} {m′} F d = then-does (k .does t m) (for-equal F (ap readingOf e ∙ k .becomes .view) d)

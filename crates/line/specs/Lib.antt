@@ -10,5 +10,6 @@ pub mod Obeyed
 pub mod Promise
 pub mod Answers
 pub mod Events
+pub mod Acts
 pub mod Rows
 pub mod Chains

@@ -6,10 +6,13 @@ ghost use Rattle.rules.specs.Arrival as rules;
 ghost use Rattle.line.specs.View.{pendingOf};
 ghost use Rattle.line.specs.Bounded.{Counted, CountedReading};
 ghost use Rattle.line.specs.Promise.{Does};
+ghost use Rattle.line.specs.Acts.{Meets};
 ghost use Rattle.rules.specs.Numbers.{typeAheadSize, topDropped};
 ghost use mathlib.Core.Path.{_≡_};
+use crate::Line;
 use crate::Reading;
 use crate::Work;
+use crate::acts::Act;
 use message::Message;
 
 // A pending read has DDD 3.
@@ -68,7 +71,7 @@ impl Work {
     }
 
     // Rule 4.
-    fn stores(self, terminal: &mut [u8], quoted: bool, c: u8) -> Work
+    pub(crate) fn stores(self, terminal: &mut [u8], quoted: bool, c: u8) -> Work
         requires { ⌜ Counted (self .line) ⌝ }
         ensures { λ w. ⌜ ((m : List ℕ) → Does (rules.stores typeAheadSize quoted c) self (now (terminal .entry)) m w (now (terminal .exit)) m) ⌝ }
     {
@@ -81,7 +84,7 @@ impl Work {
     }
 
     // Rule 1.
-    fn stores_quoted(self, terminal: &mut [u8], c: u8) -> Work
+    pub(crate) fn stores_quoted(self, terminal: &mut [u8], c: u8) -> Work
         requires { ⌜ Counted (self .line) ⌝ }
         ensures { λ w. ⌜ ((m : List ℕ) → Does (rules.storesQuoted c) self (now (terminal .entry)) m w (now (terminal .exit)) m) ⌝ }
     {
@@ -93,7 +96,7 @@ impl Work {
     }
 
     // Rule 3, code 22.
-    fn quotes(self) -> Work
+    pub(crate) fn quotes(self) -> Work
         requires { ⌜ Counted (self .line) ⌝ }
         ensures { λ w. ⌜ ((c : ℕ) (t m : List ℕ) → Does (rules.quotes c) self t m w t m) ⌝ }
     {
@@ -104,7 +107,7 @@ impl Work {
     }
 
     // Rule 3, code 15; Discard State says 1 where output is not discarded.
-    fn flips_discard(self, messages: &mut [u8]) -> Work
+    pub(crate) fn flips_discard(self, messages: &mut [u8]) -> Work
         requires { ⌜ Counted (self .line) ⌝ }
         ensures { λ w. ⌜ ((c : ℕ) (t : List ℕ) → Does (rules.flipsDiscard c) self t (now (messages .entry)) w t (now (messages .exit))) ⌝ }
     {
@@ -162,16 +165,8 @@ impl Work {
         next.clears_seen(terminal, line.pending, reading)
     }
 
-    // Rule 3, code 24.
-    fn clears_by(self, terminal: &mut [u8]) -> Work
-        requires { ⌜ Counted (self .line) ⌝ }
-        ensures { λ w. ⌜ ((c : ℕ) (m : List ℕ) → Does (rules.clearsBy codes c) self (now (terminal .entry)) m w (now (terminal .exit)) m) ⌝ }
-    {
-        self.clears(terminal)
-    }
-
     // Rule 2, hello.
-    fn sends_out_of_band(self, messages: &mut [u8], c: u8) -> Work
+    pub(crate) fn sends_out_of_band(self, messages: &mut [u8], c: u8) -> Work
         requires { ⌜ Counted (self .line) ⌝ }
         ensures { λ w. ⌜ ((t : List ℕ) → Does (rules.sendsOutOfBand codes c) self t (now (messages .entry)) w t (now (messages .exit))) ⌝ }
     {
@@ -197,7 +192,7 @@ impl Work {
     }
 
     // Both of these, with the clear rule between them, unseen.
-    fn clears_at_once(self, messages: &mut [u8], c: u8) -> Work
+    pub(crate) fn clears_at_once(self, messages: &mut [u8], c: u8) -> Work
         requires { ⌜ Counted (self .line) ⌝ }
         ensures { λ w. ⌜ ((t : List ℕ) → Does (rules.clearsAtOnce codes c) self t (now (messages .entry)) w t (now (messages .exit))) ⌝ }
     {
@@ -210,59 +205,58 @@ impl Work {
         let left = last.reading;
         cleared.ends_out_of_band(messages, last.pending, left)
     }
+}
 
+impl Line {
     // Rule 3, then 4.
-    fn controlled(self, terminal: &mut [u8], messages: &mut [u8], c: u8) -> Work
-        requires { ⌜ Counted (self .line) ⌝ }
-        ensures { λ w. ⌜ Does (rules.controlled codes c) self (now (terminal .entry)) (now (messages .entry)) w (now (terminal .exit)) (now (messages .exit)) ⌝ }
+    fn act_of_control(self, c: u8) -> Act
+        ensures { λ a. ⌜ ((s : List ℕ) → Meets (rules.controlled codes c) s self a) ⌝ }
     {
         if c == 22 {
-            return self.quotes();
+            return Act::Quotes;
         }
         if c == 24 {
-            return self.clears_by(terminal);
+            return Act::Clears;
         }
         if c == 15 {
-            return self.flips_discard(messages);
+            return Act::FlipsDiscard;
         }
-        self.stores(terminal, false, c)
+        Act::Stores(c)
     }
 
     // The first rule that applies is the only one.
-    fn ruled(self, terminal: &mut [u8], messages: &mut [u8], c: u8) -> Work
-        requires { ⌜ Counted (self .line) ⌝ }
-        ensures { λ w. ⌜ Does (rules.ruled codes c) self (now (terminal .entry)) (now (messages .entry)) w (now (terminal .exit)) (now (messages .exit)) ⌝ }
+    fn act_of_rules(self, c: u8) -> Act
+        requires { ⌜ Counted self ⌝ }
+        ensures { λ a. ⌜ ((s : List ℕ) → Meets (rules.ruled codes c) s self a) ⌝ }
     {
-        let line = self.line;
-        let known = line.terminal;
+        let known = self.terminal;
         if known.quoting {
-            return self.stores_quoted(terminal, c);
+            return Act::StoresQuoted(c);
         }
-        let host = line.host;
+        let host = self.host;
         let band = host.attribute(c) % 4;
         if band == 3 {
-            return self.sends_out_of_band(messages, c);
+            return Act::SendsOutOfBand(c);
         }
         if band == 1 {
-            return self.clears_at_once(messages, c);
+            return Act::ClearsAtOnce(c);
         }
-        let reading = line.reading;
-        if passes_controls(line.pending, reading) {
-            return self.stores(terminal, false, c);
+        let reading = self.reading;
+        if passes_controls(self.pending, reading) {
+            return Act::Stores(c);
         }
-        self.controlled(terminal, messages, c)
+        self.act_of_control(c)
     }
 
     // The arrival rules; before Initiate only rule 4 applies.
-    pub(crate) fn arrives(self, terminal: &mut [u8], messages: &mut [u8], c: u8) -> Work
-        requires { ⌜ Counted (self .line) ⌝ }
-        ensures { λ w. ⌜ Does (rules.arrives codes c) self (now (terminal .entry)) (now (messages .entry)) w (now (terminal .exit)) (now (messages .exit)) ⌝ }
+    pub(crate) fn act_of_key(self, c: u8) -> Act
+        requires { ⌜ Counted self ⌝ }
+        ensures { λ a. ⌜ ((s : List ℕ) → Meets (rules.arrives codes c) s self a) ⌝ }
     {
-        let line = self.line;
-        let host = line.host;
+        let host = self.host;
         if host.begun {
-            return self.ruled(terminal, messages, c);
+            return self.act_of_rules(c);
         }
-        self.stores(terminal, false, c)
+        Act::Stores(c)
     }
 }

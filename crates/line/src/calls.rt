@@ -1,43 +1,16 @@
 // The calls: each makes an event, which goes through one method.
-ghost use mathlib.Core.Path.{_≡_};
-ghost use mathlib.Core.Bool.{true};
 ghost use mathlib.Core.List.{[]};
-ghost use lib.ListN.{length};
 ghost use Rattle.rules.specs.Calls as rules;
 ghost use Rattle.line.specs.Bounded.{Bounded};
-ghost use Rattle.line.specs.Rows.{areRoomy};
 ghost use Rattle.line.specs.Events.{Admitted, eventOf};
 ghost use Rattle.line.specs.Answers.{Answers};
 use crate::Answer;
 use crate::Line;
-use crate::Work;
 use crate::events::Event;
 use crate::refusals::are_roomy;
 use message::Found;
 
 impl Line {
-    // An event, in areas that are large enough.
-    fn take(self, e: Event, s: &[u8], terminal: &mut [u8], messages: &mut [u8]) -> Answer
-        requires { ⌜ Bounded self ⌝ }
-        requires { ⌜ Admitted self (now s) e ⌝ }
-        requires { ⌜ areRoomy (length (now terminal)) (length (now messages)) ≡ true ⌝ }
-        ensures { λ r. ⌜ Answers (eventOf (now (s .entry)) e) self (now (terminal .entry)) (now (messages .entry)) r (now (terminal .exit)) (now (messages .exit)) ⌝ }
-    {
-        let begun = Work {
-            line: self,
-            at: 0,
-            sent: 0,
-        };
-        let done = begun.does(e, s, terminal, messages);
-        let line = done.line;
-        Answer {
-            line,
-            number: 0,
-            terminal: done.at,
-            messages: done.sent,
-        }
-    }
-
     // An event with no message, in any areas.
     fn take_unless_small(self, e: Event, terminal: &mut [u8], messages: &mut [u8]) -> Answer
         requires { ⌜ Bounded self ⌝ }

@@ -3,6 +3,7 @@ use characteristics::Host;
 use characteristics::Set;
 use screen::Screen;
 
+mod acts;
 mod arrival;
 mod calls;
 mod choices;

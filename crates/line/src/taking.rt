@@ -1,136 +1,202 @@
-// A step, and a tick.
+// What a step and a tick do, and the key that a step takes.
 ghost use Prim.Native.Nat.{ℕ, _<_};
+ghost use mathlib.Core.Path.{_≡_};
 ghost use mathlib.Core.List.{List, []};
-ghost use Rattle.rules.specs.Numbers.{tokenSize};
-ghost use Rattle.rules.specs.State.{codes};
+ghost use mathlib.Core.Option.{some};
+ghost use Rattle.rules.specs.State.{codes, withRead, withIdle};
+ghost use Rattle.rules.specs.Turns.{changes, _then_};
 ghost use Rattle.rules.specs.Steps as rules;
-ghost use Rattle.line.specs.View.{keyOf, keysOf, readingOf};
+ghost use Rattle.line.specs.View.{keyOf, readingOf};
 ghost use Rattle.line.specs.Bounded.{Counted, Bounded};
-ghost use Rattle.line.specs.ReadingParts.{HasRoom};
 ghost use Rattle.line.specs.Promise.{Does};
+ghost use Rattle.line.specs.Acts.{Taking, resting, takesKey, TakesKey, Meets};
 use crate::Key;
+use crate::Line;
 use crate::Reading;
 use crate::Work;
+use crate::acts::Act;
 
-impl Work {
+impl Line {
     // Rules 5, 6 and 7, after raising.
-    fn takes_plain(self, terminal: &mut [u8], messages: &mut [u8], c: u8, r: Reading) -> Work
-        requires { ⌜ Counted (self .line) ⌝ }
-        requires { ⌜ HasRoom r ⌝ }
-        ensures { λ w. ⌜ Does (rules.takesPlain codes c (readingOf r)) self (now (terminal .entry)) (now (messages .entry)) w (now (terminal .exit)) (now (messages .exit)) ⌝ }
+    fn act_of_plain(self, c: u8) -> Act
+        requires { ⌜ Taking self ⌝ }
+        ensures { λ a. ⌜ ((s : List ℕ) → Meets (takesKey self then rules.takesPlain codes c (resting self)) s self a) ⌝ }
     {
+        let r = self.reading;
         if r.ends_by(c) {
-            return self.terminates(terminal, messages, c, r);
+            return Act::Terminates(c);
         }
         if r.edits_by(c) {
-            return self.edits(terminal, messages, c, r);
+            return Act::Edits(c);
         }
-        self.takes_data(terminal, messages, c, r)
+        Act::TakesData(c)
     }
 
     // The rules in order.
-    fn takes(self, terminal: &mut [u8], messages: &mut [u8], k: Key, r: Reading) -> Work
-        requires { ⌜ Counted (self .line) ⌝ }
-        requires { ⌜ HasRoom r ⌝ }
-        requires { ⌜ self .line .typed .«token_len» < tokenSize ⌝ }
-        ensures { λ w. ⌜ Does (rules.takes codes (keyOf k) (readingOf r)) self (now (terminal .entry)) (now (messages .entry)) w (now (terminal .exit)) (now (messages .exit)) ⌝ }
+    fn act_of_taking(self, k: Key) -> Act
+        requires { ⌜ Counted self ⌝ }
+        requires { ⌜ Taking self ⌝ }
+        ensures { λ a. ⌜ ((s : List ℕ) → Meets (takesKey self then rules.takes codes (keyOf k) (resting self)) s self a) ⌝ }
     {
-        let line = self.line;
-        let typed = line.typed;
+        let typed = self.typed;
         if typed.is_partial() {
-            return self.adds_to_token(messages, k.code, r);
+            return Act::AddsToToken(k.code);
         }
         if k.quoted {
-            return self.takes_data(terminal, messages, k.code, r);
+            return Act::TakesData(k.code);
         }
+        let r = self.reading;
         if r.begins_token(k.code) {
-            return self.adds_to_token(messages, k.code, r);
+            return Act::AddsToToken(k.code);
         }
         let c = r.raised_by(k.code);
-        self.takes_plain(terminal, messages, c, r)
+        self.act_of_plain(c)
     }
 
-    // One key from type-ahead; with none, a read with Q and TIMEOUT 0 completes.
-    fn takes_first(self, terminal: &mut [u8], messages: &mut [u8], r: Reading) -> Work
-        requires { ⌜ Counted (self .line) ⌝ }
-        requires { ⌜ HasRoom r ⌝ }
-        requires { ⌜ self .line .typed .«token_len» < tokenSize ⌝ }
-        ensures { λ w. ⌜ Does (rules.takesFirst codes (keysOf (self .line .typed)) (readingOf r)) self (now (terminal .entry)) (now (messages .entry)) w (now (terminal .exit)) (now (messages .exit)) ⌝ }
+    // No key waits: a read with Q and TIMEOUT 0 completes.
+    fn act_of_waiting(self) -> Act
+        ensures { λ a. ⌜ ((s : List ℕ) → Meets (rules.takesFirst codes [] (readingOf (self .reading))) s self a) ⌝ }
     {
-        let line = self.line;
-        let typed = line.typed;
-        let waiting = typed.waiting;
-        if waiting == 0 {
-            return self.waits(messages, r);
-        }
-        let key = typed.first();
-        let rest = typed.without_first();
-        let next = r.with_idle(0);
-        let ready = self.with_typed(rest).with_read(next);
-        ready.takes(terminal, messages, key, next)
-    }
-
-    // No key waits.
-    fn waits(self, messages: &mut [u8], r: Reading) -> Work
-        requires { ⌜ Counted (self .line) ⌝ }
-        requires { ⌜ HasRoom r ⌝ }
-        ensures { λ w. ⌜ ((t : List ℕ) → Does (rules.takesFirst codes [] (readingOf r)) self t (now (messages .entry)) w t (now (messages .exit))) ⌝ }
-    {
+        let r = self.reading;
         let terms = r.terms;
         if terms.timed & (terms.timeout == 0) {
-            return self.completes(messages, 5, 0, r);
+            return Act::TimesOut;
         }
-        self
+        Act::Nothing
     }
 
-    pub(crate) fn steps(self, terminal: &mut [u8], messages: &mut [u8]) -> Work
-        requires { ⌜ Bounded (self .line) ⌝ }
-        ensures { λ w. ⌜ Does (rules.steps codes) self (now (terminal .entry)) (now (messages .entry)) w (now (terminal .exit)) (now (messages .exit)) ⌝ }
+    // A whole held token goes first.
+    pub(crate) fn act_of_step(self) -> Act
+        requires { ⌜ Bounded self ⌝ }
+        ensures { λ a. ⌜ ((s : List ℕ) → Meets (rules.steps codes) s self a) ⌝ }
     {
-        let line = self.line;
-        let pending = line.pending;
+        let pending = self.pending;
         if !pending {
-            return self;
+            return Act::Nothing;
         }
-        let typed = line.typed;
-        let r = line.reading;
+        let typed = self.typed;
         if typed.is_held() {
-            return self.takes_token(messages, r);
+            return Act::TakesToken;
         }
-        self.takes_first(terminal, messages, r)
+        let waiting = typed.waiting;
+        if waiting == 0 {
+            return self.act_of_waiting();
+        }
+        let key = typed.first();
+        self.act_of_taking(key)
     }
 
     // Idle rises by one; at TIMEOUT the read completes.
-    fn idles(self, messages: &mut [u8], r: Reading) -> Work
-        requires { ⌜ Counted (self .line) ⌝ }
-        requires { ⌜ HasRoom r ⌝ }
-        ensures { λ w. ⌜ ((t : List ℕ) → Does (rules.idles codes (readingOf r)) self t (now (messages .entry)) w t (now (messages .exit))) ⌝ }
+    fn act_of_idling(self) -> Act
+        ensures { λ a. ⌜ ((s : List ℕ) → Meets (rules.idles codes (readingOf (self .reading))) s self a) ⌝ }
     {
+        let r = self.reading;
         let terms = r.terms;
         let idle = r.idle as u32 + 1;
         if terms.timeout as u32 <= idle {
-            return self.completes(messages, 5, 0, r);
+            return Act::TimesOut;
         }
-        let next = r.with_idle(idle as u16);
-        self.with_read(next)
+        Act::Idles(idle as u16)
     }
 
-    pub(crate) fn ticks(self, messages: &mut [u8]) -> Work
-        requires { ⌜ Bounded (self .line) ⌝ }
-        ensures { λ w. ⌜ ((t : List ℕ) → Does (rules.ticks codes) self t (now (messages .entry)) w t (now (messages .exit))) ⌝ }
+    pub(crate) fn act_of_tick(self) -> Act
+        requires { ⌜ Bounded self ⌝ }
+        ensures { λ a. ⌜ ((s : List ℕ) → Meets (rules.ticks codes) s self a) ⌝ }
     {
-        let line = self.line;
-        let pending = line.pending;
+        let pending = self.pending;
         if !pending {
-            return self;
+            return Act::Nothing;
         }
-        let typed = line.typed;
-        let r = line.reading;
+        let typed = self.typed;
+        let r = self.reading;
         let terms = r.terms;
         let held = typed.is_held();
         if terms.timed & (0 < terms.timeout) & (typed.waiting == 0) & !held {
-            return self.idles(messages, r);
+            return self.act_of_idling();
         }
-        self
+        Act::Nothing
+    }
+}
+
+impl Work {
+    // The read that is pending, if one is.
+    pub(crate) fn read(self) -> Reading
+        ensures { λ r. ⌜ r ≡ self .line .reading ⌝ }
+    {
+        let line = self.line;
+        line.reading
+    }
+
+    // The first key goes from type-ahead, and the read is no longer idle.
+    fn takes_key(self) -> Work
+        requires { ⌜ Counted (self .line) ⌝ }
+        requires { ⌜ Taking (self .line) ⌝ }
+        ensures { λ w. ⌜ TakesKey self w ⌝ }
+    {
+        let line = self.line;
+        let typed = line.typed;
+        let rest = typed.without_first();
+        let r = line.reading;
+        let next = r.with_idle(0);
+        self.with_typed(rest).with_read(next)
+    }
+
+    // Rules 1 and 3.
+    pub(crate) fn steps_with_token(self, messages: &mut [u8], c: u8) -> Work
+        requires { ⌜ Counted (self .line) ⌝ }
+        requires { ⌜ Taking (self .line) ⌝ }
+        ensures { λ w. ⌜ ((t : List ℕ) → Does (takesKey (self .line) then rules.addsToToken codes c (resting (self .line))) self t (now (messages .entry)) w t (now (messages .exit))) ⌝ }
+    {
+        let taken = self.takes_key();
+        let r = taken.read();
+        taken.adds_to_token(messages, c, r)
+    }
+
+    // Rule 5.
+    pub(crate) fn steps_with_terminator(
+        self,
+        terminal: &mut [u8],
+        messages: &mut [u8],
+        c: u8,
+    ) -> Work
+        requires { ⌜ Counted (self .line) ⌝ }
+        requires { ⌜ Taking (self .line) ⌝ }
+        ensures { λ w. ⌜ Does (takesKey (self .line) then rules.terminates codes c (resting (self .line))) self (now (terminal .entry)) (now (messages .entry)) w (now (terminal .exit)) (now (messages .exit)) ⌝ }
+    {
+        let taken = self.takes_key();
+        let r = taken.read();
+        taken.terminates(terminal, messages, c, r)
+    }
+
+    // Rule 6.
+    pub(crate) fn steps_with_edit(self, terminal: &mut [u8], messages: &mut [u8], c: u8) -> Work
+        requires { ⌜ Counted (self .line) ⌝ }
+        requires { ⌜ Taking (self .line) ⌝ }
+        ensures { λ w. ⌜ Does (takesKey (self .line) then rules.edits codes c (resting (self .line))) self (now (terminal .entry)) (now (messages .entry)) w (now (terminal .exit)) (now (messages .exit)) ⌝ }
+    {
+        let taken = self.takes_key();
+        let r = taken.read();
+        taken.edits(terminal, messages, c, r)
+    }
+
+    // Rules 2 and 7.
+    pub(crate) fn steps_with_data(self, terminal: &mut [u8], messages: &mut [u8], c: u8) -> Work
+        requires { ⌜ Counted (self .line) ⌝ }
+        requires { ⌜ Taking (self .line) ⌝ }
+        ensures { λ w. ⌜ Does (takesKey (self .line) then rules.takesData codes c (resting (self .line))) self (now (terminal .entry)) (now (messages .entry)) w (now (terminal .exit)) (now (messages .exit)) ⌝ }
+    {
+        let taken = self.takes_key();
+        let r = taken.read();
+        taken.takes_data(terminal, messages, c, r)
+    }
+
+    pub(crate) fn idles(self, idle: u16) -> Work
+        requires { ⌜ Counted (self .line) ⌝ }
+        ensures { λ w. ⌜ ((t m : List ℕ) → Does (changes (withRead (some (withIdle idle (readingOf (self .line .reading)))))) self t m w t m) ⌝ }
+    {
+        let line = self.line;
+        let r = line.reading;
+        let next = r.with_idle(idle);
+        self.with_read(next)
     }
 }

@@ -87,7 +87,7 @@ take-requires c κs =
     let passed = early-passed l t m s (c .before .before .before .before .before .before .before .before .before .early-row .ensures) (c .before .before .before .before .before .before .before .before .if1 .left) in
     let bytes = bytes-all s (λ i. omega (arith, c .before .before .before .before .before .before .before .before .before .before .before .before .shared-slice-known .given i)) in
     let accepted = is-accepted l s _ found (c .before .before .before .carries .ensures) (not-false _ (c .before .before .if2 .left)) bytes (passed .1) in
-    (a .pre, (accepted, passed .0))
+    record { bounded = a .pre; admitted = accepted; roomy = passed .0 }
 
 same-length : tie.Need-same-length
 same-length c = search needs

@@ -26,7 +26,8 @@ slice-aggregate-take c = search needs
 take-requires : tie.Need-take-requires
 take-requires c κs =
     let a = c .before .before .before .before .before .before .before in
-    (a .pre .0, (a .pre .1, sym (c .before .before .before .before .are-roomy .ensures) ∙ not-false _ (c .before .before .before .if1 .left)))
+    let roomy = sym (c .before .before .before .before .are-roomy .ensures) ∙ not-false _ (c .before .before .before .if1 .left) in
+    record { bounded = a .pre .0; admitted = a .pre .1; roomy = roomy }
 
 same-length : tie.Need-same-length
 same-length c = search needs

@@ -1,0 +1,17 @@
+use mathlib.Core.Path.{refl}
+use Rattle.rules.specs.Turns.{only}
+use Rattle.rules.specs.Steps.{takesFirst}
+use Rattle.line.proofs.Meeting.{met, meets-first, meets-second}
+use Rattle.line.proofs.Line.act_of_waiting.Statement.{statement}
+use Rattle.line.proofs.Line.act_of_waiting.Tie as tie
+
+returns : tie.Need-returns
+unfolding takesFirst only
+returns c = λ s. meets-first _ refl (c .if1 .taken) (met tt)
+
+returns-2 : tie.Need-returns-2
+unfolding takesFirst only
+returns-2 c = λ s. meets-second _ refl (c .if1 .left) (met tt)
+
+pub act-of-waiting-spec : {M : Type 1} → statement M
+act-of-waiting-spec = tie.close (tie.spec returns returns-2)

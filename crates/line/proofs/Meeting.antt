@@ -1,0 +1,94 @@
+-- Which act an event meets.
+use mathlib.Core.Path.{_≡_, refl, sym, ap, _∙_, subst}
+use Prim.Native.Nat.{ℕ}
+use mathlib.Core.Bool.{Bool, true, false}
+use mathlib.Core.List.{List}
+use Rattle.rules.specs.Choice.{pick}
+use Rattle.rules.specs.Turns.{Fate, Part, tells, changes, behind, _then_}
+use Rattle.rules.specs.Area.{puts, spot}
+use Rattle.rules.specs.Calls.{messageBytes}
+use Rattle.rules.proofs.Tests.{pick-true, pick-false}
+use Rattle.line.specs.declared.Line.{Line}
+use Rattle.line.specs.declared.Work.{Work}
+use Rattle.line.specs.declared.acts.Act.{Act}
+use Rattle.line.specs.declared.events.Event.{Event}
+use Rattle.line.specs.declared.Answer.{Answer}
+use Rattle.line.specs.View.{view}
+use Rattle.line.specs.Events.{Admitted, Comes, eventPart, eventOf}
+use Rattle.line.specs.Answers.{Answers}
+use Rattle.line.specs.Bounded.{Counted}
+use Rattle.line.specs.Promise.{Does}
+use Rattle.line.specs.Acts.{keyTaken, takesKey, actPart, Ready, effectOf, Meets, answerOf}
+use Rattle.line.proofs.Evented.{event-answers, event-bytes}
+use Rattle.line.proofs.Answering.{begun, answered}
+
+module _ {s : List ℕ} {l : Line} {a : Act} where
+  pub met : Ready s l a → Meets (actPart s l a) s l a
+  met h = record { same = refl; ready = h }
+
+  -- A rule that is another one at this line, and one that chooses.
+  module _ {rule f : Part ℕ} where
+    pub meets-as : rule (view l) ≡ f (view l) → Meets f s l a → Meets rule s l a
+    meets-as e h = record { same = ap effectOf e ∙ h .same; ready = h .ready }
+
+    module _ {test : Bool} (g : Part ℕ) where
+      pub meets-first : rule (view l) ≡ pick test f g (view l) → test ≡ true → Meets f s l a → Meets rule s l a
+      meets-first e b h = meets-as (e ∙ ap (λ p. p (view l)) (pick-true f g b)) h
+
+      pub meets-second : rule (view l) ≡ pick test g f (view l) → test ≡ false → Meets f s l a → Meets rule s l a
+      meets-second e b h = meets-as (e ∙ ap (λ p. p (view l)) (pick-false g f b)) h
+
+  -- the same, behind a key that was taken
+  module _ (rule f : Part ℕ) where
+    pub meets-behind : rule (keyTaken l (view l)) ≡ f (keyTaken l (view l)) → Meets (takesKey l then f) s l a → Meets (takesKey l then rule) s l a
+    unfolding _then_ changes
+    meets-behind e h = record { same = ap (λ t. effectOf (behind (takesKey l (view l)) t)) e ∙ h .same; ready = h .ready }
+
+    module _ {test : Bool} (g : Part ℕ) where
+      pub behind-first : rule (keyTaken l (view l)) ≡ pick test f g (keyTaken l (view l)) → test ≡ true →
+          Meets (takesKey l then f) s l a → Meets (takesKey l then rule) s l a
+      behind-first e b h = meets-behind (e ∙ ap (λ p. p (keyTaken l (view l))) (pick-true f g b)) h
+
+      pub behind-second : rule (keyTaken l (view l)) ≡ pick test g f (keyTaken l (view l)) → test ≡ false →
+          Meets (takesKey l then f) s l a → Meets (takesKey l then rule) s l a
+      behind-second e b h = meets-behind (e ∙ ap (λ p. p (keyTaken l (view l))) (pick-false g f b)) h
+
+  -- what became of keys is not seen
+  pub meets-told : {f : Part ℕ} (fs : List (Fate ℕ)) → Meets f s l a → Meets (tells fs then f) s l a
+  unfolding _then_ behind tells effectOf messageBytes
+  meets-told fs h = record { same = h .same; ready = h .ready }
+
+-- An act that is done is the rule that meets it.
+module _ {rule : Part ℕ} {s : List ℕ} {w r : Work} {a : Act} {t t′ m m′ : List ℕ} where
+  pub act-does : Meets rule s (w .line) a → Does (actPart s (w .line) a) w t m r t′ m′ → Does rule w t m r t′ m′
+  unfolding effectOf
+  act-does h d =
+      let e = h .same in
+      record {
+        state = d .state ∙ ap (λ x. x .state) (sym e);
+        shows = d .shows ∙ ap (λ x. puts (x .bytes) (spot t (w .at))) (sym e);
+        sends = d .sends ∙ ap (λ x. puts (x .messages) (spot m (w .sent))) (sym e);
+        counted = d .counted;
+        terminalLength = d .terminalLength;
+        messagesLength = d .messagesLength;
+      }
+
+-- An event, by its case.
+module _ (s : List ℕ) {l : Line} {a : Act} {e f : Event} where
+  pub event-meets : e ≡ f → Admitted l s e → (Admitted l s f → Meets (eventPart s f) s l a) → Meets (eventPart s e) s l a
+  event-meets h b k = subst (λ x. Meets (eventPart s x) s l a) (sym h) (k (subst (Admitted l s) h b))
+
+-- The answer to an event is that of the act which it meets.
+module _ {l : Line} {s t m : List ℕ} {e : Event} (c : Comes l s e t m) {a : Act} (h : (z : List ℕ) → Admitted l z e → Meets (eventPart z e) z l a) where
+  pub act-ready : {f : Act} → a ≡ f → Ready s l f
+  act-ready k = subst (Ready s l) k (h s (c .admitted) .ready)
+
+  pub act-asks : {f : Act} → a ≡ f → Counted l × Ready s l f
+  act-asks k = (c .bounded .counted, act-ready k)
+
+  pub act-answers : {f : Act} → a ≡ f → {w : Work} {t′ m′ : List ℕ} → Does (actPart s l f) (begun l) t m w t′ m′ → {r : Answer} → r ≡ answerOf w →
+      Answers (eventOf s e) l t m r t′ m′
+  act-answers k {w} {t′} {m′} d eq =
+      let does = act-does (h s (c .admitted)) (subst (λ x. Does (actPart s l x) (begun l) t m w t′ m′) (sym k) d) in
+      rw eq
+      (answered (eventOf s e) l t m (c .bounded) (eventPart s e) (event-answers l s e (c .admitted)) (event-bytes l s e (c .admitted)) (c .roomy) w t′ m′ does)

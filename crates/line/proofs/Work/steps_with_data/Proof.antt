@@ -1,0 +1,42 @@
+use mathlib.Core.List.{[]}
+use borrow.Author.Needs.{needs}
+use Rattle.rules.specs.State.{codes}
+use Rattle.rules.specs.Steps.{takesData}
+use Rattle.line.proofs.Room.{key-room, key-then}
+use Rattle.line.proofs.Work.steps_with_data.Statement.{statement}
+use Rattle.line.proofs.Work.steps_with_data.Tie as tie
+
+takes-key-requires : tie.Need-takes-key-requires
+takes-key-requires c κs = search needs
+
+read-requires : tie.Need-read-requires
+read-requires c κs = search needs
+
+takes-data-requires : tie.Need-takes-data-requires
+takes-data-requires c κs =
+    let taken = c .before .before .before .takes-key .ensures in
+    (taken .does [] [] .counted, key-room taken (c .before .before .read .ensures))
+
+same-length : tie.Need-same-length
+same-length c = search needs
+
+same-length-2 : tie.Need-same-length-2
+same-length-2 c = search needs
+
+returns : tie.Need-returns
+returns c =
+    let call = c .before .before .before .before in
+    let read = call .before .before .before in
+    let x = read .before .before .before .before .args in
+    key-then (read .before .takes-key .ensures) (read .read .ensures) (takesData codes (x .c)) (call .takes-data .ensures)
+
+pub steps-with-data-spec : {M : Type 1} → statement M
+steps-with-data-spec =
+    tie.close
+    (tie.spec
+    takes-key-requires
+    read-requires
+    takes-data-requires
+    same-length
+    same-length-2
+    returns)
