@@ -26,13 +26,11 @@ use Rattle.line.specs.Bounded.{Bounded}
 use Rattle.line.specs.Promise.{Does}
 use Rattle.line.specs.Rows.{areRoomy}
 use Rattle.line.specs.Answers.{Answers, ruled, refusal}
+use Rattle.line.specs.Acts.{answerOf}
 
--- a call at its beginning, and what it answers when it is done
+-- a call at its beginning
 abbrev pub begun : Line → Work
 begun l = record { line = l; at = 0; sent = 0 }
-
-abbrev pub done : Work → Answer
-done w = record { line = w .line; number = 0; terminal = w .at; messages = w .sent }
 
 -- areas, as the puts of a call's bytes leave them
 at-front : (bs t t′ : List ℕ) (n : ℕ) → length bs ≤ length t → spot t′ n ≡ puts bs (spot t 0) → spot t′ n ≡ spot (areaAfter bs t) (length bs)
@@ -65,7 +63,7 @@ module _ (e : Event ℕ) (l : Line) (t m : List ℕ) (b : Bounded l) where
       unfolding does
       sent-front = let h = within .messages in let k = areas .1 in at-front (messageBytes codes (p (view l))) m m′ (w .sent) (omega arith) (d .sends)
 
-      pub answered : Answers e l t m (done w) t′ m′
+      pub answered : Answers e l t m (answerOf w) t′ m′
       unfolding does
       answered =
           let r = sym roomy in

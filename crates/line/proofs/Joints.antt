@@ -70,6 +70,14 @@ none-does w t m c =
 pub blank-does : (w : Work) (t m : List ℕ) {bs : List ℕ} → bs ≡ [] → Counted (w .line) → Does (writes bs) w t m w t m
 blank-does w t m e c = rw e (none-does w t m c)
 
+-- A choice at a state, taken.
+module _ (rule f g : Part ℕ) (v : rules.State ℕ) {test : Bool} where
+  pub first-at : rule v ≡ pick test f g v → test ≡ true → rule v ≡ f v
+  first-at e b = e ∙ ap (λ p. p v) (pick-true f g b)
+
+  pub second-at : rule v ≡ pick test g f v → test ≡ false → rule v ≡ f v
+  second-at e b = e ∙ ap (λ p. p v) (pick-false g f b)
+
 -- A rule that looks at its state, and chooses there.
 module _ {rule f : Part ℕ} {w r : Work} {t t′ m m′ : List ℕ} where
   pub here-part : rule (view (w .line)) ≡ f (view (w .line)) → Does f w t m r t′ m′ → Does rule w t m r t′ m′
@@ -85,10 +93,10 @@ module _ {rule f : Part ℕ} {w r : Work} {t t′ m m′ : List ℕ} where
 
   module _ {test : Bool} (g : Part ℕ) where
     pub here-first : rule (view (w .line)) ≡ pick test f g (view (w .line)) → test ≡ true → Does f w t m r t′ m′ → Does rule w t m r t′ m′
-    here-first e b h = here-part (e ∙ ap (λ p. p (view (w .line))) (pick-true f g b)) h
+    here-first e b h = here-part (first-at rule f g (view (w .line)) e b) h
 
     pub here-second : rule (view (w .line)) ≡ pick test g f (view (w .line)) → test ≡ false → Does f w t m r t′ m′ → Does rule w t m r t′ m′
-    here-second e b h = here-part (e ∙ ap (λ p. p (view (w .line))) (pick-false g f b)) h
+    here-second e b h = here-part (second-at rule f g (view (w .line)) e b) h
 
 module _ {rule : Part ℕ} {w : Work} {test : Bool} (f : Part ℕ) where
   pub here-only : {r : Work} {t t′ m m′ : List ℕ} → rule (view (w .line)) ≡ only test f (view (w .line)) → test ≡ true →

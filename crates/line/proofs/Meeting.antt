@@ -7,7 +7,6 @@ use Rattle.rules.specs.Choice.{pick}
 use Rattle.rules.specs.Turns.{Fate, Part, tells, changes, behind, _then_}
 use Rattle.rules.specs.Area.{puts, spot}
 use Rattle.rules.specs.Calls.{messageBytes}
-use Rattle.rules.proofs.Tests.{pick-true, pick-false}
 use Rattle.line.specs.declared.Line.{Line}
 use Rattle.line.specs.declared.Work.{Work}
 use Rattle.line.specs.declared.acts.Act.{Act}
@@ -19,6 +18,7 @@ use Rattle.line.specs.Answers.{Answers}
 use Rattle.line.specs.Bounded.{Counted}
 use Rattle.line.specs.Promise.{Does}
 use Rattle.line.specs.Acts.{keyTaken, takesKey, actPart, Ready, effectOf, Meets, answerOf}
+use Rattle.line.proofs.Joints.{first-at, second-at}
 use Rattle.line.proofs.Evented.{event-answers, event-bytes}
 use Rattle.line.proofs.Answering.{begun, answered}
 
@@ -33,10 +33,10 @@ module _ {s : List ℕ} {l : Line} {a : Act} where
 
     module _ {test : Bool} (g : Part ℕ) where
       pub meets-first : rule (view l) ≡ pick test f g (view l) → test ≡ true → Meets f s l a → Meets rule s l a
-      meets-first e b h = meets-as (e ∙ ap (λ p. p (view l)) (pick-true f g b)) h
+      meets-first e b h = meets-as (first-at rule f g (view l) e b) h
 
       pub meets-second : rule (view l) ≡ pick test g f (view l) → test ≡ false → Meets f s l a → Meets rule s l a
-      meets-second e b h = meets-as (e ∙ ap (λ p. p (view l)) (pick-false g f b)) h
+      meets-second e b h = meets-as (second-at rule f g (view l) e b) h
 
   -- the same, behind a key that was taken
   module _ (rule f : Part ℕ) where
@@ -47,11 +47,11 @@ module _ {s : List ℕ} {l : Line} {a : Act} where
     module _ {test : Bool} (g : Part ℕ) where
       pub behind-first : rule (keyTaken l (view l)) ≡ pick test f g (keyTaken l (view l)) → test ≡ true →
           Meets (takesKey l then f) s l a → Meets (takesKey l then rule) s l a
-      behind-first e b h = meets-behind (e ∙ ap (λ p. p (keyTaken l (view l))) (pick-true f g b)) h
+      behind-first e b h = meets-behind (first-at rule f g (keyTaken l (view l)) e b) h
 
       pub behind-second : rule (keyTaken l (view l)) ≡ pick test g f (keyTaken l (view l)) → test ≡ false →
           Meets (takesKey l then f) s l a → Meets (takesKey l then rule) s l a
-      behind-second e b h = meets-behind (e ∙ ap (λ p. p (keyTaken l (view l))) (pick-false g f b)) h
+      behind-second e b h = meets-behind (second-at rule f g (keyTaken l (view l)) e b) h
 
   -- what became of keys is not seen
   pub meets-told : {f : Part ℕ} (fs : List (Fate ℕ)) → Meets f s l a → Meets (tells fs then f) s l a

@@ -1,4 +1,4 @@
-// What a line does when an event comes: one act. Which it is is chosen before anything is changed, so that the line is built anew once.
+// What a line does when an event comes: one act, chosen before anything is changed, so that the line is built anew once.
 use message::Message;
 
 pub(crate) enum Act {

@@ -21,7 +21,7 @@ pub(crate) enum Event {
 }
 
 impl Work {
-    // The act that it meets.
+    // The act that an event meets.
     fn act_of(self, e: Event) -> Act
         requires { ⌜ Bounded (self .line) ⌝ }
         ensures { λ a. ⌜ ((s : List ℕ) → Admitted (self .line) s e → Meets (eventPart s e) s (self .line) a) ⌝ }

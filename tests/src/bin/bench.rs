@@ -1,6 +1,6 @@
 //! Times the proved program and the second implementation, as processes, on the
 //! same scripts. What is told is processor time, so that other work on the
-//! machine counts as little as can be, and the median of several runs.
+//! machine counts as little as can be, and the mean of the runs in the middle.
 //!
 //! To tell the calls from starting up and from reading the script, a run of the
 //! same script with the last byte of each line spoiled is subtracted: as many
@@ -15,7 +15,9 @@ use std::io;
 use std::path::Path;
 use std::process::{Command, Stdio};
 
-const RUNS: usize = 15;
+const RUNS: usize = 45;
+/// The shorter scripts are run once in so many turns.
+const SELDOM: usize = 3;
 const CALLS: usize = 1_000_000;
 const CYCLES: usize = 50_000;
 
@@ -47,14 +49,17 @@ struct Times {
 
 impl Times {
     fn of_calls(&self) -> f64 {
-        median(&self.whole) - median(&self.spoiled)
+        middle(&self.whole) - middle(&self.spoiled)
     }
 }
 
-fn median(seconds: &[f64]) -> f64 {
+/// The mean of all but the fastest and the slowest ninth.
+fn middle(seconds: &[f64]) -> f64 {
     let mut sorted = seconds.to_vec();
     sorted.sort_by(f64::total_cmp);
-    sorted[sorted.len() / 2]
+    let out = sorted.len() / 9;
+    let kept = &sorted[out..sorted.len() - out];
+    kept.iter().sum::<f64>() / kept.len() as f64
 }
 
 /// The proved program's times, and the second implementation's.
@@ -70,8 +75,11 @@ fn measured(scripts: &[String], folder: &Path) -> io::Result<Vec<Both>> {
         std::fs::write(name(place, "spoiled"), spoil(script.as_bytes()))?;
     }
     let mut all = vec![Both::default(); scripts.len()];
-    for _ in 0..RUNS {
+    for run in 0..RUNS {
         for (place, both) in all.iter_mut().enumerate() {
+            if place > 0 && run % SELDOM != 0 {
+                continue;
+            }
             for (times, program) in both.iter_mut().zip(&programs) {
                 times.whole.push(seconds(program, &name(place, "whole"))?);
                 times.spoiled.push(seconds(program, &name(place, "spoiled"))?);
@@ -85,7 +93,7 @@ fn print_calls(calls: u64, both: &Both) {
     println!("{calls} calls");
     println!("          script s  spoiled s   calls s  calls a second");
     for (name, times) in ["replay", "second"].iter().zip(both) {
-        let (whole, spoiled) = (median(&times.whole), median(&times.spoiled));
+        let (whole, spoiled) = (middle(&times.whole), middle(&times.spoiled));
         let (rest, rate) = (times.of_calls(), calls as f64 / times.of_calls());
         println!("{name:8} {whole:9.3} {spoiled:10.3} {rest:9.3} {rate:15.0}");
     }
