@@ -25,8 +25,7 @@ use Rattle.line.specs.View.{view}
 use Rattle.line.specs.Bounded.{Bounded}
 use Rattle.line.specs.Promise.{Does}
 use Rattle.line.specs.Rows.{areRoomy}
-use Rattle.line.specs.Answers.{Answers, ruled, refusal}
-use Rattle.line.specs.Acts.{answerOf}
+use Rattle.line.specs.Answers.{Answers, ruled, refusal, doneAnswer}
 
 -- a call at its beginning
 abbrev pub begun : Line → Work
@@ -63,7 +62,7 @@ module _ (e : Event ℕ) (l : Line) (t m : List ℕ) (b : Bounded l) where
       unfolding does
       sent-front = let h = within .messages in let k = areas .1 in at-front (messageBytes codes (p (view l))) m m′ (w .sent) (omega arith) (d .sends)
 
-      pub answered : Answers e l t m (answerOf w) t′ m′
+      pub answered : Answers e l t m (doneAnswer w) t′ m′
       unfolding does
       answered =
           let r = sym roomy in

@@ -14,10 +14,10 @@ use Rattle.line.specs.declared.events.Event.{Event}
 use Rattle.line.specs.declared.Answer.{Answer}
 use Rattle.line.specs.View.{view}
 use Rattle.line.specs.Events.{Admitted, Comes, eventPart, eventOf}
-use Rattle.line.specs.Answers.{Answers}
+use Rattle.line.specs.Answers.{Answers, doneAnswer}
 use Rattle.line.specs.Bounded.{Counted}
 use Rattle.line.specs.Promise.{Does}
-use Rattle.line.specs.Acts.{keyTaken, takesKey, actPart, Ready, effectOf, Meets, answerOf}
+use Rattle.line.specs.Acts.{keyTaken, takesKey, actPart, Ready, effectOf, Meets}
 use Rattle.line.proofs.Joints.{first-at, second-at}
 use Rattle.line.proofs.Evented.{event-answers, event-bytes}
 use Rattle.line.proofs.Answering.{begun, answered}
@@ -86,7 +86,7 @@ module _ {l : Line} {s t m : List ℕ} {e : Event} (c : Comes l s e t m) {a : Ac
   pub act-asks : {f : Act} → a ≡ f → Counted l × Ready s l f
   act-asks k = (c .bounded .counted, act-ready k)
 
-  pub act-answers : {f : Act} → a ≡ f → {w : Work} {t′ m′ : List ℕ} → Does (actPart s l f) (begun l) t m w t′ m′ → {r : Answer} → r ≡ answerOf w →
+  pub act-answers : {f : Act} → a ≡ f → {w : Work} {t′ m′ : List ℕ} → Does (actPart s l f) (begun l) t m w t′ m′ → {r : Answer} → r ≡ doneAnswer w →
       Answers (eventOf s e) l t m r t′ m′
   act-answers k {w} {t′} {m′} d eq =
       let does = act-does (h s (c .admitted)) (subst (λ x. Does (actPart s l x) (begun l) t m w t′ m′) (sym k) d) in

@@ -6,23 +6,22 @@ use mathlib.Core.Bool.{true}
 use mathlib.Core.List.{List}
 use mathlib.Core.Option.{some}
 use lib.Dec.{eqb}
-use lib.ListN.{drop}
 use Rattle.rules.specs.Choice.{isEmpty}
 use Rattle.rules.specs.Numbers.{tokenSize}
 use Rattle.rules.specs.State as rules
-use Rattle.rules.specs.State.{withTyped, withRead, withIdle}
-use Rattle.rules.specs.Turns.{Part, changes, _then_}
+use Rattle.rules.specs.State.{withTyped, withRead}
+use Rattle.rules.specs.Turns.{Part, _then_}
 use Rattle.line.specs.declared.Line.{Line}
 use Rattle.line.specs.declared.Work.{Work}
 use Rattle.line.specs.declared.Reading.{Reading}
 use Rattle.line.specs.declared.Typed.{Typed}
-use Rattle.line.specs.View.{view, keysOf, inputOf, readingOf}
+use Rattle.line.specs.View.{view, inputOf, readingOf}
 use Rattle.line.specs.Bounded.{Counted, CountedReading, Bounded}
 use Rattle.line.specs.With.{onLine, onRead, onTyped}
 use Rattle.line.specs.ReadingParts.{Becomes, HasRoom, idling}
 use Rattle.line.specs.TokenParts.{FirstTaken}
 use Rattle.line.specs.Promise.{Does}
-use Rattle.line.specs.Acts.{resting, takesKey, TakesKey}
+use Rattle.line.specs.Acts.{idleAtZero, keyTaken, takesKey, HasTakenKey}
 use Rattle.line.proofs.Appends.{end-is}
 use Rattle.line.proofs.Held.{empty-take}
 use Rattle.line.proofs.Works.{changes-does, then-does}
@@ -53,14 +52,12 @@ unfolding inputOf
 input-empty r c = empty-take (r .count) (r .input) (omega arith)
 
 -- the first key goes, and the read is no longer idle
-module _ {w v u : Work} (rest : Typed) (next : Reading) (r : Reading) (f : FirstTaken (w .line .typed) rest) (c : Counted (w .line))
-    (b : Becomes (withIdle 0 (readingOf r)) next)
-    (h : v ≡ onLine (onTyped rest (w .line)) w) (k : u ≡ onLine (onRead next (v .line)) v) where
-  pub taken-does : (t m : List ℕ) →
-      Does (changes (λ s. withRead (some (withIdle 0 (readingOf r))) (withTyped (drop 1 (keysOf (w .line .typed))) (s .typed .token) s))) w t m u t m
+module _ {w v u : Work} (rest : Typed) (next : Reading) (f : FirstTaken (w .line .typed) rest) (c : Counted (w .line))
+    (b : Becomes (idleAtZero (w .line)) next) (h : v ≡ onLine (onTyped rest (w .line)) w) (k : u ≡ onLine (onRead next (v .line)) v) where
+  pub taken-does : (t m : List ℕ) → Does (takesKey (w .line)) w t m u t m
   taken-does t m =
       rw (k ∙ ap (λ x. onLine (onRead next (x .line)) x) h)
-      (changes-does t m (λ s. withRead (some (withIdle 0 (readingOf r))) (withTyped (drop 1 (keysOf (w .line .typed))) (s .typed .token) s))
+      (changes-does t m (keyTaken (w .line))
       (λ i. withRead (some (b .view i)) (withTyped (f .keys i) (f .token i) (view (w .line)))) refl refl
       (record { table = c .table; set = c .set; typed = f .counted; reading = b .counted }))
 
@@ -70,10 +67,10 @@ module _ {w v u : Work} (rest : Typed) (next : Reading) (r : Reading) (f : First
       omega (arith, same, f .begun)
 
 -- and what a rule then does with its read
-module _ {w v : Work} {r : Reading} (k : TakesKey w v) (e : r ≡ v .line .reading) where
+module _ {w v : Work} {r : Reading} (k : HasTakenKey w v) (e : r ≡ v .line .reading) where
   pub key-room : HasRoom r
   key-room = subst HasRoom (sym e) (k .room)
 
   pub key-then : {u : Work} {t t′ m m′ : List ℕ} (F : rules.Reading ℕ → Part ℕ) → Does (F (readingOf r)) v t m u t′ m′ →
-      Does (takesKey (w .line) then F (resting (w .line))) w t m u t′ m′
+      Does (takesKey (w .line) then F (idleAtZero (w .line))) w t m u t′ m′
   key-then {u} {t} {t′} {m} {m′} F d = then-does (k .does t m) (for-equal F (ap readingOf e ∙ k .becomes .view) d)

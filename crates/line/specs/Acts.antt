@@ -16,7 +16,6 @@ use Rattle.rules.specs.Calls.{messageBytes}
 use Rattle.message.specs.Found.{heldIn}
 use Rattle.line.specs.declared.Line.{Line}
 use Rattle.line.specs.declared.Work.{Work}
-use Rattle.line.specs.declared.Answer.{Answer}
 use Rattle.line.specs.declared.acts.Act.{Act}
 use Rattle.line.specs.declared.acts.Act.the-variants.{Nothing, Stores, StoresQuoted, SendsOutOfBand, ClearsAtOnce, Quotes, Clears, FlipsDiscard}
 use Rattle.line.specs.declared.acts.Act.the-variants.{TakesToken, AddsToToken, Terminates, Edits, TakesData, TimesOut, Idles, Obeys}
@@ -25,18 +24,19 @@ use Rattle.line.specs.ReadingParts.{Becomes, HasRoom}
 use Rattle.line.specs.Obeyed.{Accepted, obeysHeld}
 use Rattle.line.specs.Promise.{Does}
 
--- the read of a line, no longer idle
-abbrev pub resting : Line → rules.Reading ℕ
-resting l = withIdle 0 (readingOf (l .reading))
+-- the read of a line, with idle at 0
+abbrev pub idleAtZero : Line → rules.Reading ℕ
+idleAtZero l = withIdle 0 (readingOf (l .reading))
 
--- the first key goes from type-ahead
+-- the first key is gone from type-ahead, and idle is 0: the text of `takesFirst`, so that the two are one
 abbrev pub keyTaken : Line → State ℕ → State ℕ
-keyTaken l s = withRead (some (resting l)) (withTyped (drop 1 (keysOf (l .typed))) (s .typed .token) s)
+keyTaken l s = withRead (some (idleAtZero l)) (withTyped (drop 1 (keysOf (l .typed))) (s .typed .token) s)
 
 abbrev pub takesKey : Line → Part ℕ
 takesKey l = changes (keyTaken l)
 
--- 22, 24 and 15 are the codes of rule 3
+-- The part of the rules that an act is; `s` is the slice of a host message. `quotes` and `flipsDiscard` want their key, rule 3's 22 and 15, only
+-- to say what became of it.
 abbrev pub actPart : List ℕ → Line → Act → Part ℕ
 actPart s l Nothing = still
 actPart s l (Stores c) = stores typeAheadSize false c
@@ -47,16 +47,16 @@ actPart s l Quotes = quotes 22
 actPart s l Clears = clears codes
 actPart s l FlipsDiscard = flipsDiscard 15
 actPart s l TakesToken = takesToken codes (readingOf (l .reading))
-actPart s l (AddsToToken c) = takesKey l then addsToToken codes c (resting l)
-actPart s l (Terminates c) = takesKey l then terminates codes c (resting l)
-actPart s l (Edits c) = takesKey l then edits codes c (resting l)
-actPart s l (TakesData c) = takesKey l then takesData codes c (resting l)
+actPart s l (AddsToToken c) = takesKey l then addsToToken codes c (idleAtZero l)
+actPart s l (Terminates c) = takesKey l then terminates codes c (idleAtZero l)
+actPart s l (Edits c) = takesKey l then edits codes c (idleAtZero l)
+actPart s l (TakesData c) = takesKey l then takesData codes c (idleAtZero l)
 actPart s l TimesOut = completes codes byTimeout 0 (readingOf (l .reading))
 actPart s l (Idles idle) = changes (withRead (some (withIdle idle (readingOf (l .reading)))))
 actPart s l (Obeys m) = obeysHeld (heldIn s m)
 
 -- a key can be taken: one waits, a read has room for it, and so has a token that is begun
-pub record Taking (l : Line) : Type 0 where
+pub record CanTakeKey (l : Line) : Type 0 where
   pub room : HasRoom (l .reading)
   pub waits : 0 < l .typed .waiting
   pub short : l .typed .«token_len» < tokenSize
@@ -72,10 +72,10 @@ Ready s l Quotes = Unit {0}
 Ready s l Clears = Unit {0}
 Ready s l FlipsDiscard = Unit {0}
 Ready s l TakesToken = HasRoom (l .reading)
-Ready s l (AddsToToken c) = Taking l
-Ready s l (Terminates c) = Taking l
-Ready s l (Edits c) = Taking l
-Ready s l (TakesData c) = Taking l
+Ready s l (AddsToToken c) = CanTakeKey l
+Ready s l (Terminates c) = CanTakeKey l
+Ready s l (Edits c) = CanTakeKey l
+Ready s l (TakesData c) = CanTakeKey l
 Ready s l TimesOut = Unit {0}
 Ready s l (Idles idle) = Unit {0}
 Ready s l (Obeys m) = Accepted l s m
@@ -94,12 +94,9 @@ pub record Meets (rule : Part ℕ) (s : List ℕ) (l : Line) (a : Act) : Type 0 
   pub same : effectOf (rule (view l)) ≡ effectOf (actPart s l a (view l))
   pub ready : Ready s l a
 
-pub record TakesKey (w v : Work) : Type 0 where
+-- what is known of a call that has taken one
+pub record HasTakenKey (w v : Work) : Type 0 where
   pub does : (t m : List ℕ) → Does (takesKey (w .line)) w t m v t m
-  pub becomes : Becomes (resting (w .line)) (v .line .reading)
+  pub becomes : Becomes (idleAtZero (w .line)) (v .line .reading)
   pub room : HasRoom (v .line .reading)
   pub short : v .line .typed .«token_len» < tokenSize
-
--- what a call that is done answers
-abbrev pub answerOf : Work → Answer
-answerOf w = record { line = w .line; number = 0; terminal = w .at; messages = w .sent }

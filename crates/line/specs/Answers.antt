@@ -8,6 +8,7 @@ use Rattle.rules.specs.Calls as rules
 use Rattle.rules.specs.Calls.{Event, messageBytes, areaAfter}
 use Rattle.line.specs.declared.Line.{Line}
 use Rattle.line.specs.declared.Answer.{Answer}
+use Rattle.line.specs.declared.Work.{Work}
 use Rattle.line.specs.View.{view}
 use Rattle.line.specs.Bounded.{Bounded}
 
@@ -29,3 +30,7 @@ pub record Answers (e : Event ℕ) (l : Line) (terminal messages : List ℕ) (r 
 
 abbrev pub refusal : ℕ → Line → Answer
 refusal n l = record { line = l; number = n; terminal = 0; messages = 0 }
+
+-- what a call that is done answers
+abbrev pub doneAnswer : Work → Answer
+doneAnswer w = record { line = w .line; number = 0; terminal = w .at; messages = w .sent }

@@ -24,7 +24,7 @@ Admitted l s Tick = Unit {0}
 Admitted l s Step = Unit {0}
 Admitted l s (Host m) = Accepted l s m
 
--- an event comes to a line in bounds, with areas that are large enough
+-- an event comes to a line within its bounds, with areas that are large enough
 pub record Comes (l : Line) (s : List ℕ) (e : Event) (terminal messages : List ℕ) : Type 0 where
   pub bounded : Bounded l
   pub admitted : Admitted l s e

@@ -224,8 +224,8 @@ impl Line {
         Act::Stores(c)
     }
 
-    // The first rule that applies is the only one.
-    fn act_of_rules(self, c: u8) -> Act
+    // Rules 1 to 4: the first that applies is the only one.
+    fn act_after_initiate(self, c: u8) -> Act
         requires { ⌜ Counted self ⌝ }
         ensures { λ a. ⌜ ((s : List ℕ) → Meets (rules.ruled codes c) s self a) ⌝ }
     {
@@ -255,7 +255,7 @@ impl Line {
     {
         let host = self.host;
         if host.begun {
-            return self.act_of_rules(c);
+            return self.act_after_initiate(c);
         }
         Act::Stores(c)
     }

@@ -1,5 +1,5 @@
-// What a step and a tick do, and the key that a step takes.
-ghost use Prim.Native.Nat.{ℕ, _<_};
+// Which act a step or a tick meets, and the acts that take a key.
+ghost use Prim.Native.Nat.{ℕ};
 ghost use mathlib.Core.Path.{_≡_};
 ghost use mathlib.Core.List.{List, []};
 ghost use mathlib.Core.Option.{some};
@@ -9,7 +9,7 @@ ghost use Rattle.rules.specs.Steps as rules;
 ghost use Rattle.line.specs.View.{keyOf, readingOf};
 ghost use Rattle.line.specs.Bounded.{Counted, Bounded};
 ghost use Rattle.line.specs.Promise.{Does};
-ghost use Rattle.line.specs.Acts.{Taking, resting, takesKey, TakesKey, Meets};
+ghost use Rattle.line.specs.Acts.{CanTakeKey, idleAtZero, takesKey, HasTakenKey, Meets};
 use crate::Key;
 use crate::Line;
 use crate::Reading;
@@ -19,8 +19,8 @@ use crate::acts::Act;
 impl Line {
     // Rules 5, 6 and 7, after raising.
     fn act_of_plain(self, c: u8) -> Act
-        requires { ⌜ Taking self ⌝ }
-        ensures { λ a. ⌜ ((s : List ℕ) → Meets (takesKey self then rules.takesPlain codes c (resting self)) s self a) ⌝ }
+        requires { ⌜ CanTakeKey self ⌝ }
+        ensures { λ a. ⌜ ((s : List ℕ) → Meets (takesKey self then rules.takesPlain codes c (idleAtZero self)) s self a) ⌝ }
     {
         let r = self.reading;
         if r.ends_by(c) {
@@ -35,8 +35,8 @@ impl Line {
     // The rules in order.
     fn act_of_taking(self, k: Key) -> Act
         requires { ⌜ Counted self ⌝ }
-        requires { ⌜ Taking self ⌝ }
-        ensures { λ a. ⌜ ((s : List ℕ) → Meets (takesKey self then rules.takes codes (keyOf k) (resting self)) s self a) ⌝ }
+        requires { ⌜ CanTakeKey self ⌝ }
+        ensures { λ a. ⌜ ((s : List ℕ) → Meets (takesKey self then rules.takes codes (keyOf k) (idleAtZero self)) s self a) ⌝ }
     {
         let typed = self.typed;
         if typed.is_partial() {
@@ -54,7 +54,7 @@ impl Line {
     }
 
     // No key waits: a read with Q and TIMEOUT 0 completes.
-    fn act_of_waiting(self) -> Act
+    fn act_without_key(self) -> Act
         ensures { λ a. ⌜ ((s : List ℕ) → Meets (rules.takesFirst codes [] (readingOf (self .reading))) s self a) ⌝ }
     {
         let r = self.reading;
@@ -80,7 +80,7 @@ impl Line {
         }
         let waiting = typed.waiting;
         if waiting == 0 {
-            return self.act_of_waiting();
+            return self.act_without_key();
         }
         let key = typed.first();
         self.act_of_taking(key)
@@ -99,6 +99,7 @@ impl Line {
         Act::Idles(idle as u16)
     }
 
+    // Idle counts while a read with Q and TIMEOUT over 0 waits for a key.
     pub(crate) fn act_of_tick(self) -> Act
         requires { ⌜ Bounded self ⌝ }
         ensures { λ a. ⌜ ((s : List ℕ) → Meets (rules.ticks codes) s self a) ⌝ }
@@ -119,7 +120,7 @@ impl Line {
 }
 
 impl Work {
-    // The read that is pending, if one is.
+    // The line's read; it means nothing while none is pending.
     pub(crate) fn read(self) -> Reading
         ensures { λ r. ⌜ r ≡ self .line .reading ⌝ }
     {
@@ -130,8 +131,8 @@ impl Work {
     // The first key goes from type-ahead, and the read is no longer idle.
     fn takes_key(self) -> Work
         requires { ⌜ Counted (self .line) ⌝ }
-        requires { ⌜ Taking (self .line) ⌝ }
-        ensures { λ w. ⌜ TakesKey self w ⌝ }
+        requires { ⌜ CanTakeKey (self .line) ⌝ }
+        ensures { λ w. ⌜ HasTakenKey self w ⌝ }
     {
         let line = self.line;
         let typed = line.typed;
@@ -141,18 +142,18 @@ impl Work {
         self.with_typed(rest).with_read(next)
     }
 
-    // Rules 1 and 3.
+    // The key is taken, then rules 1 and 3.
     pub(crate) fn steps_with_token(self, messages: &mut [u8], c: u8) -> Work
         requires { ⌜ Counted (self .line) ⌝ }
-        requires { ⌜ Taking (self .line) ⌝ }
-        ensures { λ w. ⌜ ((t : List ℕ) → Does (takesKey (self .line) then rules.addsToToken codes c (resting (self .line))) self t (now (messages .entry)) w t (now (messages .exit))) ⌝ }
+        requires { ⌜ CanTakeKey (self .line) ⌝ }
+        ensures { λ w. ⌜ ((t : List ℕ) → Does (takesKey (self .line) then rules.addsToToken codes c (idleAtZero (self .line))) self t (now (messages .entry)) w t (now (messages .exit))) ⌝ }
     {
         let taken = self.takes_key();
         let r = taken.read();
         taken.adds_to_token(messages, c, r)
     }
 
-    // Rule 5.
+    // The key is taken, then rule 5.
     pub(crate) fn steps_with_terminator(
         self,
         terminal: &mut [u8],
@@ -160,37 +161,38 @@ impl Work {
         c: u8,
     ) -> Work
         requires { ⌜ Counted (self .line) ⌝ }
-        requires { ⌜ Taking (self .line) ⌝ }
-        ensures { λ w. ⌜ Does (takesKey (self .line) then rules.terminates codes c (resting (self .line))) self (now (terminal .entry)) (now (messages .entry)) w (now (terminal .exit)) (now (messages .exit)) ⌝ }
+        requires { ⌜ CanTakeKey (self .line) ⌝ }
+        ensures { λ w. ⌜ Does (takesKey (self .line) then rules.terminates codes c (idleAtZero (self .line))) self (now (terminal .entry)) (now (messages .entry)) w (now (terminal .exit)) (now (messages .exit)) ⌝ }
     {
         let taken = self.takes_key();
         let r = taken.read();
         taken.terminates(terminal, messages, c, r)
     }
 
-    // Rule 6.
+    // The key is taken, then rule 6.
     pub(crate) fn steps_with_edit(self, terminal: &mut [u8], messages: &mut [u8], c: u8) -> Work
         requires { ⌜ Counted (self .line) ⌝ }
-        requires { ⌜ Taking (self .line) ⌝ }
-        ensures { λ w. ⌜ Does (takesKey (self .line) then rules.edits codes c (resting (self .line))) self (now (terminal .entry)) (now (messages .entry)) w (now (terminal .exit)) (now (messages .exit)) ⌝ }
+        requires { ⌜ CanTakeKey (self .line) ⌝ }
+        ensures { λ w. ⌜ Does (takesKey (self .line) then rules.edits codes c (idleAtZero (self .line))) self (now (terminal .entry)) (now (messages .entry)) w (now (terminal .exit)) (now (messages .exit)) ⌝ }
     {
         let taken = self.takes_key();
         let r = taken.read();
         taken.edits(terminal, messages, c, r)
     }
 
-    // Rules 2 and 7.
+    // The key is taken, then rule 2 or 7.
     pub(crate) fn steps_with_data(self, terminal: &mut [u8], messages: &mut [u8], c: u8) -> Work
         requires { ⌜ Counted (self .line) ⌝ }
-        requires { ⌜ Taking (self .line) ⌝ }
-        ensures { λ w. ⌜ Does (takesKey (self .line) then rules.takesData codes c (resting (self .line))) self (now (terminal .entry)) (now (messages .entry)) w (now (terminal .exit)) (now (messages .exit)) ⌝ }
+        requires { ⌜ CanTakeKey (self .line) ⌝ }
+        ensures { λ w. ⌜ Does (takesKey (self .line) then rules.takesData codes c (idleAtZero (self .line))) self (now (terminal .entry)) (now (messages .entry)) w (now (terminal .exit)) (now (messages .exit)) ⌝ }
     {
         let taken = self.takes_key();
         let r = taken.read();
         taken.takes_data(terminal, messages, c, r)
     }
 
-    pub(crate) fn idles(self, idle: u16) -> Work
+    // A tick that does not reach TIMEOUT.
+    pub(crate) fn sets_idle(self, idle: u16) -> Work
         requires { ⌜ Counted (self .line) ⌝ }
         ensures { λ w. ⌜ ((t m : List ℕ) → Does (changes (withRead (some (withIdle idle (readingOf (self .line .reading)))))) self t m w t m) ⌝ }
     {

@@ -16,7 +16,8 @@ use std::path::Path;
 use std::process::{Command, Stdio};
 
 const RUNS: usize = 45;
-/// The shorter scripts are run once in so many turns.
+/// The keystroke scripts, all but the first, run in one turn of so many: nine of
+/// them would take most of the time.
 const SELDOM: usize = 3;
 const CALLS: usize = 1_000_000;
 const CYCLES: usize = 50_000;

@@ -5,16 +5,16 @@ use Rattle.line.proofs.Meeting.{met, meets-as, meets-first, meets-secon
 use Rattle.line.proofs.Line.act_of_key.Statement.{statement}
 use Rattle.line.proofs.Line.act_of_key.Tie as tie
 
-act-of-rules-requires : tie.Need-act-of-rules-requires
-act-of-rules-requires c κs = search needs
+act-after-initiate-requires : tie.Need-act-after-initiate-requires
+act-after-initiate-requires c κs = search needs
 
 returns : tie.Need-returns
 unfolding arrives
-returns c = λ s. meets-as refl (meets-told _ (meets-first _ refl (c .before .if1 .taken) (c .act-of-rules .ensures s)))
+returns c = λ s. meets-as refl (meets-told _ (meets-first _ refl (c .before .if1 .taken) (c .act-after-initiate .ensures s)))
 
 returns-2 : tie.Need-returns-2
 unfolding arrives
 returns-2 c = λ s. meets-as refl (meets-told _ (meets-second _ refl (c .if1 .left) (met tt)))
 
 pub act-of-key-spec : {M : Type 1} → statement M
-act-of-key-spec = tie.close (tie.spec act-of-rules-requires returns returns-2)
+act-of-key-spec = tie.close (tie.spec act-after-initiate-requires returns returns-2)

@@ -32,8 +32,8 @@ returns-2 c =
     λ s. meets-as {f = stepsWhile codes (some (readingOf (l .reading)))} (ap (λ p. stepsWhile codes (pendingOf p (l .reading)) (view l)) some-read)
     (meets-first _ refl (sym (c .before .is-held .ensures) ∙ c .if2 .taken) (met (pending-room l (start .pre) some-read)))
 
-act-of-waiting-requires : tie.Need-act-of-waiting-requires
-act-of-waiting-requires c κs = search needs
+act-without-key-requires : tie.Need-act-without-key-requires
+act-without-key-requires c κs = search needs
 
 returns-3 : tie.Need-returns-3
 unfolding steps stepsWhile
@@ -45,7 +45,7 @@ returns-3 c =
     let none = isEmpty-nil _ (keys-empty (l .typed) (start .pre .counted .typed) ∙ eq-eqb _ 0 (c .before .if3 .taken)) in
     λ s. meets-as {f = stepsWhile codes (some (readingOf (l .reading)))} (ap (λ p. stepsWhile codes (pendingOf p (l .reading)) (view l)) (not-false (l .pending) (pending .if1 .left)))
     (meets-second _ refl (sym (held .is-held .ensures) ∙ c .before .before .if2 .left)
-    (meets-as (ap (λ ks. takesFirst codes ks (readingOf (l .reading)) (view l)) none) (c .act-of-waiting .ensures s)))
+    (meets-as (ap (λ ks. takesFirst codes ks (readingOf (l .reading)) (view l)) none) (c .act-without-key .ensures s)))
 
 first-requires : tie.Need-first-requires
 first-requires c κs = search needs
@@ -77,7 +77,7 @@ act-of-step-spec =
     returns
     is-held-requires
     returns-2
-    act-of-waiting-requires
+    act-without-key-requires
     returns-3
     first-requires
     act-of-taking-requires

@@ -3,7 +3,7 @@ use mathlib.Core.Path.{refl, sym, ap, _∙_}
 use Rattle.rules.specs.State.{codes}
 use Rattle.rules.specs.Steps.{beginsToken, takesPlain, raisedBy, takes}
 use Rattle.line.specs.View.{view}
-use Rattle.line.specs.Acts.{resting, keyTaken}
+use Rattle.line.specs.Acts.{idleAtZero, keyTaken}
 use Rattle.line.proofs.Meeting.{met, meets-behind, behind-first, behind-second}
 use Rattle.line.proofs.Line.act_of_taking.Statement.{statement}
 use Rattle.line.proofs.Line.act_of_taking.Tie as tie
@@ -50,7 +50,7 @@ returns-4 c =
     λ s. behind-second _ _ _ refl (sym (partial .is-partial .ensures) ∙ plain .before .if1 .left)
     (behind-second _ _ _ refl (plain .if2 .left)
     (behind-second _ _ _ refl (sym (begins .begins-token .ensures) ∙ c .before .before .if3 .left)
-    (meets-behind _ _ (ap (λ n. takesPlain codes n (resting l) (keyTaken l (view l))) (sym (c .before .raised-by .ensures))) (c .act-of-plain .ensures s))))
+    (meets-behind _ _ (ap (λ n. takesPlain codes n (idleAtZero l) (keyTaken l (view l))) (sym (c .before .raised-by .ensures))) (c .act-of-plain .ensures s))))
 
 pub act-of-taking-spec : {M : Type 1} → statement M
 act-of-taking-spec =

@@ -19,8 +19,8 @@ act-of-requires c κs = search needs
 enum-told : tie.Need-enum-told
 enum-told c = search needs
 
-answered-requires : tie.Need-answered-requires
-answered-requires c κs = search needs
+done-requires : tie.Need-done-requires
+done-requires c κs = search needs
 
 enum-known-act : tie.Need-enum-known-act
 enum-known-act c = search needs
@@ -28,8 +28,8 @@ enum-known-act c = search needs
 stores-requires : tie.Need-stores-requires
 stores-requires c κs = search needs
 
-answered-requires-2 : tie.Need-answered-requires-2
-answered-requires-2 c κs = search needs
+done-requires-2 : tie.Need-done-requires-2
+done-requires-2 c κs = search needs
 
 enum-known-act-2 : tie.Need-enum-known-act-2
 enum-known-act-2 c = search needs
@@ -37,8 +37,8 @@ enum-known-act-2 c = search needs
 stores-quoted-requires : tie.Need-stores-quoted-requires
 stores-quoted-requires c κs = search needs
 
-answered-requires-3 : tie.Need-answered-requires-3
-answered-requires-3 c κs = search needs
+done-requires-3 : tie.Need-done-requires-3
+done-requires-3 c κs = search needs
 
 enum-known-act-3 : tie.Need-enum-known-act-3
 enum-known-act-3 c = search needs
@@ -46,8 +46,8 @@ enum-known-act-3 c = search needs
 sends-out-of-band-requires : tie.Need-sends-out-of-band-requires
 sends-out-of-band-requires c κs = search needs
 
-answered-requires-4 : tie.Need-answered-requires-4
-answered-requires-4 c κs = search needs
+done-requires-4 : tie.Need-done-requires-4
+done-requires-4 c κs = search needs
 
 enum-known-act-4 : tie.Need-enum-known-act-4
 enum-known-act-4 c = search needs
@@ -55,8 +55,8 @@ enum-known-act-4 c = search needs
 clears-at-once-requires : tie.Need-clears-at-once-requires
 clears-at-once-requires c κs = search needs
 
-answered-requires-5 : tie.Need-answered-requires-5
-answered-requires-5 c κs = search needs
+done-requires-5 : tie.Need-done-requires-5
+done-requires-5 c κs = search needs
 
 enum-told-2 : tie.Need-enum-told-2
 enum-told-2 c = search needs
@@ -64,8 +64,8 @@ enum-told-2 c = search needs
 quotes-requires : tie.Need-quotes-requires
 quotes-requires c κs = search needs
 
-answered-requires-6 : tie.Need-answered-requires-6
-answered-requires-6 c κs = search needs
+done-requires-6 : tie.Need-done-requires-6
+done-requires-6 c κs = search needs
 
 enum-told-3 : tie.Need-enum-told-3
 enum-told-3 c = search needs
@@ -73,8 +73,8 @@ enum-told-3 c = search needs
 clears-requires : tie.Need-clears-requires
 clears-requires c κs = search needs
 
-answered-requires-7 : tie.Need-answered-requires-7
-answered-requires-7 c κs = search needs
+done-requires-7 : tie.Need-done-requires-7
+done-requires-7 c κs = search needs
 
 enum-told-4 : tie.Need-enum-told-4
 enum-told-4 c = search needs
@@ -82,8 +82,8 @@ enum-told-4 c = search needs
 flips-discard-requires : tie.Need-flips-discard-requires
 flips-discard-requires c κs = search needs
 
-answered-requires-8 : tie.Need-answered-requires-8
-answered-requires-8 c κs = search needs
+done-requires-8 : tie.Need-done-requires-8
+done-requires-8 c κs = search needs
 
 enum-told-5 : tie.Need-enum-told-5
 enum-told-5 c = search needs
@@ -97,8 +97,8 @@ takes-token-requires c κs =
     let p = k .before .before .before .before .pre in
     (p .bounded .counted, subst HasRoom (sym (c .read .ensures)) (act-ready p (k .act-of .ensures) (c .before .before .enum-told5 .given .1)))
 
-answered-requires-9 : tie.Need-answered-requires-9
-answered-requires-9 c κs = search needs
+done-requires-9 : tie.Need-done-requires-9
+done-requires-9 c κs = search needs
 
 enum-known-act-5 : tie.Need-enum-known-act-5
 enum-known-act-5 c = search needs
@@ -108,8 +108,8 @@ steps-with-token-requires c κs =
     let k = c .before .before .before .before in
     act-asks (k .before .before .before .before .pre) (k .act-of .ensures) (c .before .before .act5 .given .1)
 
-answered-requires-10 : tie.Need-answered-requires-10
-answered-requires-10 c κs = search needs
+done-requires-10 : tie.Need-done-requires-10
+done-requires-10 c κs = search needs
 
 enum-known-act-6 : tie.Need-enum-known-act-6
 enum-known-act-6 c = search needs
@@ -119,8 +119,8 @@ steps-with-terminator-requires c κs =
     let k = c .before .before .before .before .before in
     act-asks (k .before .before .before .before .pre) (k .act-of .ensures) (c .before .before .before .act6 .given .1)
 
-answered-requires-11 : tie.Need-answered-requires-11
-answered-requires-11 c κs = search needs
+done-requires-11 : tie.Need-done-requires-11
+done-requires-11 c κs = search needs
 
 enum-known-act-7 : tie.Need-enum-known-act-7
 enum-known-act-7 c = search needs
@@ -130,8 +130,8 @@ steps-with-edit-requires c κs =
     let k = c .before .before .before .before .before in
     act-asks (k .before .before .before .before .pre) (k .act-of .ensures) (c .before .before .before .act7 .given .1)
 
-answered-requires-12 : tie.Need-answered-requires-12
-answered-requires-12 c κs = search needs
+done-requires-12 : tie.Need-done-requires-12
+done-requires-12 c κs = search needs
 
 enum-known-act-8 : tie.Need-enum-known-act-8
 enum-known-act-8 c = search needs
@@ -141,8 +141,8 @@ steps-with-data-requires c κs =
     let k = c .before .before .before .before .before in
     act-asks (k .before .before .before .before .pre) (k .act-of .ensures) (c .before .before .before .act8 .given .1)
 
-answered-requires-13 : tie.Need-answered-requires-13
-answered-requires-13 c κs = search needs
+done-requires-13 : tie.Need-done-requires-13
+done-requires-13 c κs = search needs
 
 enum-told-6 : tie.Need-enum-told-6
 enum-told-6 c = search needs
@@ -155,17 +155,17 @@ completes-requires c κs =
     let counted = c .before .before .before .before .before .before .before .before .pre .bounded .counted in
     (counted, (subst CountedReading (sym (c .read2 .ensures)) (counted .reading), omega arith))
 
-answered-requires-14 : tie.Need-answered-requires-14
-answered-requires-14 c κs = search needs
+done-requires-14 : tie.Need-done-requires-14
+done-requires-14 c κs = search needs
 
 enum-known-act-9 : tie.Need-enum-known-act-9
 enum-known-act-9 c = search needs
 
-idles-requires : tie.Need-idles-requires
-idles-requires c κs = search needs
+sets-idle-requires : tie.Need-sets-idle-requires
+sets-idle-requires c κs = search needs
 
-answered-requires-15 : tie.Need-answered-requires-15
-answered-requires-15 c κs = search needs
+done-requires-15 : tie.Need-done-requires-15
+done-requires-15 c κs = search needs
 
 enum-known-act-10 : tie.Need-enum-known-act-10
 enum-known-act-10 c = search needs
@@ -175,13 +175,13 @@ obeys-requires c κs =
     let k = c .before .before .before .before .before in
     act-asks (k .before .before .before .before .pre) (k .act-of .ensures) (c .before .before .before .act10 .given .1)
 
-answered-requires-16 : tie.Need-answered-requires-16
-answered-requires-16 c κs = search needs
+done-requires-16 : tie.Need-done-requires-16
+done-requires-16 c κs = search needs
 
 returns : tie.Need-returns
 returns c =
     let k = c .before .before .before in
-    act-answers (k .before .before .before .before .pre) (k .act-of .ensures) (c .before .enum-told .given .1) (still-does _ _ _ (k .before .before .before .before .pre .bounded .counted)) (c .answered .ensures)
+    act-answers (k .before .before .before .before .pre) (k .act-of .ensures) (c .before .enum-told .given .1) (still-does _ _ _ (k .before .before .before .before .pre .bounded .counted)) (c .done .ensures)
 
 same-length : tie.Need-same-length
 same-length c = search needs
@@ -189,7 +189,7 @@ same-length c = search needs
 returns-2 : tie.Need-returns-2
 returns-2 c =
     let k = c .before .before .before .before .before .before .before .before in
-    act-answers (k .before .before .before .before .pre) (k .act-of .ensures) (c .before .before .before .before .before .before .act .given .1) (c .before .before .before .stores .ensures _) (c .answered2 .ensures)
+    act-answers (k .before .before .before .before .pre) (k .act-of .ensures) (c .before .before .before .before .before .before .act .given .1) (c .before .before .before .stores .ensures _) (c .done2 .ensures)
 
 same-length-2 : tie.Need-same-length-2
 same-length-2 c = search needs
@@ -197,7 +197,7 @@ same-length-2 c = search needs
 returns-3 : tie.Need-returns-3
 returns-3 c =
     let k = c .before .before .before .before .before .before .before .before in
-    act-answers (k .before .before .before .before .pre) (k .act-of .ensures) (c .before .before .before .before .before .before .act2 .given .1) (c .before .before .before .stores-quoted .ensures _) (c .answered3 .ensures)
+    act-answers (k .before .before .before .before .pre) (k .act-of .ensures) (c .before .before .before .before .before .before .act2 .given .1) (c .before .before .before .stores-quoted .ensures _) (c .done3 .ensures)
 
 same-length-3 : tie.Need-same-length-3
 same-length-3 c = search needs
@@ -205,7 +205,7 @@ same-length-3 c = search needs
 returns-4 : tie.Need-returns-4
 returns-4 c =
     let k = c .before .before .before .before .before .before .before .before in
-    act-answers (k .before .before .before .before .pre) (k .act-of .ensures) (c .before .before .before .before .before .before .act3 .given .1) (c .before .before .before .sends-out-of-band .ensures _) (c .answered4 .ensures)
+    act-answers (k .before .before .before .before .pre) (k .act-of .ensures) (c .before .before .before .before .before .before .act3 .given .1) (c .before .before .before .sends-out-of-band .ensures _) (c .done4 .ensures)
 
 same-length-4 : tie.Need-same-length-4
 same-length-4 c = search needs
@@ -213,12 +213,12 @@ same-length-4 c = search needs
 returns-5 : tie.Need-returns-5
 returns-5 c =
     let k = c .before .before .before .before .before .before .before .before in
-    act-answers (k .before .before .before .before .pre) (k .act-of .ensures) (c .before .before .before .before .before .before .act4 .given .1) (c .before .before .before .clears-at-once .ensures _) (c .answered5 .ensures)
+    act-answers (k .before .before .before .before .pre) (k .act-of .ensures) (c .before .before .before .before .before .before .act4 .given .1) (c .before .before .before .clears-at-once .ensures _) (c .done5 .ensures)
 
 returns-6 : tie.Need-returns-6
 returns-6 c =
     let k = c .before .before .before .before in
-    act-answers (k .before .before .before .before .pre) (k .act-of .ensures) (c .before .before .enum-told2 .given .1) (c .before .quotes .ensures _ _ _) (c .answered6 .ensures)
+    act-answers (k .before .before .before .before .pre) (k .act-of .ensures) (c .before .before .enum-told2 .given .1) (c .before .quotes .ensures _ _ _) (c .done6 .ensures)
 
 same-length-5 : tie.Need-same-length-5
 same-length-5 c = search needs
@@ -226,7 +226,7 @@ same-length-5 c = search needs
 returns-7 : tie.Need-returns-7
 returns-7 c =
     let k = c .before .before .before .before .before .before .before in
-    act-answers (k .before .before .before .before .pre) (k .act-of .ensures) (c .before .before .before .before .before .enum-told3 .given .1) (c .before .before .before .clears .ensures _) (c .answered7 .ensures)
+    act-answers (k .before .before .before .before .pre) (k .act-of .ensures) (c .before .before .before .before .before .enum-told3 .given .1) (c .before .before .before .clears .ensures _) (c .done7 .ensures)
 
 same-length-6 : tie.Need-same-length-6
 same-length-6 c = search needs
@@ -234,7 +234,7 @@ same-length-6 c = search needs
 returns-8 : tie.Need-returns-8
 returns-8 c =
     let k = c .before .before .before .before .before .before .before in
-    act-answers (k .before .before .before .before .pre) (k .act-of .ensures) (c .before .before .before .before .before .enum-told4 .given .1) (c .before .before .before .flips-discard .ensures _ _) (c .answered8 .ensures)
+    act-answers (k .before .before .before .before .pre) (k .act-of .ensures) (c .before .before .before .before .before .enum-told4 .given .1) (c .before .before .before .flips-discard .ensures _ _) (c .done8 .ensures)
 
 same-length-7 : tie.Need-same-length-7
 same-length-7 c = search needs
@@ -242,7 +242,7 @@ same-length-7 c = search needs
 returns-9 : tie.Need-returns-9
 returns-9 c =
     let k = c .before .before .before .before .before .before .before .before in
-    act-answers (k .before .before .before .before .pre) (k .act-of .ensures) (c .before .before .before .before .before .before .enum-told5 .given .1) (for-equal (λ r. takesToken codes (readingOf r)) (c .before .before .before .before .read .ensures) (c .before .before .before .takes-token .ensures _)) (c .answered9 .ensures)
+    act-answers (k .before .before .before .before .pre) (k .act-of .ensures) (c .before .before .before .before .before .before .enum-told5 .given .1) (for-equal (λ r. takesToken codes (readingOf r)) (c .before .before .before .before .read .ensures) (c .before .before .before .takes-token .ensures _)) (c .done9 .ensures)
 
 same-length-8 : tie.Need-same-length-8
 same-length-8 c = search needs
@@ -250,7 +250,7 @@ same-length-8 c = search needs
 returns-10 : tie.Need-returns-10
 returns-10 c =
     let k = c .before .before .before .before .before .before .before .before in
-    act-answers (k .before .before .before .before .pre) (k .act-of .ensures) (c .before .before .before .before .before .before .act5 .given .1) (c .before .before .before .steps-with-token .ensures _) (c .answered10 .ensures)
+    act-answers (k .before .before .before .before .pre) (k .act-of .ensures) (c .before .before .before .before .before .before .act5 .given .1) (c .before .before .before .steps-with-token .ensures _) (c .done10 .ensures)
 
 same-length-9 : tie.Need-same-length-9
 same-length-9 c = search needs
@@ -261,7 +261,7 @@ same-length-10 c = search needs
 returns-11 : tie.Need-returns-11
 returns-11 c =
     let k = c .before .before .before .before .before .before .before .before .before .before .before in
-    act-answers (k .before .before .before .before .pre) (k .act-of .ensures) (c .before .before .before .before .before .before .before .before .before .act6 .given .1) (c .before .before .before .before .before .steps-with-terminator .ensures) (c .answered11 .ensures)
+    act-answers (k .before .before .before .before .pre) (k .act-of .ensures) (c .before .before .before .before .before .before .before .before .before .act6 .given .1) (c .before .before .before .before .before .steps-with-terminator .ensures) (c .done11 .ensures)
 
 same-length-11 : tie.Need-same-length-11
 same-length-11 c = search needs
@@ -272,7 +272,7 @@ same-length-12 c = search needs
 returns-12 : tie.Need-returns-12
 returns-12 c =
     let k = c .before .before .before .before .before .before .before .before .before .before .before in
-    act-answers (k .before .before .before .before .pre) (k .act-of .ensures) (c .before .before .before .before .before .before .before .before .before .act7 .given .1) (c .before .before .before .before .before .steps-with-edit .ensures) (c .answered12 .ensures)
+    act-answers (k .before .before .before .before .pre) (k .act-of .ensures) (c .before .before .before .before .before .before .before .before .before .act7 .given .1) (c .before .before .before .before .before .steps-with-edit .ensures) (c .done12 .ensures)
 
 same-length-13 : tie.Need-same-length-13
 same-length-13 c = search needs
@@ -283,7 +283,7 @@ same-length-14 c = search needs
 returns-13 : tie.Need-returns-13
 returns-13 c =
     let k = c .before .before .before .before .before .before .before .before .before .before .before in
-    act-answers (k .before .before .before .before .pre) (k .act-of .ensures) (c .before .before .before .before .before .before .before .before .before .act8 .given .1) (c .before .before .before .before .before .steps-with-data .ensures) (c .answered13 .ensures)
+    act-answers (k .before .before .before .before .pre) (k .act-of .ensures) (c .before .before .before .before .before .before .before .before .before .act8 .given .1) (c .before .before .before .before .before .steps-with-data .ensures) (c .done13 .ensures)
 
 same-length-15 : tie.Need-same-length-15
 same-length-15 c = search needs
@@ -291,12 +291,12 @@ same-length-15 c = search needs
 returns-14 : tie.Need-returns-14
 returns-14 c =
     let k = c .before .before .before .before .before .before .before .before in
-    act-answers (k .before .before .before .before .pre) (k .act-of .ensures) (c .before .before .before .before .before .before .enum-told6 .given .1) (for-equal (λ r. completes codes byTimeout 0 (readingOf r)) (c .before .before .before .before .read2 .ensures) (c .before .before .before .completes .ensures _)) (c .answered14 .ensures)
+    act-answers (k .before .before .before .before .pre) (k .act-of .ensures) (c .before .before .before .before .before .before .enum-told6 .given .1) (for-equal (λ r. completes codes byTimeout 0 (readingOf r)) (c .before .before .before .before .read2 .ensures) (c .before .before .before .completes .ensures _)) (c .done14 .ensures)
 
 returns-15 : tie.Need-returns-15
 returns-15 c =
     let k = c .before .before .before .before .before in
-    act-answers (k .before .before .before .before .pre) (k .act-of .ensures) (c .before .before .before .act9 .given .1) (c .before .idles .ensures _ _) (c .answered15 .ensures)
+    act-answers (k .before .before .before .before .pre) (k .act-of .ensures) (c .before .before .before .act9 .given .1) (c .before .sets-idle .ensures _ _) (c .done15 .ensures)
 
 same-length-16 : tie.Need-same-length-16
 same-length-16 c = search needs
@@ -307,7 +307,7 @@ same-length-17 c = search needs
 returns-16 : tie.Need-returns-16
 returns-16 c =
     let k = c .before .before .before .before .before .before .before .before .before .before .before in
-    act-answers (k .before .before .before .before .pre) (k .act-of .ensures) (c .before .before .before .before .before .before .before .before .before .act10 .given .1) (c .before .before .before .before .before .obeys .ensures) (c .answered16 .ensures)
+    act-answers (k .before .before .before .before .pre) (k .act-of .ensures) (c .before .before .before .before .before .before .before .before .before .act10 .given .1) (c .before .before .before .before .before .obeys .ensures) (c .done16 .ensures)
 
 pub take-spec : {M : Type 1} → statement M
 take-spec =
@@ -315,54 +315,54 @@ take-spec =
     (tie.spec
     act-of-requires
     enum-told
-    answered-requires
+    done-requires
     enum-known-act
     stores-requires
-    answered-requires-2
+    done-requires-2
     enum-known-act-2
     stores-quoted-requires
-    answered-requires-3
+    done-requires-3
     enum-known-act-3
     sends-out-of-band-requires
-    answered-requires-4
+    done-requires-4
     enum-known-act-4
     clears-at-once-requires
-    answered-requires-5
+    done-requires-5
     enum-told-2
     quotes-requires
-    answered-requires-6
+    done-requires-6
     enum-told-3
     clears-requires
-    answered-requires-7
+    done-requires-7
     enum-told-4
     flips-discard-requires
-    answered-requires-8
+    done-requires-8
     enum-told-5
     read-requires
     takes-token-requires
-    answered-requires-9
+    done-requires-9
     enum-known-act-5
     steps-with-token-requires
-    answered-requires-10
+    done-requires-10
     enum-known-act-6
     steps-with-terminator-requires
-    answered-requires-11
+    done-requires-11
     enum-known-act-7
     steps-with-edit-requires
-    answered-requires-12
+    done-requires-12
     enum-known-act-8
     steps-with-data-requires
-    answered-requires-13
+    done-requires-13
     enum-told-6
     read-requires-2
     completes-requires
-    answered-requires-14
+    done-requires-14
     enum-known-act-9
-    idles-requires
-    answered-requires-15
+    sets-idle-requires
+    done-requires-15
     enum-known-act-10
     obeys-requires
-    answered-requires-16
+    done-requires-16
     returns
     same-length
     returns-2

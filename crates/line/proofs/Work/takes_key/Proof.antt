@@ -21,16 +21,15 @@ returns c =
     let next = c .before .before .with-idle in
     let rest = c .before .before .before .before .without-first in
     let start = c .before .before .before .before .before .before .before in
-    let r = start .args .self .line .reading in
     let taking = start .pre .1 in
     let becomes = idle-becomes (taking .room .counted) (next .ensures) in
     let typed = c .before .with-typed .ensures in
     let read = c .with-read .ensures in
     record {
-      does = taken-does (rest .result) (next .result) r (rest .ensures) (start .pre .0) becomes typed read;
+      does = taken-does (rest .result) (next .result) (rest .ensures) (start .pre .0) becomes typed read;
       becomes = rw read becomes;
       room = rw read (idle-room (taking .room) (next .ensures));
-      short = taken-short (rest .result) (next .result) r (rest .ensures) (start .pre .0) becomes typed read (taking .short);
+      short = taken-short (rest .result) (next .result) (rest .ensures) (start .pre .0) becomes typed read (taking .short);
     }
 
 pub takes-key-spec : {M : Type 1} → statement M

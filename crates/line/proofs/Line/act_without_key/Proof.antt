@@ -2,8 +2,8 @@ use mathlib.Core.Path.{refl}
 use Rattle.rules.specs.Turns.{only}
 use Rattle.rules.specs.Steps.{takesFirst}
 use Rattle.line.proofs.Meeting.{met, meets-first, meets-second}
-use Rattle.line.proofs.Line.act_of_waiting.Statement.{statement}
-use Rattle.line.proofs.Line.act_of_waiting.Tie as tie
+use Rattle.line.proofs.Line.act_without_key.Statement.{statement}
+use Rattle.line.proofs.Line.act_without_key.Tie as tie
 
 returns : tie.Need-returns
 unfolding takesFirst only
@@ -13,5 +13,5 @@ returns-2 : tie.Need-returns-2
 unfolding takesFirst only
 returns-2 c = λ s. meets-second _ refl (c .if1 .left) (met tt)
 
-pub act-of-waiting-spec : {M : Type 1} → statement M
-act-of-waiting-spec = tie.close (tie.spec returns returns-2)
+pub act-without-key-spec : {M : Type 1} → statement M
+act-without-key-spec = tie.close (tie.spec returns returns-2)

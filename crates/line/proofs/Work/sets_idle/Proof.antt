@@ -1,8 +1,8 @@
 use borrow.Author.Needs.{needs}
 use Rattle.line.proofs.Works.{read-does}
 use Rattle.line.proofs.Joints.{idle-becomes}
-use Rattle.line.proofs.Work.idles.Statement.{statement}
-use Rattle.line.proofs.Work.idles.Tie as tie
+use Rattle.line.proofs.Work.sets_idle.Statement.{statement}
+use Rattle.line.proofs.Work.sets_idle.Tie as tie
 
 with-idle-requires : tie.Need-with-idle-requires
 with-idle-requires c κs = search needs
@@ -16,5 +16,5 @@ returns c =
     let next = c .before .with-idle in
     read-does (next .result) (idle-becomes (start .pre .reading) (next .ensures)) (start .pre) (c .with-read .ensures)
 
-pub idles-spec : {M : Type 1} → statement M
-idles-spec = tie.close (tie.spec with-idle-requires with-read-requires returns)
+pub sets-idle-spec : {M : Type 1} → statement M
+sets-idle-spec = tie.close (tie.spec with-idle-requires with-read-requires returns)

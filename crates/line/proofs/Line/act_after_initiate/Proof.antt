@@ -3,8 +3,8 @@ use mathlib.Core.Path.{refl, sym, _∙_}
 use Rattle.rules.specs.Arrival.{isHello, isImmediateClear, ruled}
 use Rattle.line.proofs.Meeting.{met, meets-first, meets-second}
 use Rattle.line.proofs.Arrivals.{band-is, band-not}
-use Rattle.line.proofs.Line.act_of_rules.Statement.{statement}
-use Rattle.line.proofs.Line.act_of_rules.Tie as tie
+use Rattle.line.proofs.Line.act_after_initiate.Statement.{statement}
+use Rattle.line.proofs.Line.act_after_initiate.Tie as tie
 
 returns : tie.Need-returns
 unfolding ruled
@@ -53,8 +53,8 @@ returns-5 c =
     (meets-second _ refl (band-not 1 (band .attribute .ensures) (tests .if3 .left))
     (meets-second _ refl (sym (c .before .before .passes-controls .ensures) ∙ c .before .if4 .left) (c .act-of-control .ensures s))))
 
-pub act-of-rules-spec : {M : Type 1} → statement M
-act-of-rules-spec =
+pub act-after-initiate-spec : {M : Type 1} → statement M
+act-after-initiate-spec =
     tie.close
     (tie.spec
     returns
