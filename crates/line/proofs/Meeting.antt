@@ -3,7 +3,9 @@ use mathlib.Core.Path.{_≡_, refl, sym, ap, _∙_, subst}
 use Prim.Native.Nat.{ℕ}
 use mathlib.Core.Bool.{Bool, true, false}
 use mathlib.Core.List.{List}
+use mathlib.Core.Option.{Option, none, some}
 use Rattle.rules.specs.Choice.{pick}
+use Rattle.rules.specs.State as rules
 use Rattle.rules.specs.Turns.{Fate, Part, tells, changes, behind, _then_}
 use Rattle.rules.specs.Area.{puts, spot}
 use Rattle.rules.specs.Calls.{messageBytes}
@@ -12,7 +14,7 @@ use Rattle.line.specs.declared.Work.{Work}
 use Rattle.line.specs.declared.acts.Act.{Act}
 use Rattle.line.specs.declared.events.Event.{Event}
 use Rattle.line.specs.declared.Answer.{Answer}
-use Rattle.line.specs.View.{view}
+use Rattle.line.specs.View.{view, pendingOf, readingOf}
 use Rattle.line.specs.Events.{Admitted, Comes, eventPart, eventOf}
 use Rattle.line.specs.Answers.{Answers, doneAnswer}
 use Rattle.line.specs.Bounded.{Counted}
@@ -52,6 +54,14 @@ module _ {s : List ℕ} {l : Line} {a : Act} where
       pub behind-second : rule (keyTaken l (view l)) ≡ pick test g f (keyTaken l (view l)) → test ≡ false →
           Meets (takesKey l then f) s l a → Meets (takesKey l then rule) s l a
       behind-second e b h = meets-behind (second-at rule f g (keyTaken l (view l)) e b) h
+
+  -- A rule that looks whether a read is pending.
+  module _ (F : Option (rules.Reading ℕ) → Part ℕ) where
+    pub meets-pending : l .pending ≡ true → Meets (F (some (readingOf (l .reading)))) s l a → Meets (λ v. F (v .read) v) s l a
+    meets-pending e h = meets-as (ap (λ p. F (pendingOf p (l .reading)) (view l)) e) h
+
+    pub meets-none : l .pending ≡ false → Meets (F none) s l a → Meets (λ v. F (v .read) v) s l a
+    meets-none e h = meets-as (ap (λ p. F (pendingOf p (l .reading)) (view l)) e) h
 
   -- what became of keys is not seen
   pub meets-told : {f : Part ℕ} (fs : List (Fate ℕ)) → Meets f s l a → Meets (tells fs then f) s l a

@@ -1,13 +1,12 @@
 use borrow.Author.Needs.{needs}
 use mathlib.Core.Path.{refl, sym, ap, _∙_}
 use native.Mathlib.Omega.{arith}
-use mathlib.Core.Option.{some}
 use borrow.Author.Tests.{not-true, not-false, eq-eqb}
 use Rattle.rules.specs.State.{codes}
 use Rattle.rules.specs.Steps.{takesFirst, stepsWhile, steps}
 use Rattle.rules.proofs.Tests.{isEmpty-nil}
-use Rattle.line.specs.View.{view, pendingOf, readingOf}
-use Rattle.line.proofs.Meeting.{met, meets-as, meets-first, meets-second, meets-told}
+use Rattle.line.specs.View.{view, readingOf}
+use Rattle.line.proofs.Meeting.{met, meets-as, meets-pending, meets-none, meets-first, meets-second, meets-told}
 use Rattle.line.proofs.Held.{token-short, keys-empty}
 use Rattle.line.proofs.Room.{pending-room}
 use Rattle.line.proofs.Line.act_of_step.Statement.{statement}
@@ -17,7 +16,7 @@ returns : tie.Need-returns
 unfolding steps stepsWhile
 returns c =
     let l = c .before .args .self in
-    λ s. meets-as (ap (λ p. stepsWhile codes (pendingOf p (l .reading)) (view l)) (not-true (l .pending) (c .if1 .taken))) (met tt)
+    λ s. meets-none (stepsWhile codes) (not-true (l .pending) (c .if1 .taken)) (met tt)
 
 is-held-requires : tie.Need-is-held-requires
 is-held-requires c κs = search needs
@@ -29,7 +28,7 @@ returns-2 c =
     let start = pending .before in
     let l = start .args .self in
     let some-read = not-false (l .pending) (pending .if1 .left) in
-    λ s. meets-as {f = stepsWhile codes (some (readingOf (l .reading)))} (ap (λ p. stepsWhile codes (pendingOf p (l .reading)) (view l)) some-read)
+    λ s. meets-pending (stepsWhile codes) some-read
     (meets-first _ refl (sym (c .before .is-held .ensures) ∙ c .if2 .taken) (met (pending-room l (start .pre) some-read)))
 
 act-without-key-requires : tie.Need-act-without-key-requires
@@ -43,7 +42,7 @@ returns-3 c =
     let start = pending .before in
     let l = start .args .self in
     let none = isEmpty-nil _ (keys-empty (l .typed) (start .pre .counted .typed) ∙ eq-eqb _ 0 (c .before .if3 .taken)) in
-    λ s. meets-as {f = stepsWhile codes (some (readingOf (l .reading)))} (ap (λ p. stepsWhile codes (pendingOf p (l .reading)) (view l)) (not-false (l .pending) (pending .if1 .left)))
+    λ s. meets-pending (stepsWhile codes) (not-false (l .pending) (pending .if1 .left))
     (meets-second _ refl (sym (held .is-held .ensures) ∙ c .before .before .if2 .left)
     (meets-as (ap (λ ks. takesFirst codes ks (readingOf (l .reading)) (view l)) none) (c .act-without-key .ensures s)))
 
@@ -66,7 +65,7 @@ returns-4 c =
     let held = c .before .before .before .before in
     let pending = held .before .before in
     let l = pending .before .args .self in
-    λ s. meets-as {f = stepsWhile codes (some (readingOf (l .reading)))} (ap (λ p. stepsWhile codes (pendingOf p (l .reading)) (view l)) (not-false (l .pending) (pending .if1 .left)))
+    λ s. meets-pending (stepsWhile codes) (not-false (l .pending) (pending .if1 .left))
     (meets-second _ refl (sym (held .is-held .ensures) ∙ c .before .before .before .if2 .left)
     (meets-as (ap (λ ks. takesFirst codes ks (readingOf (l .reading)) (view l)) (c .before .first .ensures)) (meets-told _ (c .act-of-taking .ensures s))))
 

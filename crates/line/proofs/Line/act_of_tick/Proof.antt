@@ -1,13 +1,11 @@
 use borrow.Author.Needs.{needs}
-use mathlib.Core.Path.{refl, sym, ap, _∙_}
-use mathlib.Core.Option.{some}
+use mathlib.Core.Path.{refl, sym, _∙_}
 use lib.Dec.{ltb}
 use borrow.Author.Tests.{not-true, not-false}
 use Rattle.rules.specs.State.{codes}
 use Rattle.rules.specs.Turns.{only}
 use Rattle.rules.specs.Steps.{ticksWhile, ticks}
-use Rattle.line.specs.View.{view, pendingOf, readingOf}
-use Rattle.line.proofs.Meeting.{met, meets-as, meets-first, meets-second}
+use Rattle.line.proofs.Meeting.{met, meets-pending, meets-none, meets-first, meets-second}
 use Rattle.line.proofs.Held.{nothing-waits}
 use Rattle.line.proofs.Line.act_of_tick.Statement.{statement}
 use Rattle.line.proofs.Line.act_of_tick.Tie as tie
@@ -16,7 +14,7 @@ returns : tie.Need-returns
 unfolding ticks ticksWhile
 returns c =
     let l = c .before .args .self in
-    λ s. meets-as (ap (λ p. ticksWhile codes (pendingOf p (l .reading)) (view l)) (not-true (l .pending) (c .if1 .taken))) (met tt)
+    λ s. meets-none (ticksWhile codes) (not-true (l .pending) (c .if1 .taken)) (met tt)
 
 is-held-requires : tie.Need-is-held-requires
 is-held-requires c κs = search needs
@@ -33,7 +31,7 @@ returns-2 c =
     let l = start .args .self in
     let terms = l .reading .terms in
     let quiet = nothing-waits (l .typed) (start .pre .counted .typed) (terms .timed) (ltb 0 (terms .timeout)) (held .is-held .ensures) in
-    λ s. meets-as {f = ticksWhile codes (some (readingOf (l .reading)))} (ap (λ p. ticksWhile codes (pendingOf p (l .reading)) (view l)) (not-false (l .pending) (pending .if1 .left)))
+    λ s. meets-pending (ticksWhile codes) (not-false (l .pending) (pending .if1 .left))
     (meets-first _ refl (sym quiet ∙ c .before .if2 .taken) (c .act-of-idling .ensures s))
 
 returns-3 : tie.Need-returns-3
@@ -45,7 +43,7 @@ returns-3 c =
     let l = start .args .self in
     let terms = l .reading .terms in
     let quiet = nothing-waits (l .typed) (start .pre .counted .typed) (terms .timed) (ltb 0 (terms .timeout)) (held .is-held .ensures) in
-    λ s. meets-as {f = ticksWhile codes (some (readingOf (l .reading)))} (ap (λ p. ticksWhile codes (pendingOf p (l .reading)) (view l)) (not-false (l .pending) (pending .if1 .left)))
+    λ s. meets-pending (ticksWhile codes) (not-false (l .pending) (pending .if1 .left))
     (meets-second _ refl (sym quiet ∙ c .if2 .left) (met tt))
 
 pub act-of-tick-spec : {M : Type 1} → statement M
