@@ -19,16 +19,15 @@ use Rattle.rules.proofs.Areas.{puts-front}
 use Rattle.rules.proofs.Bounds.Calls.{call-within}
 use borrow.Author.Tests.{leb-true}
 use Rattle.line.specs.declared.Line.{Line}
-use Rattle.line.specs.declared.Work.{Work}
 use Rattle.line.specs.declared.Answer.{Answer}
 use Rattle.line.specs.View.{view}
-use Rattle.line.specs.Bounded.{Bounded}
-use Rattle.line.specs.Promise.{Does}
+use Rattle.line.specs.Bounded.{Counted, Bounded}
+use Rattle.line.specs.Promise.{Progress, Does}
 use Rattle.line.specs.Rows.{areRoomy}
 use Rattle.line.specs.Answers.{Answers, ruled, refusal, doneAnswer}
 
 -- a call at its beginning
-abbrev pub begun : Line → Work
+abbrev pub begun : Line → Progress
 begun l = record { line = l; at = 0; sent = 0 }
 
 -- areas, as the puts of a call's bytes leave them
@@ -53,14 +52,14 @@ module _ (e : Event ℕ) (l : Line) (t m : List ℕ) (b : Bounded l) where
     within = subst Within roomy (call-within call (view l) byte (b .state))
 
     -- a part that was done is the call's answer
-    module _ (w : Work) (t′ m′ : List ℕ) (d : Does p (begun l) t m w t′ m′) where
+    module _ (w : Progress) (t′ m′ : List ℕ) (d : Does p (begun l) t m w t′ m′) (k : Counted (w .line)) where
       shown-front : spot t′ (w .at) ≡ spot (areaAfter (p (view l) .bytes) t) (length (p (view l) .bytes))
       unfolding does
-      shown-front = let h = within .terminal in let k = areas .0 in at-front (p (view l) .bytes) t t′ (w .at) (omega arith) (d .shows)
+      shown-front = let h = within .terminal in let room = areas .0 in at-front (p (view l) .bytes) t t′ (w .at) (omega arith) (d .shows)
 
       sent-front : spot m′ (w .sent) ≡ spot (areaAfter (messageBytes codes (p (view l))) m) (length (messageBytes codes (p (view l))))
       unfolding does
-      sent-front = let h = within .messages in let k = areas .1 in at-front (messageBytes codes (p (view l))) m m′ (w .sent) (omega arith) (d .sends)
+      sent-front = let h = within .messages in let room = areas .1 in at-front (messageBytes codes (p (view l))) m m′ (w .sent) (omega arith) (d .sends)
 
       pub answered : Answers e l t m (doneAnswer w) t′ m′
       unfolding does
@@ -73,7 +72,7 @@ module _ (e : Event ℕ) (l : Line) (t m : List ℕ) (b : Bounded l) where
             sent = ap (λ x. x .at) sent-front ∙ ap (λ a. length (messageBytes codes (a .turn))) r;
             terminalArea = ap (λ x. x .area) shown-front ∙ ap (λ a. areaAfter (a .turn .bytes) t) r;
             messageArea = ap (λ x. x .area) sent-front ∙ ap (λ a. areaAfter (messageBytes codes (a .turn)) m) r;
-            bounded = record { state = subst bounds.Bounded (sym (d .state)) (within .state); counted = d .counted };
+            bounded = record { state = subst bounds.Bounded (sym (d .state)) (within .state); counted = k };
             same = λ n. absurd (n refl);
           }
 

@@ -5,81 +5,123 @@ use native.Mathlib.Numerals.{add-one}
 use native.Mathlib.Omega.{arith}
 use mathlib.Core.Bool.{Bool, true, false, _&&_}
 use mathlib.Core.List.{List, [], _∷_, _++_, append-nil, append-assoc, map-id}
-use lib.Dec.{ltb}
+use lib.Dec.{ltb, eqb}
 use lib.ListN.{length, getD, take, drop, set, length-set, length-append}
 use lib.Seq.{take-suc, take-suc-set, take-nil, drop-nil, length-take-le}
 use borrow.Author.Tests.{ltb-true, ltb-false}
-use Rattle.rules.specs.Choice.{pick, bit}
+use Rattle.rules.specs.Choice.{pick, bit, isEmpty}
 use Rattle.rules.specs.Numbers.{inputSize}
+use Rattle.rules.specs.State as rules
 use Rattle.rules.specs.State.{codes, withInput}
 use Rattle.rules.specs.Editing.{endOf, hiddenCount, displayed}
 use Rattle.rules.specs.Steps.{appended}
 use Rattle.rules.proofs.Tests.{pick-true, pick-false, halves}
 use Rattle.line.specs.declared.Reading.{Reading}
-use Rattle.line.specs.View.{inputOf, readingOf}
+use Rattle.line.specs.declared.Terms.{Terms}
+use Rattle.line.specs.declared.Line.{Line}
+use Rattle.line.specs.View.{inputOf, promptOf, readingOf}
+use Rattle.line.specs.With.{lent}
 use Rattle.line.specs.Bounded.{CountedReading}
+use Rattle.line.proofs.Held.{empty-take}
 use Rattle.line.specs.ReadingParts.{Appends, ShownFrom}
 
-pub input-length : (r : Reading) → CountedReading r → length (inputOf r) ≡ r .count
+pub input-length : (n : ℕ) (text : List ℕ) → n ≤ length text → length (inputOf n text) ≡ n
 unfolding inputOf
-input-length r c = length-take-le (r .count) (r .input) (omega arith)
+input-length n text h = length-take-le n text h
 
-pub end-is : (r : Reading) → CountedReading r → r .terms .«end_of_prompt» + r .count ≡ endOf (readingOf r)
+pub input-empty : (r : Reading) (text : List ℕ) → CountedReading r text → isEmpty (inputOf (r .count) text) ≡ eqb (r .count) 0
+unfolding inputOf
+input-empty r text c = empty-take (r .count) text (omega arith)
+
+pub end-is : (t : Terms) (text : List ℕ) (l : Line) (r : Reading) → CountedReading r text →
+    t .«end_of_prompt» + r .count ≡ endOf (readingOf (lent t text l) r)
 unfolding endOf
-end-is r c = ap (λ n. r .terms .«end_of_prompt» + n) (sym (input-length r c))
+end-is t text l r c = ap (λ n. t .«end_of_prompt» + n) (sym (input-length (r .count) text (omega arith)))
+
+-- a store in front of a place leaves what stands behind that place
+drop-set : (text : List ℕ) (n k c : ℕ) → n < k → drop k (set text n c) ≡ drop k text
+drop-set [] n k c h = refl
+drop-set (x ∷ text) n zero c h = absurd (omega arith)
+drop-set (x ∷ text) zero (suc k) c h = refl
+drop-set (x ∷ text) (suc n) (suc k) c h = drop-set text n k c (omega arith)
+
+-- a read with its text changed: the prompt and the input as they are in the new text
+abbrev withText : List ℕ → List ℕ → Reading → Line → rules.Reading ℕ
+withText prompt input r l =
+    let e = readingOf l r in
+    let t = e .terms in
+    record {
+      terms = record {
+        underflow = t .underflow;
+        disables = t .disables;
+        raises = t .raises;
+        recognises = t .recognises;
+        echoes = t .echoes;
+        terminatorEcho = t .terminatorEcho;
+        timed = t .timed;
+        timeout = t .timeout;
+        set = t .set;
+        maxLength = t .maxLength;
+        endOfPrompt = t .endOfPrompt;
+        prompt = prompt;
+        column = t .column;
+        line = t .line;
+      };
+      input = input;
+      lowWater = e .lowWater;
+      hidden = e .hidden;
+      from = e .from;
+      idle = e .idle;
+    }
 
 -- the character behind the others, as the program stores it
-abbrev withPushed : ℕ → Reading → Reading
-withPushed c r =
-    record {
-      terms = r .terms;
-      input = set (r .input) (r .count) c;
-      count = r .count + 1;
-      «low_water» = r .«low_water»;
-      hidden = r .hidden;
-      from = r .from;
-      idle = r .idle;
-    }
+abbrev withPushed : Reading → Reading
+withPushed r =
+    record { count = r .count + 1; «low_water» = r .«low_water»; hidden = r .hidden; from = r .from; idle = r .idle }
 
-pub pushed : (r : Reading) (c : ℕ) → CountedReading r → r .count < inputSize → Appends (c ∷ []) r (withPushed c r)
-unfolding appended inputOf
-pushed r c k h =
-    let room : r .count < length (r .input) = omega arith in
-    let more : take (r .count + 1) (set (r .input) (r .count) c) ≡ take (r .count) (r .input) ++ (c ∷ []) =
-    ap (λ n. take n (set (r .input) (r .count) c)) (add-one (r .count)) ∙ take-suc-set (r .input) (r .count) c room in
+pub pushed : (r : Reading) (text : List ℕ) (c : ℕ) → CountedReading r text → r .count < inputSize →
+    Appends (c ∷ []) r text (withPushed r) (set text (r .count) c)
+unfolding appended inputOf promptOf
+pushed r text c k h =
+    let n = r .count in
+    let room : n < length text = omega arith in
+    let more : take (n + 1) (set text n c) ≡ take n text ++ (c ∷ []) =
+    ap (λ i. take i (set text n c)) (add-one n) ∙ take-suc-set text n c room in
     record {
-      becomes = record {
-        view = λ i. withInput (more i) (readingOf r);
-        counted = record { terms = k .terms; input = length-set (r .input) (r .count) c ∙ k .input; within = omega arith };
-      };
+      same = λ t l fits.
+          let front : n < inputSize - t .«prompt_len» = omega arith in
+          λ i. withText (drop-set text n (inputSize - t .«prompt_len») c front i) (more i) r (lent t text l);
       count = refl;
+      size = length-set text n c;
     }
 
-pub appends-none : (r : Reading) → CountedReading r → Appends [] r r
+pub appends-none : (r : Reading) (text : List ℕ) → Appends [] r text r text
 unfolding appended
-appends-none r k =
+appends-none r text =
     record {
-      becomes = record { view = λ i. withInput (sym (append-nil (inputOf r)) i) (readingOf r); counted = k };
+      same = λ t l fits i. withInput (sym (append-nil (inputOf (r .count) text)) i) (readingOf (lent t text l) r);
       count = omega arith;
+      size = refl;
     }
 
 -- some and then one more
-pub appends-more : (cs : List ℕ) (i : ℕ) {r next more : Reading} → i < length cs → Appends (take i cs) r next →
-    Appends (getD cs i 0 ∷ []) next more → Appends (take (i + 1) cs) r more
+pub appends-more : (cs : List ℕ) (i : ℕ) {r next more : Reading} {text text′ text″ : List ℕ} → i < length cs → Appends (take i cs) r text next text′ →
+    Appends (getD cs i 0 ∷ []) next text′ more text″ → Appends (take (i + 1) cs) r text more text″
 unfolding appended
-appends-more cs i {r} {next} {more} h a b =
+appends-more cs i {r} {next} {more} {text} {text′} {text″} h a b =
     let all : take i cs ++ getD cs i 0 ∷ [] ≡ take (i + 1) cs = sym (ap (λ n. take n cs) (add-one i) ∙ take-suc cs i 0 h) in
     let one = getD cs i 0 ∷ [] in
     let long = ap length all in
     let sum = length-append (take i cs) one in
+    let before = a .count in
     record {
-      becomes = record {
-        view =
-            b .becomes .view ∙ ap (appended one) (a .becomes .view)
-            ∙ (λ j. withInput ((append-assoc (inputOf r) (take i cs) one ∙ ap (λ l. inputOf r ++ l) all) j) (readingOf r));
-        counted = b .becomes .counted;
-      };
-      count = omega arith;
+      same = λ t l fits.
+          b .same t l (omega arith) ∙ ap (appended one) (a .same t l (omega arith))
+          ∙ (λ j.
+          withInput ((append-assoc (inputOf (r .count) text) (take i cs) one ∙ ap (λ x. inputOf (r .count) text ++ x) all) j)
+          (readingOf (lent t text l) r));
+      count = omega (arith, a .count, b .count, long, sum);
+      size = b .size ∙ a .size;
     }
 
 drop-take : {A : Type 0} (k c : ℕ) (xs : List A) → drop k (take c xs) ≡ take (c - k) (drop k xs)
@@ -114,14 +156,14 @@ module _ (hidden : Bool) (n : ℕ) (xs : List ℕ) where
           ap (λ j. take j xs) none ∙ sym (ap (λ j. drop k (take j xs)) none ∙ drop-nil k)
 
 module _ (r : Reading) where
-  displayed-is : displayed codes (readingOf r) ≡ drop (bit (r .hidden)) (take (r .count) (r .input))
+  displayed-is : (l : Line) → displayed codes (readingOf l r) ≡ drop (bit (r .hidden)) (take (r .count) (l .text))
   unfolding displayed hiddenCount inputOf
-  displayed-is = ap (drop (bit (r .hidden))) (map-id (take (r .count) (r .input)))
+  displayed-is l = ap (drop (bit (r .hidden))) (map-id (take (r .count) (l .text)))
 
   pub hidden-first : r .hidden && ltb 0 (r .count) ≡ true → ShownFrom r 1
   hidden-first e =
       record {
-        text = hidden-before (r .hidden) (r .count) (r .input) e ∙ sym displayed-is;
+        text = λ l. hidden-before (r .hidden) (r .count) (l .text) e ∙ sym (displayed-is l);
         within = hidden-stands (r .hidden) (r .count) e;
       }
 
@@ -129,20 +171,21 @@ module _ (r : Reading) where
   all-shown e =
       let all : r .count - 0 ≡ r .count = omega arith in
       record {
-        text = ap (λ n. take n (r .input)) all ∙ none-before (r .hidden) (r .count) (r .input) e ∙ sym displayed-is;
+        text = λ l. ap (λ n. take n (l .text)) all ∙ none-before (r .hidden) (r .count) (l .text) e ∙ sym (displayed-is l);
         within = omega arith;
       }
 
-  -- how many of the first characters are displayed
-  pub hidden-less : (left : ℕ) → r .hidden && ltb 0 left ≡ true → left - 1 ≡ left - hiddenCount (readingOf r)
-  unfolding hiddenCount bit
-  hidden-less left e = let h = halves (r .hidden) (ltb 0 left) e in ap (λ n. left - n) (sym (pick-true 1 0 (h .0)))
+-- how many of the first characters are displayed
+module _ (hidden : Bool) (left : ℕ) where
+  pub hidden-less : hidden && ltb 0 left ≡ true → left - 1 ≡ left - bit hidden
+  unfolding bit
+  hidden-less e = let h = halves hidden (ltb 0 left) e in ap (λ n. left - n) (sym (pick-true 1 0 (h .0)))
 
-  pub none-less : (left : ℕ) → r .hidden && ltb 0 left ≡ false → left ≡ left - hiddenCount (readingOf r)
-  unfolding hiddenCount bit
-  none-less left e = by-flag (r .hidden) refl
+  pub none-less : hidden && ltb 0 left ≡ false → left ≡ left - bit hidden
+  unfolding bit
+  none-less e = by-flag hidden refl
     where
-      by-flag : (b : Bool) → r .hidden ≡ b → left ≡ left - pick (r .hidden) 1 0
+      by-flag : (b : Bool) → hidden ≡ b → left ≡ left - pick hidden 1 0
       by-flag false f = let z : left ≡ left - 0 = omega arith in z ∙ ap (λ n. left - n) (sym (pick-false 1 0 f))
       by-flag true f =
           let none : left ≤ 0 = ltb-false 0 left (rw f at e) in

@@ -2,30 +2,34 @@
 use mathlib.Core.Path.{_≡_, refl, sym, ap, _∙_}
 use Prim.Native.Nat.{ℕ}
 use native.Mathlib.Omega.{arith}
-use mathlib.Core.Bool.{Bool, true, false}
+use mathlib.Core.Bool.{Bool, true, false, not}
 use mathlib.Core.List.{List}
 use lib.ListN.{length}
 use Rattle.rules.specs.Choice.{pick}
 use Rattle.rules.specs.Numbers.{accepted, smallArea, wrongLength, wrongType, wrongTime, notCarried}
 use Rattle.rules.specs.Messages.Forms as forms
 use Rattle.rules.specs.Messages.Codec as codec
-use Rattle.rules.specs.Messages.Codec.{Outcome, refused, sound, allBytes, read}
-use Rattle.rules.specs.State.{State, codes}
+use Rattle.rules.specs.Messages.Codec.{Outcome, refused, sound, definedKind, allBytes, fieldsAs, read}
+use Rattle.rules.specs.State.{Reading, State, codes}
 use Rattle.rules.specs.Calls as rules
-use Rattle.rules.specs.Calls.{Answer, isPending, isCarriedBy, judged, considered, refuses, isRoomy, hears, answers, answer}
-use Rattle.rules.proofs.Tests.{pick-true, pick-false}
-use Rattle.rules.proofs.Outcomes.{refused-sound, sound-same}
+use Rattle.rules.specs.Calls.{Answer, isPending, isServers, isCarriedBy, judged, considered, refuses, isRoomy, hears, answers, answer}
+use Rattle.rules.proofs.Tests.{pick-true, pick-false, halves}
+use borrow.Author.Tests.{not-true}
+use Rattle.rules.specs.Messages.Layout.{byteAt}
+use Rattle.rules.proofs.Outcomes.{refused-sound, sound-same, readable}
 use Rattle.message.specs.declared.Message.{Message}
+use Rattle.message.specs.declared.Message.the-variants as found-message
 use Rattle.message.specs.declared.Found.the-variants as found
 use Rattle.message.specs.Found.{heldIn, asHeld, foundIn}
 use Rattle.line.specs.declared.Line.{Line}
-use Rattle.line.specs.declared.Reading.{Reading}
 use Rattle.line.specs.View.{pendingOf, view}
 use Rattle.line.specs.Answers.{ruled}
 use Rattle.line.specs.Rows.{areRoomy, isHosts, firstRow, earlyRow}
-use Rattle.line.specs.Obeyed.{Accepted}
+use Rattle.line.specs.HostMessages.{messageOf, senderOf, Accepted}
+use Rattle.line.specs.declared.events.HostMessage.{HostMessage}
+use Rattle.line.specs.declared.events.Sender.the-variants as sender
 
-pub is-pending : (pending : Bool) (r : Reading) → isPending (pendingOf pending r) ≡ pending
+pub is-pending : (pending : Bool) (r : Reading ℕ) → pending ≡ isPending (pendingOf pending r)
 unfolding isPending
 is-pending true r = refl
 is-pending false r = refl
@@ -45,13 +49,14 @@ module _ (s : State ℕ) (o : Outcome (forms.Message ℕ)) where
   refused-early true true true false f e h = e
   refused-early true true true true f e h = absurd (h refl)
 
-  passed-early : (roomy long hosts timely : Bool) → firstRow roomy long hosts timely ≡ accepted → (roomy ≡ true) × (outcomeOf long hosts timely o ≡ o)
+  passed-early : (roomy long hosts timely : Bool) → firstRow roomy long hosts timely ≡ accepted →
+      (roomy ≡ true) × (outcomeOf long hosts timely o ≡ o) × (hosts ≡ true)
   unfolding firstRow pick
   passed-early false long hosts timely e = absurd (omega arith)
   passed-early true false hosts timely e = absurd (omega arith)
   passed-early true true false timely e = absurd (omega arith)
   passed-early true true true false e = absurd (omega arith)
-  passed-early true true true true e = (refl, refl)
+  passed-early true true true true e = (refl, refl, refl)
 
 module _ (l : Line) (t m bytes : List ℕ) {row : ℕ} (e : row ≡ earlyRow (length t) (length m) bytes (view l)) where
   pub early-refused : (row ≡ 0 → ⊥) → ruled (rules.message bytes) l t m ≡ refuses row (view l)
@@ -59,7 +64,8 @@ module _ (l : Line) (t m bytes : List ℕ) {row : ℕ} (e : row ≡ earlyRow (le
   early-refused h =
       refused-early (view l) (judged (view l) (read bytes)) _ _ _ _ _ refl (λ k. h (e ∙ k)) ∙ ap (λ n. refuses n (view l)) (sym e)
 
-  pub early-passed : row ≡ 0 → (areRoomy (length t) (length m) ≡ true) × (considered (view l) bytes ≡ judged (view l) (read bytes))
+  pub early-passed : row ≡ 0 →
+      (areRoomy (length t) (length m) ≡ true) × (considered (view l) bytes ≡ judged (view l) (read bytes)) × (isHosts (byteAt bytes 0) ≡ true)
   unfolding considered isHosts
   early-passed h = passed-early (view l) (judged (view l) (read bytes)) _ _ _ _ (sym e ∙ h)
 
@@ -85,29 +91,79 @@ module _ (l : Line) (bytes : List ℕ) where
   unfolding foundIn
   found-refused e = judges-number (read bytes) e
 
-  module _ (m : Message) {carries : Bool} (found : foundIn bytes (found.Message m) ≡ asHeld (read bytes))
-      (judges : (x : forms.Message ℕ) → heldIn bytes m ≡ codec.message x → carries ≡ isCarriedBy (view l) x) where
+  module _ (m : Message) (h : HostMessage) (sent : m ≡ messageOf h) {carries : Bool} (found : foundIn bytes (found.Message m) ≡ asHeld (read bytes))
+      (judges : (x : forms.Message ℕ) → heldIn bytes (messageOf h) ≡ codec.message x → carries ≡ isCarriedBy (view l) x) where
+    judge : (x : forms.Message ℕ) → heldIn bytes m ≡ codec.message x → carries ≡ isCarriedBy (view l) x
+    judge x e = judges x (ap (heldIn bytes) (sym sent) ∙ e)
+
     judges-carried : carries ≡ false → (o : Outcome (forms.Message ℕ)) → sound (heldIn bytes m) ≡ asHeld o → judged (view l) o ≡ refused notCarried
     unfolding asHeld judged
     judges-carried e (refused n) h = absurd (refused-sound (sym h))
-    judges-carried e (sound x) h = pick-false _ _ (sym (judges x (sound-same h)) ∙ e)
+    judges-carried e (sound x) h = pick-false _ _ (sym (judge x (sound-same h)) ∙ e)
 
     pub not-carried : carries ≡ false → judged (view l) (read bytes) ≡ refused notCarried
     unfolding foundIn
     not-carried e = judges-carried e (read bytes) found
 
     module _ (e : carries ≡ true) (small : allBytes bytes ≡ true) (passed : considered (view l) bytes ≡ judged (view l) (read bytes)) where
-      accepts : (o : Outcome (forms.Message ℕ)) → read bytes ≡ o → sound (heldIn bytes m) ≡ asHeld o → Accepted l bytes m
+      accepts : (o : Outcome (forms.Message ℕ)) → read bytes ≡ o → sound (heldIn bytes m) ≡ asHeld o → Accepted l bytes h
       unfolding asHeld judged
-      accepts (refused n) r h = absurd (refused-sound (sym h))
-      accepts (sound x) r h =
+      accepts (refused n) r k = absurd (refused-sound (sym k))
+      accepts (sound x) r k =
           record {
             fields = x;
-            held = sound-same h;
-            taken = passed ∙ ap (judged (view l)) r ∙ pick-true _ _ (sym (judges x (sound-same h)) ∙ e);
+            held = ap (heldIn bytes) (sym sent) ∙ sound-same k;
+            taken = passed ∙ ap (judged (view l)) r ∙ pick-true _ _ (sym (judge x (sound-same k)) ∙ e);
             bytes = small;
           }
 
-      pub is-accepted : Accepted l bytes m
+      pub is-accepted : Accepted l bytes h
       unfolding foundIn
       is-accepted = accepts (read bytes) refl found
+
+abbrev kind-of : codec.Held → ℕ
+kind-of (codec.message x) = x .kind
+kind-of (codec.other kind body) = kind
+
+pub true-false : true ≡ false → ⊥
+true-false e = let z : _≡_ {A = ℕ} 0 1 = cc in omega arith
+
+-- What only servers send is held with a type of theirs.
+module _ (bytes : List ℕ) (x : forms.Message ℕ) (hosts : isServers (x .kind) ≡ false) where
+  no-server : (k : ℕ) → isServers k ≡ true → k ≡ x .kind → ⊥
+  no-server k t e = let z : true ≡ false = sym t ∙ ap isServers e ∙ hosts in true-false z
+
+  no-host : (k : Message) → senderOf k ≡ sender.Server → heldIn bytes k ≡ codec.message x → ⊥
+  unfolding heldIn isServers
+  no-host (found-message.ReadData f) e h = no-server forms.readData refl (ap kind-of h)
+  no-host (found-message.OutOfBand discard character) e h = no-server forms.outOfBand refl (ap kind-of h)
+  no-host (found-message.WriteCompletion lost horizontal vertical) e h = no-server forms.writeCompletion refl (ap kind-of h)
+  no-host (found-message.DiscardState kept) e h = no-server forms.discardState refl (ap kind-of h)
+  no-host (found-message.InputCount count) e h = no-server forms.inputCount refl (ap kind-of h)
+  no-host (found-message.InputState nonzero) e h = no-server forms.inputState refl (ap kind-of h)
+  no-host (found-message.Other kind body) e h = let z : _≡_ {A = ℕ} 0 1 = cc in omega arith
+  no-host (found-message.Initiate f) e h = let z : _≡_ {A = ℕ} 0 1 = cc in omega arith
+  no-host (found-message.StartRead f) e h = let z : _≡_ {A = ℕ} 0 1 = cc in omega arith
+  no-host (found-message.Unread condition) e h = let z : _≡_ {A = ℕ} 0 1 = cc in omega arith
+  no-host found-message.ClearInput e h = let z : _≡_ {A = ℕ} 0 1 = cc in omega arith
+  no-host (found-message.Write f) e h = let z : _≡_ {A = ℕ} 0 1 = cc in omega arith
+  no-host (found-message.ReadCharacteristics p) e h = let z : _≡_ {A = ℕ} 0 1 = cc in omega arith
+  no-host (found-message.Characteristics p) e h = let z : _≡_ {A = ℕ} 0 1 = cc in omega arith
+  no-host found-message.CheckInput e h = let z : _≡_ {A = ℕ} 0 1 = cc in omega arith
+
+-- A message that only servers send does not pass the early rows.
+module _ (bytes : List ℕ) (hosts : isHosts (byteAt bytes 0) ≡ true) where
+  server-kind : (x : forms.Message ℕ) → read bytes ≡ sound x → isServers (x .kind) ≡ false
+  unfolding isHosts fieldsAs
+  server-kind x e =
+      let first = ap (λ y. y .kind) (readable bytes x e .fields) in
+      ap isServers (sym first) ∙ not-true (isServers (byteAt bytes 0)) (halves (definedKind (byteAt bytes 0)) (not (isServers (byteAt bytes 0))) hosts .1)
+
+  server-held : (m : Message) → senderOf m ≡ sender.Server → (o : Outcome (forms.Message ℕ)) → read bytes ≡ o → sound (heldIn bytes m) ≡ asHeld o → ⊥
+  unfolding asHeld
+  server-held m e (refused n) r h = refused-sound (sym h)
+  server-held m e (sound x) r h = no-host bytes x (server-kind x r) m e (sound-same h)
+
+  pub server-found : (m : Message) → senderOf m ≡ sender.Server → foundIn bytes (found.Message m) ≡ asHeld (read bytes) → ⊥
+  unfolding foundIn
+  server-found m e h = server-held m e (read bytes) refl h

@@ -9,9 +9,11 @@ use Rattle.rules.specs.Calls.{answers, hears, does}
 use Rattle.rules.specs.Bounds.{isByteEvent}
 use Rattle.line.specs.declared.events.Event.{Event}
 use Rattle.line.specs.declared.events.Event.the-variants.{Key, Tick, Step, Host}
+use Rattle.line.specs.declared.events.HostMessage.{HostMessage}
+use native.Mathlib.Omega.{arith}
 use Rattle.line.specs.declared.Line.{Line}
 use Rattle.line.specs.View.{view}
-use Rattle.line.specs.Obeyed.{obeysHeld}
+use Rattle.line.specs.HostMessages.{obeysHeld}
 use Rattle.line.specs.Events.{Admitted, eventPart, eventOf}
 
 -- the rules answer an event that is admitted by the part that it is
@@ -29,3 +31,16 @@ module _ (l : Line) (s : List ℕ) where
   event-bytes Tick a = refl
   event-bytes Step a = refl
   event-bytes (Host m) a = a .bytes
+
+-- events of different cases are different
+pub key-host : {c : ℕ} {m : HostMessage} → Key c ≡ Host m → ⊥
+key-host e = let z : _≡_ {A = ℕ} 0 1 = cc in omega arith
+
+pub tick-host : {m : HostMessage} → Tick ≡ Host m → ⊥
+tick-host e = let z : _≡_ {A = ℕ} 0 1 = cc in omega arith
+
+pub step-host : {m : HostMessage} → Step ≡ Host m → ⊥
+step-host e = let z : _≡_ {A = ℕ} 0 1 = cc in omega arith
+
+pub event-same : {m n : HostMessage} → Host m ≡ Host n → m ≡ n
+event-same e = cc

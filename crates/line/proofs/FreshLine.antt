@@ -1,35 +1,63 @@
 -- A line made of fresh parts is fresh, and within bounds.
-use mathlib.Core.Path.{_≡_, sym, subst}
-use mathlib.Core.Bool.{false}
-use mathlib.Core.List.{[]}
-use mathlib.Core.Option.{none}
-use Rattle.rules.specs.State.{fresh, freshHost, freshTerminal}
+use mathlib.Core.Path.{_≡_, refl, sym, subst}
+use Prim.Native.Nat.{ℕ, _≤_}
+use native.Mathlib.Omega.{arith}
+use mathlib.Core.Bool.{true, false}
+use mathlib.Core.List.{List, []}
+use lib.ListN.{length, take, replicate}
+use Rattle.rules.specs.Numbers.{inputSize, typeAheadSize}
+use Rattle.rules.specs.StartRead.{universal}
+use Rattle.rules.specs.State.{fresh, freshHost, freshSwitches}
 use Rattle.rules.specs.Bounds as bounds
 use Rattle.rules.proofs.Bounds.Calls.{fresh-bounded}
-use Rattle.characteristics.specs.declared.Host.{Host}
-use Rattle.line.specs.declared.Terminal.{Terminal}
-use Rattle.line.specs.declared.Typed.{Typed}
-use Rattle.line.specs.declared.Reading.{Reading}
+use Rattle.characteristics.specs.declared.Set.{Set}
+use Rattle.characteristics.specs.View.{setOf, CountedSet}
+use Rattle.line.specs.declared.Terms.{Terms}
+use Rattle.line.specs.declared.Flow.{Flow}
 use Rattle.line.specs.declared.Line.{Line}
-use Rattle.characteristics.specs.View.{hostOf, CountedHost}
-use Rattle.line.specs.View.{terminalOf, typedOf, view}
-use Rattle.line.specs.Bounded.{CountedTyped, CountedReading, IsFresh}
+use Rattle.line.specs.View.{keysOf, tokenOf, readingOf, pendingOf, view}
+use Rattle.line.specs.Bounded.{IsFreshFlow, IsFresh}
 
-abbrev pub lineOf : Host → Terminal → Typed → Reading → Line
-lineOf h k t r = record { host = h; terminal = k; typed = t; pending = false; reading = r }
-
-module _ (h : Host) (k : Terminal) (t : Typed) (r : Reading)
-    (host : hostOf h ≡ freshHost) (terminal : terminalOf k ≡ freshTerminal) (typed : typedOf t ≡ record { typeAhead = []; token = [] }) where
-  fresh-view : view (lineOf h k t r) ≡ fresh
-  unfolding fresh
-  fresh-view = λ i. record { host = host i; terminal = terminal i; typed = typed i; read = none }
-
-  pub is-fresh : CountedHost h → CountedTyped t → CountedReading r → IsFresh (lineOf h k t r)
-  is-fresh a b c =
+module _ (keys text : List ℕ) (set : Set) (terms : Terms) (flow : Flow) where
+  abbrev lineOf : Line
+  lineOf =
       record {
-        state = fresh-view;
-        bounded = record {
-          state = subst bounds.Bounded (sym fresh-view) fresh-bounded;
-          counted = record { table = a .table; set = a .set; typed = b; reading = c };
-        };
+        attributes = replicate 256 0;
+        keys = keys;
+        text = text;
+        set = set;
+        «last_set» = set;
+        initiated = false;
+        switches = record { raising = false; echoing = true; recognising = false; prompting = false };
+        terms = terms;
+        flow = flow;
       }
+
+  module _ (f : IsFreshFlow flow) (universal-set : (setOf set ≡ universal) × CountedSet set) where
+    fresh-view : view lineOf ≡ fresh
+    unfolding fresh freshHost freshSwitches keysOf tokenOf
+    fresh-view = λ i.
+        record {
+          host = record { begun = false; switches = freshSwitches; attributes = replicate 256 0; lastSet = universal-set .0 i };
+          terminal = f .terminal i;
+          typed = record { typeAhead = keysOf (f .waiting i) keys; token = take (f .token i) (flow .typed .token) };
+          read = pendingOf (f .pending i) (readingOf lineOf (flow .reading));
+        }
+
+    pub is-fresh : length keys ≡ typeAheadSize → length text ≡ inputSize → terms .«prompt_len» ≡ 0 → IsFresh lineOf
+    is-fresh k x p =
+        record {
+          state = fresh-view;
+          bounded = record {
+            state = subst bounds.Bounded (sym fresh-view) fresh-bounded;
+            counted = record {
+              table = refl;
+              keys = k;
+              text = x;
+              set = universal-set .1;
+              lastSet = universal-set .1;
+              shown = omega arith;
+              flow = f .counted;
+            };
+          };
+        }

@@ -1,13 +1,13 @@
 -- More parts of a call as parts of the rules: nothing written, another read or token, no read.
 use mathlib.Core.Path.{_≡_, refl, sym, ap, _∙_}
-use Prim.Native.Nat.{ℕ, _-_, _<_}
+use Prim.Native.Nat.{ℕ, _-_, _≤_, _<_}
 use native.Mathlib.Omega.{arith}
 use mathlib.Core.Bool.{Bool, true, false, not, _||_}
 use mathlib.Core.List.{List, [], _∷_, _++_}
-use mathlib.Core.Option.{none}
+use mathlib.Core.Option.{none, some}
 use lib.ListN.{length, take}
 use Rattle.rules.specs.Choice.{pick, bit, isEmpty, joined}
-use Rattle.rules.specs.Numbers.{tokenSize}
+use Rattle.rules.specs.Numbers.{inputSize, tokenSize}
 use Rattle.rules.specs.Area.{puts, spot}
 use Rattle.rules.specs.State as rules
 use Rattle.rules.specs.State.{codes, withTyped, withRead, withFrom, withIdle}
@@ -21,20 +21,23 @@ use Rattle.rules.specs.Messages.Forms as forms
 use Rattle.message.specs.Found.{heldIn, partOf}
 use Rattle.message.specs.declared.Message.the-variants.{ReadData}
 use Rattle.line.specs.declared.Work.{Work}
+use Rattle.line.specs.declared.Line.{Line}
 use Rattle.line.specs.declared.Reading.{Reading}
 use Rattle.line.specs.declared.Typed.{Typed}
-use Rattle.line.specs.View.{view, inputOf, readingOf, keysOf, tokenOf}
-use Rattle.line.specs.Bounded.{Counted, CountedTyped, CountedReading}
-use Rattle.line.specs.With.{onLine, onRead, onTyped, offRead}
-use Rattle.line.specs.ReadingParts.{Becomes, idling, shownAt}
+use Rattle.line.specs.declared.Terms.{Terms}
+use Rattle.line.specs.declared.Flow.{Flow}
+use Rattle.line.specs.View.{view, inputOf, readingOf, pendingOf, keysOf, tokenOf}
+use Rattle.line.specs.Bounded.{CountedTyped, CountedFlow, CountedReading}
+use Rattle.line.specs.With.{goesOn, onRead, onTyped, offRead, onFlow, lent}
+use Rattle.line.specs.ReadingParts.{idling, shownAt}
 use Rattle.line.specs.TokenParts.{codesOf, untokened, tokened}
-use Rattle.line.specs.Promise.{Does}
+use Rattle.line.specs.Promise.{Progress, on, Does}
 use Rattle.rules.proofs.Tests.{pick-true, pick-false}
 use Rattle.line.proofs.Works.{changes-does, still-does}
 use Rattle.line.proofs.Appends.{input-length}
-use Rattle.line.proofs.Held.{tokened-keys, tokened-token, tokened-counted}
+use Rattle.line.proofs.Held.{tokened-token}
 
-module _ {w r : Work} {t t′ m m′ : List ℕ} where
+module _ {w r : Progress} {t t′ m m′ : List ℕ} where
   -- the same bytes by another name
   pub same-writes : {bs cs : List ℕ} → bs ≡ cs → Does (writes bs) w t m r t′ m′ → Does (writes cs) w t m r t′ m′
   same-writes e h = rw (sym e) h
@@ -54,7 +57,6 @@ module _ {w r : Work} {t t′ m m′ : List ℕ} where
         state = h .state;
         shows = h .shows;
         sends = h .sends;
-        counted = h .counted;
         terminalLength = h .terminalLength;
         messagesLength = h .messagesLength;
       }
@@ -62,13 +64,12 @@ module _ {w r : Work} {t t′ m m′ : List ℕ} where
   pub unwritten-does : {g : Part ℕ} {bs : List ℕ} → bs ≡ [] → Does g w t m r t′ m′ → Does (writes bs then g) w t m r t′ m′
   unwritten-does e h = rw e (nothing-does h)
 
-none-does : (w : Work) (t m : List ℕ) → Counted (w .line) → Does (writes []) w t m w t m
+none-does : (w : Progress) (t m : List ℕ) → Does (writes []) w t m w t m
 unfolding writes shownAll messageBytes joined puts
-none-does w t m c =
-    record { state = refl; shows = refl; sends = refl; counted = c; terminalLength = refl; messagesLength = refl }
+none-does w t m = record { state = refl; shows = refl; sends = refl; terminalLength = refl; messagesLength = refl }
 
-pub blank-does : (w : Work) (t m : List ℕ) {bs : List ℕ} → bs ≡ [] → Counted (w .line) → Does (writes bs) w t m w t m
-blank-does w t m e c = rw e (none-does w t m c)
+pub blank-does : (w : Progress) (t m : List ℕ) {bs : List ℕ} → bs ≡ [] → Does (writes bs) w t m w t m
+blank-does w t m e = rw e (none-does w t m)
 
 -- A choice at a state, taken.
 module _ (rule f g : Part ℕ) (v : rules.State ℕ) {test : Bool} where
@@ -79,14 +80,13 @@ module _ (rule f g : Part ℕ) (v : rules.State ℕ) {test : Bool} where
   second-at e b = e ∙ ap (λ p. p v) (pick-false g f b)
 
 -- A rule that looks at its state, and chooses there.
-module _ {rule f : Part ℕ} {w r : Work} {t t′ m m′ : List ℕ} where
+module _ {rule f : Part ℕ} {w r : Progress} {t t′ m m′ : List ℕ} where
   pub here-part : rule (view (w .line)) ≡ f (view (w .line)) → Does f w t m r t′ m′ → Does rule w t m r t′ m′
   here-part e h =
       record {
         state = h .state ∙ ap (λ u. u .state) (sym e);
         shows = h .shows ∙ ap (λ u. puts (u .bytes) (spot t (w .at))) (sym e);
         sends = h .sends ∙ ap (λ u. puts (messageBytes codes u) (spot m (w .sent))) (sym e);
-        counted = h .counted;
         terminalLength = h .terminalLength;
         messagesLength = h .messagesLength;
       }
@@ -98,68 +98,102 @@ module _ {rule f : Part ℕ} {w r : Work} {t t′ m m′ : List ℕ} where
     pub here-second : rule (view (w .line)) ≡ pick test g f (view (w .line)) → test ≡ false → Does f w t m r t′ m′ → Does rule w t m r t′ m′
     here-second e b h = here-part (second-at rule f g (view (w .line)) e b) h
 
-module _ {rule : Part ℕ} {w : Work} {test : Bool} (f : Part ℕ) where
-  pub here-only : {r : Work} {t t′ m m′ : List ℕ} → rule (view (w .line)) ≡ only test f (view (w .line)) → test ≡ true →
+module _ {rule : Part ℕ} {w : Progress} {test : Bool} (f : Part ℕ) where
+  pub here-only : {r : Progress} {t t′ m m′ : List ℕ} → rule (view (w .line)) ≡ only test f (view (w .line)) → test ≡ true →
       Does f w t m r t′ m′ → Does rule w t m r t′ m′
   unfolding only
   here-only e b h = here-first still e b h
 
-  pub here-not : (t m : List ℕ) → rule (view (w .line)) ≡ only test f (view (w .line)) → test ≡ false → Counted (w .line) → Does rule w t m w t m
+  pub here-not : (t m : List ℕ) → rule (view (w .line)) ≡ only test f (view (w .line)) → test ≡ false → Does rule w t m w t m
   unfolding only
-  here-not t m e b c = here-second f e b (still-does w t m c)
+  here-not t m e b = here-second f e b (still-does w t m)
 
--- A line with another read, or another token, is counted.
-module _ {w v : Work} (c : Counted (w .line)) where
-  pub read-counted : (r : Reading) → CountedReading r → v ≡ onLine (onRead r (w .line)) w → Counted (v .line)
-  read-counted r k h = rw h (record { table = c .table; set = c .set; typed = c .typed; reading = k })
+-- A call that goes on with another flow.
+module _ (w : Work) {v : Work} where
+  pub goes-counted : {f : Flow} → v ≡ goesOn f w → CountedFlow f → CountedFlow (v .flow)
+  goes-counted h c = rw h c
 
-  pub off-does : v ≡ onLine (offRead (w .line)) w → (t m : List ℕ) → Does (changes (withRead none)) w t m v t m
-  off-does h t m =
-      rw h (changes-does t m (withRead none) refl refl refl
-      (record { table = c .table; set = c .set; typed = c .typed; reading = c .reading }))
+  pub goes-does : {f : Flow} (l : Line) (g : rules.State ℕ → rules.State ℕ) → v ≡ goesOn f w → view (onFlow f l) ≡ g (view (onFlow (w .flow) l)) →
+      (t m : List ℕ) → Does (changes g) (on l w) t m (on l v) t m
+  goes-does l g h e t m = rw h (changes-does t m g e refl refl)
 
-  typed-does : (next : Typed) {keys : List (rules.Key ℕ)} {token : List ℕ} → CountedTyped next → keysOf next ≡ keys → tokenOf next ≡ token →
-      v ≡ onLine (onTyped next (w .line)) w → (t m : List ℕ) → Does (changes (withTyped keys token)) w t m v t m
-  typed-does next {keys} {token} k e f h t m =
-      rw h (changes-does t m (withTyped keys token) (λ i. withTyped (e i) (f i) (view (w .line))) refl refl
-      (record { table = c .table; set = c .set; typed = k; reading = c .reading }))
+  -- with this read pending, which stands for another; and with none
+  module _ (r : Reading) (h : v ≡ goesOn (onRead r (w .flow)) w) where
+    pub read-counted : CountedFlow (w .flow) → r .count ≤ inputSize → CountedFlow (v .flow)
+    read-counted c n = goes-counted h (record { typed = c .typed; within = n })
 
-  -- without the token
-  pub cleared-does : {next : Typed} → next ≡ untokened (w .line .typed) → v ≡ onLine (onTyped next (w .line)) w → (t m : List ℕ) →
-      Does (changes (withTyped (keysOf (w .line .typed)) [])) w t m v t m
-  unfolding keysOf tokenOf
-  cleared-does {next} e h t m =
-      let k = c .typed in
-      typed-does (untokened (w .line .typed)) (record { keys = k .keys; waiting = k .waiting; token = k .token; begun = omega arith }) refl refl
-      (h ∙ ap (λ n. onLine (onTyped n (w .line)) w) e) t m
+    pub read-does : (l : Line) {e : rules.Reading ℕ} → readingOf l r ≡ e → (t m : List ℕ) →
+        Does (changes (withRead (some e))) (on l w) t m (on l v) t m
+    read-does l {e} same t m =
+        goes-does l (withRead (some e)) h (λ i. withRead (some (same i)) (view (onFlow (w .flow) l))) t m
 
-  -- one byte more in it
-  pub tokened-does : (b : ℕ) {next : Typed} → w .line .typed .«token_len» < tokenSize → next ≡ tokened b (w .line .typed) →
-      v ≡ onLine (onTyped next (w .line)) w → (t m : List ℕ) →
-      Does (changes (λ s. withTyped (s .typed .typeAhead) (s .typed .token ++ b ∷ []) s)) w t m v t m
-  tokened-does b {next} room e h t m =
-      let typed = w .line .typed in
-      let n = tokened b typed in
-      rw (h ∙ ap (λ x. onLine (onTyped x (w .line)) w) e)
-      (changes-does t m (λ s. withTyped (s .typed .typeAhead) (s .typed .token ++ b ∷ []) s)
-      (λ i. withTyped (tokened-keys typed (c .typed) b i) (tokened-token typed (c .typed) b room i) (view (w .line))) refl refl
-      (record { table = c .table; set = c .set; typed = tokened-counted typed (c .typed) b room; reading = c .reading }))
+  pub off-does : v ≡ goesOn (offRead (w .flow)) w → (l : Line) (t m : List ℕ) → Does (changes (withRead none)) (on l w) t m (on l v) t m
+  off-does h l t m = goes-does l (withRead none) h refl t m
+
+  -- with another token, and the keys that wait
+  module _ {next : Typed} (h : v ≡ goesOn (onTyped next (w .flow)) w) where
+    pub typed-counted : CountedFlow (w .flow) → CountedTyped next → CountedFlow (v .flow)
+    typed-counted c k = goes-counted h (record { typed = k; within = c .within })
+
+    -- without the token
+    pub cleared-does : next ≡ untokened (w .flow .typed) → (l : Line) (t m : List ℕ) →
+        Does (changes (withTyped (keysOf (w .flow .typed .waiting) (l .keys)) [])) (on l w) t m (on l v) t m
+    unfolding tokenOf
+    cleared-does e l t m =
+        goes-does l (withTyped (keysOf (w .flow .typed .waiting) (l .keys)) [])
+        (h ∙ ap (λ n. goesOn (onTyped n (w .flow)) w) e) refl t m
+
+    -- one byte more in it
+    pub tokened-does : (b : ℕ) → CountedTyped (w .flow .typed) → w .flow .typed .«token_len» < tokenSize → next ≡ tokened b (w .flow .typed) →
+        (l : Line) (t m : List ℕ) →
+        Does (changes (λ s. withTyped (s .typed .typeAhead) (s .typed .token ++ b ∷ []) s)) (on l w) t m (on l v) t m
+    tokened-does b c room e l t m =
+        let typed = w .flow .typed in
+        goes-does l (λ s. withTyped (s .typed .typeAhead) (s .typed .token ++ b ∷ []) s)
+        (h ∙ ap (λ n. goesOn (onTyped n (w .flow)) w) e)
+        (λ i. withTyped (keysOf (typed .waiting) (l .keys)) (tokened-token typed c b room i) (view (onFlow (w .flow) l))) t m
+
+-- with this read pending, whose text has changed
+module _ (w : Work) {v : Work} (r : Reading) (h : v ≡ goesOn (onRead r (w .flow)) w) where
+  pub text-does : (t : Terms) (text text′ : List ℕ) (l : Line) {e : rules.Reading ℕ} → readingOf (lent t text′ l) r ≡ e → (a m : List ℕ) →
+      Does (changes (withRead (some e))) (on (lent t text l) w) a m (on (lent t text′ l) v) a m
+  text-does t text text′ l {e} same a m =
+      rw h (changes-does a m (withRead (some e)) (λ i. withRead (some (same i)) (view (onFlow (w .flow) (lent t text l)))) refl refl)
+
+-- with no read pending the text does not show
+pub ended-does : {p : Part ℕ} {w : Progress} {t t′ m m′ : List ℕ} (v : Work) (terms : Terms) (text text′ : List ℕ) (l : Line) → v .flow .pending ≡ false →
+    Does p w t m (on (lent terms text l) v) t′ m′ → Does p w t m (on (lent terms text′ l) v) t′ m′
+ended-does v terms text text′ l e h =
+    let none = ap (λ p. pendingOf p (readingOf (lent terms text l) (v .flow .reading))) e in
+    let none′ = ap (λ p. pendingOf p (readingOf (lent terms text′ l) (v .flow .reading))) e in
+    record {
+      state = (λ i. withRead ((none′ ∙ sym none) i) (view (onFlow (v .flow) (lent terms text l)))) ∙ h .state;
+      shows = h .shows;
+      sends = h .sends;
+      terminalLength = h .terminalLength;
+      messagesLength = h .messagesLength;
+    }
 
 -- a read with the column, or idle, set
-pub from-becomes : {r next : Reading} {column : ℕ} → CountedReading r → next ≡ shownAt column r → Becomes (withFrom column (readingOf r)) next
-unfolding inputOf
-from-becomes c e = rw e (record { view = refl; counted = record { terms = c .terms; input = c .input; within = c .within } })
+pub from-same : (r : Reading) {next : Reading} {column : ℕ} → next ≡ shownAt column r → (l : Line) → readingOf l next ≡ withFrom column (readingOf l r)
+from-same r e l = rw e refl
 
-pub idle-becomes : {r next : Reading} {idle : ℕ} → CountedReading r → next ≡ idling idle r → Becomes (withIdle idle (readingOf r)) next
-unfolding inputOf
-idle-becomes c e = rw e (record { view = refl; counted = record { terms = c .terms; input = c .input; within = c .within } })
+pub idle-same : (r : Reading) {next : Reading} {idle : ℕ} → next ≡ idling idle r → (l : Line) → readingOf l next ≡ withIdle idle (readingOf l r)
+idle-same r e l = rw e refl
+
+pub from-count : (r : Reading) {next : Reading} {column : ℕ} → next ≡ shownAt column r → r .count ≤ inputSize → next .count ≤ inputSize
+from-count r e h = rw e h
+
+pub idle-count : (r : Reading) {next : Reading} {idle : ℕ} → next ≡ idling idle r → r .count ≤ inputSize → next .count ≤ inputSize
+idle-count r e h = rw e h
 
 -- the answer of a read, as the program sends it
-module _ (w : Work) (r : Reading) (code ending : ℕ) {more vertical horizontal : ℕ} (c : CountedReading r) where
-  pub answer-held : more ≡ bit (not (isEmpty (keysOf (w .line .typed))) || isWhole (codesOf (w .line .typed))) →
-      vertical ≡ change (w .line .terminal .screen .line) (r .terms .line) →
-      horizontal ≡ change (w .line .terminal .screen .column) (r .terms .column) →
-      heldIn (r .input)
+module _ (f : Flow) (t : Terms) (r : Reading) (code ending : ℕ) {more vertical horizontal : ℕ} where
+  pub answer-held : (text : List ℕ) (k l : Line) → CountedReading r text →
+      more ≡ bit (not (isEmpty (keysOf (f .typed .waiting) (k .keys))) || isWhole (codesOf (f .typed))) →
+      vertical ≡ change (f .terminal .screen .line) (t .line) →
+      horizontal ≡ change (f .terminal .screen .column) (t .column) →
+      heldIn text
       (ReadData (record {
         code = code;
         more = more;
@@ -169,14 +203,15 @@ module _ (w : Work) (r : Reading) (code ending : ℕ) {more vertical horizontal 
         terminator = r .count - ending;
         text = record { start = 0; len = r .count };
       }))
-      ≡ codec.message (answerOf codes code ending (readingOf r) (view (w .line)))
+      ≡ codec.message (answerOf codes code ending (readingOf (lent t text l) r) (view (onFlow f k)))
   unfolding heldIn partOf answerOf moreData inputOf
-  answer-held m v h =
-      let n : r .count - ending ≡ length (inputOf r) - ending = ap (λ k. k - ending) (sym (input-length r c)) in λ i.
+  answer-held text k l c m v h =
+      let n : r .count - ending ≡ length (inputOf (r .count) text) - ending =
+      ap (λ j. j - ending) (sym (input-length (r .count) text (omega arith))) in λ i.
       codec.message (record {
         kind = forms.readData;
         numbers = code ∷ m i ∷ r .«low_water» ∷ v i ∷ h i ∷ n i ∷ [];
         set = [];
         parameters = [];
-        text = take (r .count) (r .input);
+        text = take (r .count) text;
       })

@@ -3,6 +3,7 @@ use mathlib.Core.Path.{_≡_, refl, sym, ap, _∙_, subst}
 use Prim.Native.Nat.{ℕ}
 use mathlib.Core.Bool.{Bool, true, false}
 use mathlib.Core.List.{List}
+use lib.ListN.{length}
 use mathlib.Core.Option.{Option, none, some}
 use Rattle.rules.specs.Choice.{pick}
 use Rattle.rules.specs.State as rules
@@ -10,19 +11,19 @@ use Rattle.rules.specs.Turns.{Fate, Part, tells, changes, behind, _then_}
 use Rattle.rules.specs.Area.{puts, spot}
 use Rattle.rules.specs.Calls.{messageBytes}
 use Rattle.line.specs.declared.Line.{Line}
-use Rattle.line.specs.declared.Work.{Work}
 use Rattle.line.specs.declared.acts.Act.{Act}
 use Rattle.line.specs.declared.events.Event.{Event}
-use Rattle.line.specs.declared.Answer.{Answer}
-use Rattle.line.specs.View.{view, pendingOf, readingOf}
-use Rattle.line.specs.Events.{Admitted, Comes, eventPart, eventOf}
+use Rattle.line.specs.declared.events.Seen.{Seen}
+use Rattle.line.specs.Events.{Admitted, Sees, eventPart, eventOf}
+use Rattle.line.specs.Rows.{areRoomy}
 use Rattle.line.specs.Answers.{Answers, doneAnswer}
-use Rattle.line.specs.Bounded.{Counted}
-use Rattle.line.specs.Promise.{Does}
-use Rattle.line.specs.Acts.{keyTaken, takesKey, actPart, Ready, effectOf, Meets}
-use Rattle.line.proofs.Joints.{first-at, second-at}
+use Rattle.line.specs.Bounded.{Counted, Bounded}
 use Rattle.line.proofs.Evented.{event-answers, event-bytes}
 use Rattle.line.proofs.Answering.{begun, answered}
+use Rattle.line.specs.View.{view, pendingOf, readingOf}
+use Rattle.line.specs.Promise.{Progress, Does}
+use Rattle.line.specs.Acts.{keyTaken, takesKey, actPart, Ready, effectOf, Meets}
+use Rattle.line.proofs.Joints.{first-at, second-at}
 
 module _ {s : List ℕ} {l : Line} {a : Act} where
   pub met : Ready s l a → Meets (actPart s l a) s l a
@@ -57,11 +58,11 @@ module _ {s : List ℕ} {l : Line} {a : Act} where
 
   -- A rule that looks whether a read is pending.
   module _ (F : Option (rules.Reading ℕ) → Part ℕ) where
-    pub meets-pending : l .pending ≡ true → Meets (F (some (readingOf (l .reading)))) s l a → Meets (λ v. F (v .read) v) s l a
-    meets-pending e h = meets-as (ap (λ p. F (pendingOf p (l .reading)) (view l)) e) h
+    pub meets-pending : l .flow .pending ≡ true → Meets (F (some (readingOf l (l .flow .reading)))) s l a → Meets (λ v. F (v .read) v) s l a
+    meets-pending e h = meets-as (ap (λ p. F (pendingOf p (readingOf l (l .flow .reading))) (view l)) e) h
 
-    pub meets-none : l .pending ≡ false → Meets (F none) s l a → Meets (λ v. F (v .read) v) s l a
-    meets-none e h = meets-as (ap (λ p. F (pendingOf p (l .reading)) (view l)) e) h
+    pub meets-none : l .flow .pending ≡ false → Meets (F none) s l a → Meets (λ v. F (v .read) v) s l a
+    meets-none e h = meets-as (ap (λ p. F (pendingOf p (readingOf l (l .flow .reading))) (view l)) e) h
 
   -- what became of keys is not seen
   pub meets-told : {f : Part ℕ} (fs : List (Fate ℕ)) → Meets f s l a → Meets (tells fs then f) s l a
@@ -69,7 +70,7 @@ module _ {s : List ℕ} {l : Line} {a : Act} where
   meets-told fs h = record { same = h .same; ready = h .ready }
 
 -- An act that is done is the rule that meets it.
-module _ {rule : Part ℕ} {s : List ℕ} {w r : Work} {a : Act} {t t′ m m′ : List ℕ} where
+module _ {rule : Part ℕ} {s : List ℕ} {w r : Progress} {a : Act} {t t′ m m′ : List ℕ} where
   pub act-does : Meets rule s (w .line) a → Does (actPart s (w .line) a) w t m r t′ m′ → Does rule w t m r t′ m′
   unfolding effectOf
   act-does h d =
@@ -78,27 +79,19 @@ module _ {rule : Part ℕ} {s : List ℕ} {w r : Work} {a : Act} {t t′ m m′ 
         state = d .state ∙ ap (λ x. x .state) (sym e);
         shows = d .shows ∙ ap (λ x. puts (x .bytes) (spot t (w .at))) (sym e);
         sends = d .sends ∙ ap (λ x. puts (x .messages) (spot m (w .sent))) (sym e);
-        counted = d .counted;
         terminalLength = d .terminalLength;
         messagesLength = d .messagesLength;
       }
 
 -- An event, by its case.
-module _ (s : List ℕ) {l : Line} {a : Act} {e f : Event} where
-  pub event-meets : e ≡ f → Admitted l s e → (Admitted l s f → Meets (eventPart s f) s l a) → Meets (eventPart s e) s l a
-  event-meets h b k = subst (λ x. Meets (eventPart s x) s l a) (sym h) (k (subst (Admitted l s) h b))
+module _ (s : List ℕ) (l : Line) (seen : Seen) {a : Act} {e f : Event} where
+  pub event-meets : e ≡ f → Sees s l seen e → (Sees s l seen f → Meets (eventPart s f) s l a) → Meets (eventPart s e) s l a
+  event-meets h b k = subst (λ x. Meets (eventPart s x) s l a) (sym h) (k (subst (Sees s l seen) h b))
 
 -- The answer to an event is that of the act which it meets.
-module _ {l : Line} {s t m : List ℕ} {e : Event} (c : Comes l s e t m) {a : Act} (h : (z : List ℕ) → Admitted l z e → Meets (eventPart z e) z l a) where
-  pub act-ready : {f : Act} → a ≡ f → Ready s l f
-  act-ready k = subst (Ready s l) k (h s (c .admitted) .ready)
-
-  pub act-asks : {f : Act} → a ≡ f → Counted l × Ready s l f
-  act-asks k = (c .bounded .counted, act-ready k)
-
-  pub act-answers : {f : Act} → a ≡ f → {w : Work} {t′ m′ : List ℕ} → Does (actPart s l f) (begun l) t m w t′ m′ → {r : Answer} → r ≡ doneAnswer w →
-      Answers (eventOf s e) l t m r t′ m′
-  act-answers k {w} {t′} {m′} d eq =
-      let does = act-does (h s (c .admitted)) (subst (λ x. Does (actPart s l x) (begun l) t m w t′ m′) (sym k) d) in
-      rw eq
-      (answered (eventOf s e) l t m (c .bounded) (eventPart s e) (event-answers l s e (c .admitted)) (event-bytes l s e (c .admitted)) (c .roomy) w t′ m′ does)
+module _ (e : Event) (s t m : List ℕ) (l : Line) (b : Bounded l) (admitted : Admitted l s e) (room : areRoomy (length t) (length m) ≡ true)
+    {a : Act} (h : Meets (eventPart s e) s l a) where
+  pub act-answers : (w : Progress) (t′ m′ : List ℕ) → Does (actPart s l a) (begun l) t m w t′ m′ → Counted (w .line) →
+      Answers (eventOf s e) l t m (doneAnswer w) t′ m′
+  act-answers w t′ m′ d k =
+      answered (eventOf s e) l t m b (eventPart s e) (event-answers l s e admitted) (event-bytes l s e admitted) room w t′ m′ (act-does h d) k

@@ -8,47 +8,35 @@ use lib.Dec.{eqb}
 use lib.ListN.{length}
 use borrow.Author.Tests.{ne-eqb}
 use Rattle.rules.specs.Choice.{isEmpty}
-use Rattle.rules.specs.State as rules
-use Rattle.rules.specs.State.{withHost, withTerminal, withDiscarding}
+use Rattle.rules.specs.State.{withTerminal, withDiscarding}
 use Rattle.rules.specs.Messages.Forms.{Message}
 use Rattle.rules.specs.Turns.{writes, sends, changes, _then_, only}
 use Rattle.rules.specs.ReadData.{waitingCount}
 use Rattle.rules.specs.Host.{keepsOutput, wantsCompletion, completion, writesOut}
 use Rattle.line.specs.declared.Typed.{Typed}
-use Rattle.line.specs.declared.Line.{Line}
-use Rattle.line.specs.declared.Work.{Work}
-use Rattle.characteristics.specs.declared.Host.{Host}
-use Rattle.characteristics.specs.View.{hostOf, CountedHost}
-use Rattle.line.specs.With.{onLine, onHost}
+use Rattle.line.specs.declared.Flow.{Flow}
 use Rattle.line.specs.View.{view, keysOf, tokenOf, typedOf, inputOf}
-use Rattle.line.specs.Bounded.{CountedTyped, Counted}
-use Rattle.line.specs.Promise.{Does}
-use Rattle.line.proofs.Works.{then-does, here-does, changes-does}
-use Rattle.line.proofs.Keys.{keys-length}
-use Rattle.line.proofs.Held.{empty-take, token-counted, keys-empty}
-use Rattle.line.proofs.Room.{input-empty}
+use Rattle.line.specs.Bounded.{CountedTyped, CountedFlow, CountedReading}
+use Rattle.line.specs.Promise.{Progress, Does}
+use Rattle.line.proofs.Works.{then-does, here-does}
+use Rattle.line.proofs.KeyArrays.{keys-length, keys-empty}
+use Rattle.line.proofs.Held.{empty-take, token-counted}
+use Rattle.line.proofs.Appends.{input-empty}
 
-pub waiting-count : (t : Typed) → CountedTyped t → t .waiting + t .«token_len» ≡ waitingCount (typedOf t)
+pub waiting-count : (keys : List ℕ) (t : Typed) → CountedTyped t → t .waiting + t .«token_len» ≡ waitingCount (typedOf keys t)
 unfolding waitingCount
-waiting-count t c = sym (ap₂ _+_ (keys-length t c) (token-counted t c))
+waiting-count keys t c = sym (ap₂ _+_ (keys-length (t .waiting) keys) (token-counted t c))
 
 -- nothing typed, and nothing in the read
-pub nothing-typed : (l : Line) → Counted l →
-    eqb (l .typed .waiting) 0 && eqb (l .typed .«token_len») 0 && eqb (l .reading .count) 0
-    ≡ isEmpty (keysOf (l .typed)) && isEmpty (tokenOf (l .typed)) && isEmpty (inputOf (l .reading))
+pub nothing-typed : (keys text : List ℕ) (f : Flow) → CountedFlow f → CountedReading (f .reading) text →
+    eqb (f .typed .waiting) 0 && eqb (f .typed .«token_len») 0 && eqb (f .reading .count) 0
+    ≡ isEmpty (keysOf (f .typed .waiting) keys) && isEmpty (tokenOf (f .typed)) && isEmpty (inputOf (f .reading .count) text)
 unfolding tokenOf
-nothing-typed l c =
-    let t = l .typed in
+nothing-typed keys text f c full =
+    let t = f .typed in
     sym (ap₂ _&&_
-    (ap₂ _&&_ (keys-empty t (c .typed)) (empty-take (t .«token_len») (t .token) (omega (arith, c .typed .begun, c .typed .token))))
-    (input-empty (l .reading) (c .reading)))
-
--- A line with other settings of the host.
-pub host-does : {w v : Work} (x : Host) (f : rules.Host → rules.Host) → hostOf x ≡ f (hostOf (w .line .host)) → Counted (w .line) → CountedHost x →
-    v ≡ onLine (onHost x (w .line)) w → (t m : List ℕ) → Does (changes (λ s. withHost (f (s .host)) s)) w t m v t m
-host-does {w} x f e c k h t m =
-    rw h (changes-does t m _ (λ i. withHost (e i) (view (w .line))) refl refl
-    (record { table = k .table; set = k .set; typed = c .typed; reading = c .reading }))
+    (ap₂ _&&_ (keys-empty (t .waiting) keys) (empty-take (t .«token_len») (t .token) (omega (arith, c .typed .begun, c .typed .token))))
+    (input-empty (f .reading) text full))
 
 pub some-text : (text : List ℕ) → not (eqb (length text) 0) ≡ not (isEmpty text)
 unfolding isEmpty
@@ -56,7 +44,7 @@ some-text [] = refl
 some-text (b ∷ bs) = ap not (ne-eqb (length (b ∷ bs)) 0 (λ e. omega arith))
 
 -- the three parts of a Write
-module _ (x : Message ℕ) {w v u r : Work} {t t′ m m′ : List ℕ} where
+module _ (x : Message ℕ) {w v u r : Progress} {t t′ m m′ : List ℕ} where
   pub writes-out-does : Does (only (eqb (keepsOutput x) 1) (changes (λ s. withTerminal (withDiscarding false (s .terminal)) s))) w t m v t m →
       Does (λ s. only (not (s .terminal .discarding)) (writes (x .text)) s) v t m u t′ m →
       Does (only (eqb (wantsCompletion x) 1) (λ s. sends (completion x (view (w .line)) s) s)) u t′ m r t′ m′ →

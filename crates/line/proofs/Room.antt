@@ -1,76 +1,93 @@
 -- What a step knows of a pending read, and the key that it takes.
 use mathlib.Core.Path.{_≡_, refl, sym, ap, _∙_, subst}
-use Prim.Native.Nat.{ℕ, _<_}
+use Prim.Native.Nat.{ℕ, _+_, _-_, _≤_, _<_}
 use native.Mathlib.Omega.{arith}
 use mathlib.Core.Bool.{true}
 use mathlib.Core.List.{List}
 use mathlib.Core.Option.{some}
-use lib.Dec.{eqb}
-use Rattle.rules.specs.Choice.{isEmpty}
-use Rattle.rules.specs.Numbers.{tokenSize}
-use Rattle.rules.specs.State as rules
+use lib.ListN.{length, length-drop}
+use Rattle.rules.specs.Numbers.{inputSize, typeAheadSize, tokenSize}
 use Rattle.rules.specs.State.{withTyped, withRead}
-use Rattle.rules.specs.Turns.{Part, _then_}
+use Rattle.rules.specs.Turns.{_then_}
 use Rattle.line.specs.declared.Line.{Line}
+use Rattle.line.specs.declared.Flow.{Flow}
 use Rattle.line.specs.declared.Work.{Work}
+use Rattle.line.specs.declared.Terms.{Terms}
 use Rattle.line.specs.declared.Reading.{Reading}
-use Rattle.line.specs.declared.Typed.{Typed}
-use Rattle.line.specs.View.{view, inputOf, readingOf}
-use Rattle.line.specs.Bounded.{Counted, CountedReading, Bounded}
-use Rattle.line.specs.With.{onLine, onRead, onTyped}
-use Rattle.line.specs.ReadingParts.{Becomes, HasRoom, idling}
-use Rattle.line.specs.TokenParts.{FirstTaken}
-use Rattle.line.specs.Promise.{Does}
-use Rattle.line.specs.Acts.{idleAtZero, keyTaken, takesKey, HasTakenKey}
+use Rattle.line.specs.declared.acts.Taken.{Taken}
+use Rattle.line.specs.View.{view, promptOf, readingOf, tokenOf}
+use Rattle.line.specs.Bounded.{CountedFlow, CountedReading, Bounded}
+use Rattle.line.specs.With.{goesOn, onFlow, lent}
+use Rattle.line.specs.KeyParts.{shifted}
+use Rattle.line.specs.ReadingParts.{HasRoom, idling}
+use Rattle.line.specs.Promise.{Progress, on, Does}
+use Rattle.line.specs.Acts.{idleAtZero, keyTaken, takesKey, takenPart, CanTakeKey, HasTakenKey}
+use Rattle.line.proofs.KeyArrays.{first-gone}
 use Rattle.line.proofs.Appends.{end-is}
-use Rattle.line.proofs.Held.{empty-take}
 use Rattle.line.proofs.Works.{changes-does, then-does}
 use Rattle.line.proofs.Joints.{for-equal}
 
-pub pending-room : (l : Line) → Bounded l → l .pending ≡ true → HasRoom (l .reading)
+prompt-length : (n : ℕ) (text : List ℕ) → n ≤ inputSize → length text ≡ inputSize → length (promptOf n text) ≡ n
+unfolding promptOf
+prompt-length n text h e = let long = length-drop (inputSize - n) text in omega arith
+
+pub pending-room : (l : Line) → Bounded l → l .flow .pending ≡ true → HasRoom (l .terms) (l .flow .reading)
 pending-room l b e =
-    let r = l .reading in
+    let r = l .flow .reading in
     let read = rw e at (b .state .read) in
-    let counted = b .counted .reading in
-    let end = end-is r counted in
+    let counted = b .counted in
+    let full : CountedReading r (l .text) = record { within = counted .flow .within; full = counted .text } in
+    let end = end-is (l .terms) (l .text) l r full in
+    let prompt = prompt-length (l .terms .«prompt_len») (l .text) (counted .shown) (counted .text) in
     let largest = read .terms .largest in
     let room = read .room in
-    record { counted = counted; largest = largest; room = omega arith }
-
-pub idle-room : {r next : Reading} {idle : ℕ} → HasRoom r → next ≡ idling idle r → HasRoom next
-idle-room h e =
-    let c = h .counted in
-    rw e
-    (record {
-      counted = record { terms = c .terms; input = c .input; within = c .within };
-      largest = h .largest;
-      room = h .room;
-    })
-
-pub input-empty : (r : Reading) → CountedReading r → isEmpty (inputOf r) ≡ eqb (r .count) 0
-unfolding inputOf
-input-empty r c = empty-take (r .count) (r .input) (omega arith)
+    let shown = read .terms .prompt in
+    record { largest = largest; room = omega arith; prompt = omega arith }
 
 -- the first key goes, and the read is no longer idle
-module _ {w v u : Work} (rest : Typed) (next : Reading) (f : FirstTaken (w .line .typed) rest) (c : Counted (w .line))
-    (b : Becomes (idleAtZero (w .line)) next) (h : v ≡ onLine (onTyped rest (w .line)) w) (k : u ≡ onLine (onRead next (v .line)) v) where
-  pub taken-does : (t m : List ℕ) → Does (takesKey (w .line)) w t m u t m
-  taken-does t m =
-      rw (k ∙ ap (λ x. onLine (onRead next (x .line)) x) h)
-      (changes-does t m (keyTaken (w .line))
-      (λ i. withRead (some (b .view i)) (withTyped (f .keys i) (f .token i) (view (w .line)))) refl refl
-      (record { table = c .table; set = c .set; typed = f .counted; reading = b .counted }))
+abbrev pub taken : Reading → Flow → Flow
+taken next f =
+    let t = f .typed in
+    record {
+      terminal = f .terminal;
+      typed = record { waiting = t .waiting - 1; token = t .token; «token_len» = t .«token_len» };
+      pending = true;
+      reading = next;
+    }
 
-  pub taken-short : w .line .typed .«token_len» < tokenSize → u .line .typed .«token_len» < tokenSize
-  taken-short s =
-      let same = ap (λ x. x .line .typed .«token_len») (k ∙ ap (λ x. onLine (onRead next (x .line)) x) h) in
-      omega (arith, same, f .begun)
+pub has-taken : (w : Work) (next : Reading) → CountedFlow (w .flow) → 0 < w .flow .typed .waiting → next ≡ idling 0 (w .flow .reading) →
+    HasTakenKey w (goesOn (taken next (w .flow)) w)
+unfolding tokenOf
+has-taken w next c waits e =
+    let f = w .flow in
+    let within = ap (λ r. r .count) e in
+    record {
+      counted = record {
+        typed = record { waiting = omega (arith, c .typed .waiting); token = c .typed .token; begun = c .typed .begun };
+        within = omega (arith, c .within);
+      };
+      does = λ l size t m.
+          changes-does t m (keyTaken (onFlow f l))
+          (λ i.
+          withRead (some (readingOf l (e i)))
+          (withTyped (first-gone (f .typed .waiting) (l .keys) waits (omega (arith, size, c .typed .waiting)) i) (tokenOf (f .typed)) (view (onFlow f l))))
+          refl refl;
+      reading = e;
+      token = refl;
+    }
 
 -- and what a rule then does with its read
-module _ {w v : Work} {r : Reading} (k : HasTakenKey w v) (e : r ≡ v .line .reading) where
-  pub key-room : HasRoom r
-  key-room = subst HasRoom (sym e) (k .room)
+module _ {w v : Work} (k : HasTakenKey w v) where
+  pub key-room : (t : Terms) → HasRoom t (w .flow .reading) → HasRoom t (v .flow .reading)
+  key-room t h = subst (HasRoom t) (sym (k .reading)) (record { largest = h .largest; room = h .room; prompt = h .prompt })
 
-  pub key-then : {u : Work} {t t′ m m′ : List ℕ} (F : rules.Reading ℕ → Part ℕ) → Does (F (readingOf r)) v t m u t′ m′ →
-      Does (takesKey (w .line) then F (idleAtZero (w .line))) w t m u t′ m′
-  key-then {u} {t} {t′} {m} {m′} F d = then-does (k .does t m) (for-equal F (ap readingOf e ∙ k .becomes .view) d)
+  pub key-text : (text : List ℕ) → length text ≡ inputSize → CountedReading (v .flow .reading) text
+  key-text text e = record { within = k .counted .within; full = e }
+
+  pub key-then : {a b : Taken} → a ≡ b → (t : Terms) (text : List ℕ) (l : Line) → length (l .keys) ≡ typeAheadSize → {u : Progress} {x x′ m m′ : List ℕ} →
+      Does (takenPart b (readingOf (lent t text l) (v .flow .reading))) (on (lent t text (shifted (w .flow) l)) v) x m u x′ m′ →
+      Does (takesKey (onFlow (w .flow) (lent t text l)) then takenPart a (idleAtZero (onFlow (w .flow) (lent t text l)))) (on (lent t text l) w) x m u x′ m′
+  key-then {a} {b} e t text l size {u} {x} {x′} {m} {m′} d =
+      then-does (k .does (lent t text l) size x m)
+      (for-equal (λ j. takenPart j (idleAtZero (onFlow (w .flow) (lent t text l)))) (sym e)
+      (for-equal (takenPart b) (ap (readingOf (lent t text l)) (k .reading)) d))

@@ -24,8 +24,9 @@ use Rattle.writing.specs.Puts.{Puts}
 use Rattle.writing.proofs.Lengths.{Sendable, sent-framed}
 use Rattle.line.specs.declared.Work.{Work}
 use Rattle.line.specs.With.{afterSent}
-use Rattle.line.specs.Bounded.{Counted}
-use Rattle.line.specs.Promise.{Does}
+use Rattle.line.specs.declared.Line.{Line}
+use Rattle.line.specs.Bounded.{CountedFlow}
+use Rattle.line.specs.Promise.{on, Does}
 
 -- one message, in the bytes of a turn
 one-message : (x : forms.Message ℕ) → joined (framed (sentBytes (mapText (λ n. n) x)) ∷ []) ≡ framed (sentBytes x)
@@ -33,23 +34,26 @@ unfolding joined
 one-message x = append-nil _ ∙ ap (λ y. framed (sentBytes y)) (mapText-same x)
 
 -- a message was put behind its length
-pub sent-does : {w v : Work} {n : ℕ} {a a′ : List ℕ} (x : forms.Message ℕ) → Counted (w .line) → Puts (framed (sentBytes x)) a (w .sent) n a′ →
-    v ≡ afterSent n w → (t : List ℕ) → Does (sends x) w t a v t a′
+pub sent-does : {w v : Work} {n : ℕ} {a a′ : List ℕ} (x : forms.Message ℕ) → Puts (framed (sentBytes x)) a (w .sent) n a′ →
+    v ≡ afterSent n w → (l : Line) (t : List ℕ) → Does (sends x) (on l w) t a (on l v) t a′
 unfolding sends messageBytes puts
-sent-does {w} {v} {n} {a} {a′} x c p e t =
+sent-does {w} {v} {n} {a} {a′} x p e l t =
     rw e (record {
       state = refl;
       shows = refl;
       sends = p .area ∙ ap (λ bs. puts bs (spot a (w .sent))) (sym (one-message x));
-      counted = c;
       terminalLength = refl;
       messagesLength = p .same;
     })
 
-module _ {w v : Work} (m : Message) (s : List ℕ) {a a′ : List ℕ} {n : ℕ} (c : Counted (w .line))
+pub sent-counted : (w : Work) {v : Work} {n : ℕ} → v ≡ afterSent n w → CountedFlow (w .flow) → CountedFlow (v .flow)
+sent-counted w e c = rw e c
+
+module _ {w v : Work} (m : Message) (s : List ℕ) {a a′ : List ℕ} {n : ℕ}
     (p : Puts (layout.bytesOf 2 (parts.sizeOf (partsOf m)) ++ frontBytes (heldIn s m)) a (w .sent) n a′) where
-  pub sends-does : v ≡ afterSent n w → (x : forms.Message ℕ) → Sendable s m x → inside (length s) (partsOf m) ≡ true → (t : List ℕ) → Does (sends x) w t a v t a′
-  sends-does e x k i t = sent-does x c (rw (sent-framed k i) at p) e t
+  pub sends-does : v ≡ afterSent n w → (x : forms.Message ℕ) → Sendable s m x → inside (length s) (partsOf m) ≡ true → (l : Line) (t : List ℕ) →
+      Does (sends x) (on l w) t a (on l v) t a′
+  sends-does e x k i l t = sent-does x (rw (sent-framed k i) at p) e l t
 
 -- a text in front of a slice lies inside it
 pub text-inside : (n size : ℕ) → n ≤ size → inside size (parts.withText 3 8 (record { start = 0; len = n })) ≡ true

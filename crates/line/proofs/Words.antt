@@ -67,11 +67,11 @@ left-by text end spaces left h e f =
     let word : leading isWord (drop k (reverse ns)) ≡ leading isWord (reverse (take spaces text)) = ap (leading isWord) behind in
     omega arith
 
-pub leaves-23 : (r : Reading) (spaces left : ℕ) → CountedReading r → spaces ≡ before (ofClass false) (r .count) (r .input) →
-    left ≡ before (ofClass true) spaces (r .input) → LeftBy23 r left
+pub leaves-23 : (r : Reading) (text : List ℕ) (spaces left : ℕ) → CountedReading r text → spaces ≡ before (ofClass false) (r .count) text →
+    left ≡ before (ofClass true) spaces text → LeftBy23 text r left
 unfolding inputOf
-leaves-23 r spaces left c e f =
+leaves-23 r text spaces left c e f =
     record {
-      left-by = left-by (r .input) (r .count) spaces left (omega arith) e f ∙ ap leftBy23 (sym (map-id (take (r .count) (r .input))));
+      left-by = λ t l. left-by text (r .count) spaces left (omega arith) e f ∙ ap leftBy23 (sym (map-id (take (r .count) text)));
       within = omega arith;
     }

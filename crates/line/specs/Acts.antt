@@ -4,7 +4,7 @@ use mathlib.Core.Path.{_≡_}
 use mathlib.Core.Bool.{false}
 use mathlib.Core.List.{List}
 use mathlib.Core.Option.{some}
-use lib.ListN.{drop}
+use lib.ListN.{length, drop}
 use Rattle.rules.specs.Numbers.{typeAheadSize, tokenSize}
 use Rattle.rules.specs.State as rules
 use Rattle.rules.specs.State.{State, codes, withTyped, withRead, withIdle}
@@ -14,26 +14,41 @@ use Rattle.rules.specs.Arrival.{stores, storesQuoted, sendsOutOfBand, clearsAtO
 use Rattle.rules.specs.Steps.{takesToken, addsToToken, terminates, edits, takesData}
 use Rattle.rules.specs.Calls.{messageBytes}
 use Rattle.message.specs.Found.{heldIn}
+use Rattle.line.specs.declared.Terms.{Terms}
+use Rattle.line.specs.declared.Flow.{Flow}
 use Rattle.line.specs.declared.Line.{Line}
 use Rattle.line.specs.declared.Work.{Work}
+use Rattle.line.specs.declared.acts.Taken.{Taken}
+use Rattle.line.specs.declared.acts.Taken.the-variants.{Token, Terminator, Edit, Data}
 use Rattle.line.specs.declared.acts.Act.{Act}
 use Rattle.line.specs.declared.acts.Act.the-variants.{Nothing, Stores, StoresQuoted, SendsOutOfBand, ClearsAtOnce, Quotes, Clears, FlipsDiscard}
-use Rattle.line.specs.declared.acts.Act.the-variants.{TakesToken, AddsToToken, Terminates, Edits, TakesData, TimesOut, Idles, Obeys}
+use Rattle.line.specs.declared.acts.Act.the-variants.{TakesToken, Takes, TimesOut, Idles, Obeys}
 use Rattle.line.specs.View.{view, keysOf, readingOf}
-use Rattle.line.specs.ReadingParts.{Becomes, HasRoom}
-use Rattle.line.specs.Obeyed.{Accepted, obeysHeld}
-use Rattle.line.specs.Promise.{Does}
+use Rattle.line.specs.ReadingParts.{HasRoom, idling}
+use Rattle.line.specs.With.{onFlow, onKeys, lent}
+use Rattle.line.specs.KeyParts.{keysAfter, shifted}
+use Rattle.line.specs.Bounded.{CountedFlow}
+use Rattle.line.specs.Promise.{on, Does}
+use Rattle.line.specs.HostMessages.{messageOf, Accepted, obeysHeld, flowPart, Startables, Prompts}
 
 -- the read of a line, with idle at 0
 abbrev pub idleAtZero : Line → rules.Reading ℕ
-idleAtZero l = withIdle 0 (readingOf (l .reading))
+idleAtZero l = withIdle 0 (readingOf l (l .flow .reading))
 
--- the first key is gone from type-ahead, and idle is 0: the text of `takesFirst`, so that the two are one
+-- what `takesFirst` changes before the key's rule: the first key is gone from type-ahead, and idle is 0
 abbrev pub keyTaken : Line → State ℕ → State ℕ
-keyTaken l s = withRead (some (idleAtZero l)) (withTyped (drop 1 (keysOf (l .typed))) (s .typed .token) s)
+keyTaken l s =
+    withRead (some (idleAtZero l)) (withTyped (drop 1 (keysOf (l .flow .typed .waiting) (l .keys))) (s .typed .token) s)
 
 abbrev pub takesKey : Line → Part ℕ
 takesKey l = changes (keyTaken l)
+
+-- the rule that a taken key meets
+abbrev pub takenPart : Taken → rules.Reading ℕ → Part ℕ
+takenPart (Token c) r = addsToToken codes c r
+takenPart (Terminator c) r = terminates codes c r
+takenPart (Edit c) r = edits codes c r
+takenPart (Data c) r = takesData codes c r
 
 -- The part of the rules that an act is; `s` is the slice of a host message. `quotes` and `flipsDiscard` want their key, rule 3's 22 and 15, only
 -- to say what became of it.
@@ -46,36 +61,30 @@ actPart s l (ClearsAtOnce c) = clearsAtOnce codes c
 actPart s l Quotes = quotes 22
 actPart s l Clears = clears codes
 actPart s l FlipsDiscard = flipsDiscard 15
-actPart s l TakesToken = takesToken codes (readingOf (l .reading))
-actPart s l (AddsToToken c) = takesKey l then addsToToken codes c (idleAtZero l)
-actPart s l (Terminates c) = takesKey l then terminates codes c (idleAtZero l)
-actPart s l (Edits c) = takesKey l then edits codes c (idleAtZero l)
-actPart s l (TakesData c) = takesKey l then takesData codes c (idleAtZero l)
-actPart s l TimesOut = completes codes byTimeout 0 (readingOf (l .reading))
-actPart s l (Idles idle) = changes (withRead (some (withIdle idle (readingOf (l .reading)))))
-actPart s l (Obeys m) = obeysHeld (heldIn s m)
+actPart s l TakesToken = takesToken codes (readingOf l (l .flow .reading))
+actPart s l (Takes k) = takesKey l then takenPart k (idleAtZero l)
+actPart s l TimesOut = completes codes byTimeout 0 (readingOf l (l .flow .reading))
+actPart s l (Idles idle) = changes (withRead (some (withIdle idle (readingOf l (l .flow .reading)))))
+actPart s l (Obeys m) = obeysHeld (heldIn s (messageOf m))
 
 -- a key can be taken: one waits, a read has room for it, and so has a token that is begun
-pub record CanTakeKey (l : Line) : Type 0 where
-  pub room : HasRoom (l .reading)
-  pub waits : 0 < l .typed .waiting
-  pub short : l .typed .«token_len» < tokenSize
+pub record CanTakeKey (f : Flow) (t : Terms) : Type 0 where
+  pub room : HasRoom t (f .reading)
+  pub waits : 0 < f .typed .waiting
+  pub short : f .typed .«token_len» < tokenSize
 
 -- what an act asks of the line
 abbrev pub Ready : List ℕ → Line → Act → Type 0
 Ready s l Nothing = Unit {0}
-Ready s l (Stores c) = Unit {0}
-Ready s l (StoresQuoted c) = Unit {0}
+Ready s l (Stores c) = c < 256
+Ready s l (StoresQuoted c) = c < 256
 Ready s l (SendsOutOfBand c) = Unit {0}
 Ready s l (ClearsAtOnce c) = Unit {0}
 Ready s l Quotes = Unit {0}
 Ready s l Clears = Unit {0}
 Ready s l FlipsDiscard = Unit {0}
-Ready s l TakesToken = HasRoom (l .reading)
-Ready s l (AddsToToken c) = CanTakeKey l
-Ready s l (Terminates c) = CanTakeKey l
-Ready s l (Edits c) = CanTakeKey l
-Ready s l (TakesData c) = CanTakeKey l
+Ready s l TakesToken = HasRoom (l .terms) (l .flow .reading)
+Ready s l (Takes k) = CanTakeKey (l .flow) (l .terms)
 Ready s l TimesOut = Unit {0}
 Ready s l (Idles idle) = Unit {0}
 Ready s l (Obeys m) = Accepted l s m
@@ -94,9 +103,64 @@ pub record Meets (rule : Part ℕ) (s : List ℕ) (l : Line) (a : Act) : Type 0 
   pub same : effectOf (rule (view l)) ≡ effectOf (actPart s l a (view l))
   pub ready : Ready s l a
 
--- what is known of a call that has taken one
+-- what is known of a call that has taken the first key
 pub record HasTakenKey (w v : Work) : Type 0 where
-  pub does : (t m : List ℕ) → Does (takesKey (w .line)) w t m v t m
-  pub becomes : Becomes (idleAtZero (w .line)) (v .line .reading)
-  pub room : HasRoom (v .line .reading)
-  pub short : v .line .typed .«token_len» < tokenSize
+  pub counted : CountedFlow (v .flow)
+  pub does : (l : Line) → length (l .keys) ≡ typeAheadSize → (t m : List ℕ) →
+      Does (takesKey (onFlow (w .flow) l)) (on l w) t m (on (shifted (w .flow) l) v) t m
+  pub reading : v .flow .reading ≡ idling 0 (w .flow .reading)
+  pub token : v .flow .typed .«token_len» ≡ w .flow .typed .«token_len»
+
+-- what an act asks of the flow and the terms
+abbrev pub Fits : List ℕ → Flow → Terms → Act → Type 0
+Fits s f t Nothing = Unit {0}
+Fits s f t (Stores c) = c < 256
+Fits s f t (StoresQuoted c) = c < 256
+Fits s f t (SendsOutOfBand c) = Unit {0}
+Fits s f t (ClearsAtOnce c) = Unit {0}
+Fits s f t Quotes = Unit {0}
+Fits s f t Clears = Unit {0}
+Fits s f t FlipsDiscard = Unit {0}
+Fits s f t TakesToken = HasRoom t (f .reading)
+Fits s f t (Takes k) = CanTakeKey f t
+Fits s f t TimesOut = Unit {0}
+Fits s f t (Idles idle) = Unit {0}
+Fits s f t (Obeys m) = Startables s m
+
+-- the part of the rules that an act does to the flow and the text
+abbrev pub flowAct : List ℕ → Line → Act → Part ℕ
+flowAct s l Nothing = actPart s l Nothing
+flowAct s l (Stores c) = actPart s l (Stores c)
+flowAct s l (StoresQuoted c) = actPart s l (StoresQuoted c)
+flowAct s l (SendsOutOfBand c) = actPart s l (SendsOutOfBand c)
+flowAct s l (ClearsAtOnce c) = actPart s l (ClearsAtOnce c)
+flowAct s l Quotes = actPart s l Quotes
+flowAct s l Clears = actPart s l Clears
+flowAct s l FlipsDiscard = actPart s l FlipsDiscard
+flowAct s l TakesToken = actPart s l TakesToken
+flowAct s l (Takes k) = actPart s l (Takes k)
+flowAct s l TimesOut = actPart s l TimesOut
+flowAct s l (Idles idle) = actPart s l (Idles idle)
+flowAct s l (Obeys m) = flowPart s l m
+
+abbrev pub PromptsBy : Terms → Line → Act → Type 0
+PromptsBy t l Nothing = Unit {0}
+PromptsBy t l (Stores c) = Unit {0}
+PromptsBy t l (StoresQuoted c) = Unit {0}
+PromptsBy t l (SendsOutOfBand c) = Unit {0}
+PromptsBy t l (ClearsAtOnce c) = Unit {0}
+PromptsBy t l Quotes = Unit {0}
+PromptsBy t l Clears = Unit {0}
+PromptsBy t l FlipsDiscard = Unit {0}
+PromptsBy t l TakesToken = Unit {0}
+PromptsBy t l (Takes k) = Unit {0}
+PromptsBy t l TimesOut = Unit {0}
+PromptsBy t l (Idles idle) = Unit {0}
+PromptsBy t l (Obeys m) = Prompts t l m
+
+-- the act is done: from the line with these terms and this text to the one with its keys moved and its text changed
+abbrev pub Done : List ℕ → Act → Terms → Line → Work → List ℕ → List ℕ → List ℕ → Work → List ℕ → List ℕ → List ℕ → Type 0
+Done s act t l w text terminal messages r text′ terminal′ messages′ =
+    length (l .keys) ≡ typeAheadSize → PromptsBy t l act →
+    Does (flowAct s (onFlow (w .flow) (lent t text l)) act) (on (lent t text l) w) terminal messages
+    (on (lent t text′ (onKeys (keysAfter act (w .flow .typed .waiting) (l .keys)) l)) r) terminal′ messages′

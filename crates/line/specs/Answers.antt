@@ -8,9 +8,9 @@ use Rattle.rules.specs.Calls as rules
 use Rattle.rules.specs.Calls.{Event, messageBytes, areaAfter}
 use Rattle.line.specs.declared.Line.{Line}
 use Rattle.line.specs.declared.Answer.{Answer}
-use Rattle.line.specs.declared.Work.{Work}
 use Rattle.line.specs.View.{view}
 use Rattle.line.specs.Bounded.{Bounded}
+use Rattle.line.specs.Promise.{Progress}
 
 -- the rules' answer to an event, from the line's view, in areas of these lengths
 abbrev pub ruled : Event ℕ → Line → List ℕ → List ℕ → rules.Answer ℕ
@@ -32,5 +32,5 @@ abbrev pub refusal : ℕ → Line → Answer
 refusal n l = record { line = l; number = n; terminal = 0; messages = 0 }
 
 -- what a call that is done answers
-abbrev pub doneAnswer : Work → Answer
+abbrev pub doneAnswer : Progress → Answer
 doneAnswer w = record { line = w .line; number = 0; terminal = w .at; messages = w .sent }

@@ -1,21 +1,23 @@
--- Events: what each is of the rules. A host message stands in a slice.
+-- Events: what each is of the rules, and what is seen of the line before it. A host message stands in a slice.
 use Prim.Native.Nat.{ℕ, _<_}
 use mathlib.Core.Path.{_≡_}
-use mathlib.Core.Bool.{true}
 use mathlib.Core.List.{List}
-use lib.ListN.{length}
+use lib.ListN.{getD}
 use Rattle.rules.specs.State.{codes}
 use Rattle.rules.specs.Turns.{Part}
 use Rattle.rules.specs.Arrival.{arrives}
-use Rattle.rules.specs.Steps.{steps, ticks}
+use Rattle.rules.specs.StartRead.{inSet}
+use Rattle.rules.specs.Steps.{raisedBy, steps, ticks}
 use Rattle.rules.specs.Calls as rules
 use Rattle.message.specs.Found.{heldIn}
+use Rattle.characteristics.specs.View.{setOf}
 use Rattle.line.specs.declared.Line.{Line}
+use Rattle.line.specs.declared.events.Seen.{Seen}
 use Rattle.line.specs.declared.events.Event.{Event}
 use Rattle.line.specs.declared.events.Event.the-variants.{Key, Tick, Step, Host}
+use Rattle.line.specs.View.{keyOf, readingOf}
 use Rattle.line.specs.Bounded.{Bounded}
-use Rattle.line.specs.Rows.{areRoomy}
-use Rattle.line.specs.Obeyed.{Accepted, obeysHeld}
+use Rattle.line.specs.HostMessages.{messageOf, Accepted, obeysHeld}
 
 -- a key is a byte, and a message is one that the line accepts
 abbrev pub Admitted : Line → List ℕ → Event → Type 0
@@ -24,18 +26,25 @@ Admitted l s Tick = Unit {0}
 Admitted l s Step = Unit {0}
 Admitted l s (Host m) = Accepted l s m
 
--- an event comes to a line within its bounds, with areas that are large enough
-pub record Comes (l : Line) (s : List ℕ) (e : Event) (terminal messages : List ℕ) : Type 0 where
+-- what a step looks at
+pub record SeesStep (l : Line) (seen : Seen) : Type 0 where
   pub bounded : Bounded l
-  pub admitted : Admitted l s e
-  pub roomy : areRoomy (length terminal) (length messages) ≡ true
+  pub first : seen .first ≡ getD (l .keys) 0 0
+  pub ends : seen .ends ≡ inSet (setOf (l .set)) (raisedBy codes (readingOf l (l .flow .reading)) (keyOf (seen .first) .char))
+
+-- what is seen of the line is so
+abbrev pub Sees : List ℕ → Line → Seen → Event → Type 0
+Sees s l seen (Key c) = (seen .initiated ≡ l .initiated) × (seen .attribute ≡ getD (l .attributes) c 0)
+Sees s l seen Tick = Unit {0}
+Sees s l seen Step = SeesStep l seen
+Sees s l seen (Host m) = Accepted l s m
 
 -- the part of the rules that an event is
 unfoldable pub eventPart : List ℕ → Event → Part ℕ
 eventPart s (Key c) = arrives codes c
 eventPart s Tick = ticks codes
 eventPart s Step = steps codes
-eventPart s (Host m) = obeysHeld (heldIn s m)
+eventPart s (Host m) = obeysHeld (heldIn s (messageOf m))
 
 unfoldable pub eventOf : List ℕ → Event → rules.Event ℕ
 eventOf s (Key c) = rules.key c

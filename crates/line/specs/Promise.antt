@@ -7,14 +7,34 @@ use Rattle.rules.specs.State.{codes}
 use Rattle.rules.specs.Turns.{Part}
 use Rattle.rules.specs.Calls.{messageBytes}
 use Rattle.rules.specs.Area.{puts, spot}
+use Rattle.line.specs.declared.Line.{Line}
 use Rattle.line.specs.declared.Work.{Work}
 use Rattle.line.specs.View.{view}
-use Rattle.line.specs.Bounded.{Counted}
+use Rattle.line.specs.With.{onFlow}
 
-pub record Does (part : Part ℕ) (w : Work) (terminal messages : List ℕ) (r : Work) (terminal′ messages′ : List ℕ) : Type 0 where
+-- a call on its way, with the whole of its line
+pub record Progress : Type 0 where
+  pub line : Line
+  pub at : ℕ
+  pub sent : ℕ
+
+-- a call's work on the flow of this line
+abbrev pub on : Line → Work → Progress
+on l w = record { line = onFlow (w .flow) l; at = w .at; sent = w .sent }
+
+pub record Does (part : Part ℕ) (w : Progress) (terminal messages : List ℕ) (r : Progress) (terminal′ messages′ : List ℕ) : Type 0 where
   pub state : view (r .line) ≡ part (view (w .line)) .state
   pub shows : spot terminal′ (r .at) ≡ puts (part (view (w .line)) .bytes) (spot terminal (w .at))
   pub sends : spot messages′ (r .sent) ≡ puts (messageBytes codes (part (view (w .line)))) (spot messages (w .sent))
-  pub counted : Counted (r .line)
   pub terminalLength : length terminal′ ≡ length terminal
   pub messagesLength : length messages′ ≡ length messages
+
+-- a part that looks at the line which the call works on
+abbrev pub DoesOn : (Line → Part ℕ) → Line → Work → List ℕ → List ℕ → Work → List ℕ → List ℕ → Type 0
+DoesOn part l w terminal messages r terminal′ messages′ =
+    Does (part l) (on l w) terminal messages (on l r) terminal′ messages′
+
+-- and one that changes the line's arrays too
+abbrev pub DoesAcross : (Line → Part ℕ) → Line → Work → List ℕ → List ℕ → Line → Work → List ℕ → List ℕ → Type 0
+DoesAcross part l w terminal messages l′ r terminal′ messages′ =
+    Does (part l) (on l w) terminal messages (on l′ r) terminal′ messages′

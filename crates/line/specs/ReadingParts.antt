@@ -8,54 +8,56 @@ use lib.ListN.{length, take, drop}
 use Rattle.rules.specs.Numbers.{inputSize}
 use Rattle.rules.specs.Choice.{pick}
 use Rattle.rules.specs.State as rules
-use Rattle.rules.specs.Editing.{isWord, leftBy23, inputCodes, displayed}
+use Rattle.rules.specs.Editing.{isWord, leftBy23, inputCodes, displayed, shortened}
 use Rattle.rules.specs.Steps.{appended}
 use Rattle.rules.specs.Screen.{echoAll}
 use Rattle.rules.specs.Turns.{Part, writes, changes, _then_}
+use Rattle.line.specs.declared.Terms.{Terms}
 use Rattle.line.specs.declared.Reading.{Reading}
+use Rattle.line.specs.declared.Line.{Line}
 use Rattle.line.specs.View.{readingOf}
-use Rattle.line.specs.Bounded.{CountedReading}
+use Rattle.line.specs.With.{lent}
 
--- the read stands for this one
-pub record Becomes (e : rules.Reading ℕ) (r : Reading) : Type 0 where
-  pub view : readingOf r ≡ e
-  pub counted : CountedReading r
+-- a read that goes on: room for one character more, in front of the prompt
+pub record HasRoom (t : Terms) (r : Reading) : Type 0 where
+  pub largest : t .«max_length» ≤ inputSize
+  pub room : t .«end_of_prompt» + r .count < t .«max_length»
+  pub prompt : t .«prompt_len» ≤ t .«end_of_prompt»
 
--- it has more characters
-pub record Appends (cs : List ℕ) (r next : Reading) : Type 0 where
-  pub becomes : Becomes (appended cs (readingOf r)) next
+-- its first characters left
+pub record Shortened (left : ℕ) (t : Terms) (r next : Reading) : Type 0 where
+  pub same : (text : List ℕ) (l : Line) → readingOf (lent t text l) next ≡ shortened left (readingOf (lent t text l) r)
+  pub count : next .count ≡ left
+
+-- more characters, in a text that has room for them in front of the prompt
+pub record Appends (cs : List ℕ) (r : Reading) (text : List ℕ) (next : Reading) (text′ : List ℕ) : Type 0 where
+  pub same : (t : Terms) (l : Line) → r .count + length cs + t .«prompt_len» ≤ inputSize →
+      readingOf (lent t text′ l) next ≡ appended cs (readingOf (lent t text l) r)
   pub count : next .count ≡ r .count + length cs
+  pub size : length text′ ≡ length text
 
 -- what is displayed of it begins here
 pub record ShownFrom (r : Reading) (start : ℕ) : Type 0 where
-  pub text : take (r .count - start) (drop start (r .input)) ≡ displayed rules.codes (readingOf r)
+  pub text : (l : Line) → take (r .count - start) (drop start (l .text)) ≡ displayed rules.codes (readingOf l r)
   pub within : start ≤ r .count
 
 -- what 23 leaves of it
-pub record LeftBy23 (r : Reading) (left : ℕ) : Type 0 where
-  pub left-by : left ≡ leftBy23 (inputCodes rules.codes (readingOf r))
+pub record LeftBy23 (text : List ℕ) (r : Reading) (left : ℕ) : Type 0 where
+  pub left-by : (t : Terms) (l : Line) → left ≡ leftBy23 (inputCodes rules.codes (readingOf (lent t text l) r))
   pub within : left ≤ r .count
 
--- of words, or of none
+-- a word's characters, or those between words
 unfoldable pub ofClass : Bool → ℕ → Bool
 ofClass word n = pick word (isWord n) (not (isWord n))
-
--- a read that goes on: its arrays, and room for one character more
-pub record HasRoom (r : Reading) : Type 0 where
-  pub counted : CountedReading r
-  pub largest : r .terms .«max_length» ≤ inputSize
-  pub room : r .terms .«end_of_prompt» + r .count < r .terms .«max_length»
 
 -- with idle, or with the column where its data's display begins, set
 abbrev pub idling : ℕ → Reading → Reading
 idling idle r =
-    record
-    { terms = r .terms; input = r .input; count = r .count; «low_water» = r .«low_water»; hidden = r .hidden; from = r .from; idle = idle }
+    record { count = r .count; «low_water» = r .«low_water»; hidden = r .hidden; from = r .from; idle = idle }
 
 abbrev pub shownAt : ℕ → Reading → Reading
 shownAt column r =
-    record
-    { terms = r .terms; input = r .input; count = r .count; «low_water» = r .«low_water»; hidden = r .hidden; from = column; idle = r .idle }
+    record { count = r .count; «low_water» = r .«low_water»; hidden = r .hidden; from = column; idle = r .idle }
 
 -- what follows the prompt is displayed
 unfoldable pub displaysData : rules.Reading ℕ → Part ℕ

@@ -1,13 +1,25 @@
--- What is known of a Start Read that is accepted: the Start Read test, and a display that starts at 0; and the pieces of its text.
-use Prim.Native.Nat.{ℕ, _≤_}
+-- What is known of a Start Read that is accepted: the Start Read test, and a display that starts at 0; and the line that it opens a read on.
+use Prim.Native.Nat.{ℕ, _-_, _≤_}
 use mathlib.Core.Path.{_≡_}
+use mathlib.Core.Bool.{_&&_}
 use mathlib.Core.List.{List}
+use lib.Dec.{eqb}
 use lib.ListN.{length, take, drop}
 use Rattle.rules.specs.Numbers.{inputSize}
-use Rattle.rules.specs.Choice.{bit}
+use Rattle.rules.specs.Choice.{pick, bit}
+use Rattle.rules.specs.State.{codes}
+use Rattle.rules.specs.StartRead.Acceptance as rules
 use Rattle.rules.specs.StartRead.Acceptance.{hidesLF}
 use Rattle.message.specs.declared.StartReadFields.{StartReadFields}
 use Rattle.message.specs.Found.{partOf, startReadIn}
+use Rattle.screen.specs.declared.Screen.{Screen}
+use Rattle.characteristics.specs.declared.Set.{Set}
+use Rattle.characteristics.specs.declared.Switches.{Switches}
+use Rattle.characteristics.specs.View.{setOf, CountedSet}
+use Rattle.line.specs.declared.Terms.{Terms}
+use Rattle.line.specs.declared.Reading.{Reading}
+use Rattle.line.specs.declared.Line.{Line}
+use Rattle.line.specs.View.{view, termsOf, inputOf}
 
 pub record Startable (s : List ℕ) (f : StartReadFields) : Type 0 where
   pub text : length (partOf s (f .text)) ≡ f .«end_of_data»
@@ -23,7 +35,60 @@ promptIn s f = drop (bit (hidesLF (startReadIn s f))) (take (f .«end_of_prompt�
 unfoldable pub dataIn : List ℕ → StartReadFields → List ℕ
 dataIn s f = drop (f .«end_of_prompt») (partOf s (f .text))
 
--- a piece of the text, which fits into a read's array
-pub record Piece (bs piece : List ℕ) : Type 0 where
-  pub same : piece ≡ bs
-  pub short : length piece ≤ inputSize
+-- the read as it begins, at this column
+abbrev pub readingAt : List ℕ → StartReadFields → ℕ → Reading
+readingAt s f column =
+    record {
+      count = f .«end_of_data» - f .«end_of_prompt»;
+      «low_water» = f .«low_water»;
+      hidden = hidesLF (startReadIn s f) && eqb (f .«end_of_prompt») 0;
+      from = column;
+      idle = 0;
+    }
+
+-- what is fixed for the whole of the read, but for its set and text
+abbrev pub termsFor : StartReadFields → Switches → Screen → ℕ → Terms
+termsFor f switches cursor size =
+    record {
+      underflow = f .underflow;
+      disables = f .disables;
+      raises = rules.chosen (f .raises) (switches .raising);
+      recognises = rules.chosen (f .escapes) (switches .recognising);
+      echoes = eqb (f .silent) 0 && switches .echoing;
+      «terminator_echo» = eqb (f .«terminator_echo») 1;
+      «auto_prompt» = switches .prompting;
+      timed = eqb (f .timed) 1;
+      timeout = f .timeout;
+      «max_length» = f .«max_length»;
+      «end_of_prompt» = f .«end_of_prompt»;
+      «prompt_len» = size;
+      column = cursor .column;
+      line = cursor .line;
+    }
+
+-- a line with a read's terms, set and text, and the last set given with ZZ 1
+abbrev pub onOpened : Terms → Set → List ℕ → Set → Line → Line
+onOpened terms set text last l =
+    record {
+      attributes = l .attributes;
+      keys = l .keys;
+      text = text;
+      set = set;
+      «last_set» = last;
+      initiated = l .initiated;
+      switches = l .switches;
+      terms = terms;
+      flow = l .flow;
+    }
+
+-- the line with all that a Start Read fixes for its read
+pub record Opens (s : List ℕ) (f : StartReadFields) (l next : Line) : Type 0 where
+  pub same : next ≡ onOpened (next .terms) (next .set) (next .text) (next .«last_set») l
+  pub terms : termsOf next ≡ rules.termsOf codes (startReadIn s f) (view l)
+  pub input : inputOf (f .«end_of_data» - f .«end_of_prompt») (next .text) ≡ dataIn s f
+  pub prompting : next .terms .«auto_prompt» ≡ l .switches .prompting
+  pub last : setOf (next .«last_set») ≡ pick (eqb (f .«set_choice») 1) (partOf s (f .set)) (setOf (l .«last_set»))
+  pub size : length (next .text) ≡ inputSize
+  pub shown : next .terms .«prompt_len» ≤ inputSize
+  pub set : CountedSet (next .set)
+  pub lastSet : CountedSet (next .«last_set»)

@@ -1,15 +1,16 @@
--- The state of the rules that a line stands for. What lies behind a count is the program's own, and so is `reading` while none is pending, but
--- for its counts within their arrays (`CountedReading`).
-use Prim.Native.Nat.{ℕ}
+-- The state of the rules that a line stands for. What lies behind a count is the program's own, and so are `terms`, `set`, `text` and
+-- `reading` while no read is pending, but for the counts within their arrays (`Counted`).
+use Prim.Native.Nat.{ℕ, zero, suc, _-_, _%_}
 use mathlib.Core.Bool.{Bool, true, false}
-use mathlib.Core.List.{List, map}
+use mathlib.Core.List.{List, [], _∷_}
 use mathlib.Core.Option.{Option, none, some}
-use lib.ListN.{take}
+use lib.Dec.{leb}
+use lib.ListN.{take, drop}
+use Rattle.rules.specs.Numbers.{inputSize}
 use Rattle.rules.specs.State as rules
 use Rattle.screen.specs.View as screen
-use Rattle.characteristics.specs.View.{setOf, hostOf}
+use Rattle.characteristics.specs.View.{setOf, switchesOf}
 use Rattle.line.specs.declared.Terminal.{Terminal}
-use Rattle.line.specs.declared.Key.{Key}
 use Rattle.line.specs.declared.Typed.{Typed}
 use Rattle.line.specs.declared.Terms.{Terms}
 use Rattle.line.specs.declared.Reading.{Reading}
@@ -19,59 +20,73 @@ abbrev pub terminalOf : Terminal → rules.Terminal
 terminalOf t =
     record { screen = screen.view (t .screen); discarding = t .discarding; quoting = t .quoting; dropped = t .dropped }
 
-abbrev pub keyOf : Key → rules.Key ℕ
-keyOf k = record { char = k .code; quoted = k .quoted }
+-- a key as its array has it: its code, and 256 more if it is quoted
+abbrev pub keyOf : ℕ → rules.Key ℕ
+keyOf k = record { char = k % 256; quoted = leb 256 k }
 
-unfoldable pub keysOf : Typed → List (rules.Key ℕ)
-keysOf t = map keyOf (take (t .waiting) (t .keys))
+-- the first so many keys of an array; behind its end stand keys of code 0
+unfoldable pub keysOf : ℕ → List ℕ → List (rules.Key ℕ)
+keysOf zero keys = []
+keysOf (suc n) [] = keyOf 0 ∷ keysOf n []
+keysOf (suc n) (k ∷ keys) = keyOf k ∷ keysOf n keys
 
 unfoldable pub tokenOf : Typed → List ℕ
 tokenOf t = take (t .«token_len») (t .token)
 
-abbrev pub typedOf : Typed → rules.Typed ℕ
-typedOf t = record { typeAhead = keysOf t; token = tokenOf t }
+abbrev pub typedOf : List ℕ → Typed → rules.Typed ℕ
+typedOf keys t = record { typeAhead = keysOf (t .waiting) keys; token = tokenOf t }
 
-unfoldable pub promptOf : Terms → List ℕ
-promptOf t = take (t .«prompt_len») (t .prompt)
+-- the text of a read: what stands after the prompt in front, the prompt at the end
+unfoldable pub inputOf : ℕ → List ℕ → List ℕ
+inputOf count text = take count text
 
-abbrev pub termsOf : Terms → rules.Terms
-termsOf t =
+unfoldable pub promptOf : ℕ → List ℕ → List ℕ
+promptOf len text = drop (inputSize - len) text
+
+abbrev pub termsOf : Line → rules.Terms
+termsOf l =
     record {
-      underflow = t .underflow;
-      disables = t .disables;
-      raises = t .raises;
-      recognises = t .recognises;
-      echoes = t .echoes;
-      terminatorEcho = t .«terminator_echo»;
-      timed = t .timed;
-      timeout = t .timeout;
-      set = setOf (t .set);
-      maxLength = t .«max_length»;
-      endOfPrompt = t .«end_of_prompt»;
-      prompt = promptOf t;
-      column = t .column;
-      line = t .line;
+      underflow = l .terms .underflow;
+      disables = l .terms .disables;
+      raises = l .terms .raises;
+      recognises = l .terms .recognises;
+      echoes = l .terms .echoes;
+      terminatorEcho = l .terms .«terminator_echo»;
+      timed = l .terms .timed;
+      timeout = l .terms .timeout;
+      set = setOf (l .set);
+      maxLength = l .terms .«max_length»;
+      endOfPrompt = l .terms .«end_of_prompt»;
+      prompt = promptOf (l .terms .«prompt_len») (l .text);
+      column = l .terms .column;
+      line = l .terms .line;
     }
 
-unfoldable pub inputOf : Reading → List ℕ
-inputOf r = take (r .count) (r .input)
-
-abbrev pub readingOf : Reading → rules.Reading ℕ
-readingOf r =
+-- a read on this line
+abbrev pub readingOf : Line → Reading → rules.Reading ℕ
+readingOf l r =
     record {
-      terms = termsOf (r .terms);
-      input = inputOf r;
+      terms = termsOf l;
+      input = inputOf (r .count) (l .text);
       lowWater = r .«low_water»;
       hidden = r .hidden;
       from = r .from;
       idle = r .idle;
     }
 
-abbrev pub pendingOf : Bool → Reading → Option (rules.Reading ℕ)
-pendingOf true r = some (readingOf r)
+abbrev pub pendingOf : Bool → rules.Reading ℕ → Option (rules.Reading ℕ)
+pendingOf true r = some r
 pendingOf false r = none
+
+abbrev pub hostOf : Line → rules.Host
+hostOf l =
+    record { begun = l .initiated; switches = switchesOf (l .switches); attributes = l .attributes; lastSet = setOf (l .«last_set») }
 
 abbrev pub view : Line → rules.State ℕ
 view l =
-    record
-    { host = hostOf (l .host); terminal = terminalOf (l .terminal); typed = typedOf (l .typed); read = pendingOf (l .pending) (l .reading) }
+    record {
+      host = hostOf l;
+      terminal = terminalOf (l .flow .terminal);
+      typed = typedOf (l .keys) (l .flow .typed);
+      read = pendingOf (l .flow .pending) (readingOf l (l .flow .reading));
+    }

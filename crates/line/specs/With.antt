@@ -1,41 +1,84 @@
--- A line with one part changed, as the program changes it.
+-- A line, or a call on its way, with one part changed, as the program changes it.
 use Prim.Native.Nat.{ℕ}
+use mathlib.Core.Bool.{true, false}
+use mathlib.Core.List.{List}
 use Rattle.screen.specs.declared.Screen.{Screen}
 use Rattle.screen.specs.declared.Shown.{Shown}
 use Rattle.line.specs.declared.Terminal.{Terminal}
-use mathlib.Core.Bool.{true, false}
+use Rattle.line.specs.declared.Terms.{Terms}
 use Rattle.line.specs.declared.Reading.{Reading}
 use Rattle.line.specs.declared.Typed.{Typed}
-use Rattle.characteristics.specs.declared.Host.{Host}
+use Rattle.line.specs.declared.Flow.{Flow}
 use Rattle.line.specs.declared.Line.{Line}
 use Rattle.line.specs.declared.Work.{Work}
 
 abbrev pub onScreen : Screen → Terminal → Terminal
 onScreen s t = record { screen = s; discarding = t .discarding; quoting = t .quoting; dropped = t .dropped }
 
-abbrev pub onTerminal : Terminal → Line → Line
-onTerminal t l = record { host = l .host; terminal = t; typed = l .typed; pending = l .pending; reading = l .reading }
+abbrev pub onTerminal : Terminal → Flow → Flow
+onTerminal t f = record { terminal = t; typed = f .typed; pending = f .pending; reading = f .reading }
 
-abbrev pub afterShown : Shown → Work → Work
-afterShown s w = record { line = onTerminal (onScreen (s .screen) (w .line .terminal)) (w .line); at = s .at; sent = w .sent }
-
--- the call goes on with another line
-abbrev pub onLine : Line → Work → Work
-onLine l w = record { line = l; at = w .at; sent = w .sent }
-
--- the call goes on behind what was sent
-abbrev pub afterSent : ℕ → Work → Work
-afterSent n w = record { line = w .line; at = w .at; sent = n }
-
-abbrev pub onTyped : Typed → Line → Line
-onTyped t l = record { host = l .host; terminal = l .terminal; typed = t; pending = l .pending; reading = l .reading }
-
-abbrev pub onHost : Host → Line → Line
-onHost h l = record { host = h; terminal = l .terminal; typed = l .typed; pending = l .pending; reading = l .reading }
+abbrev pub onTyped : Typed → Flow → Flow
+onTyped t f = record { terminal = f .terminal; typed = t; pending = f .pending; reading = f .reading }
 
 -- with this read pending, and with none
-abbrev pub onRead : Reading → Line → Line
-onRead r l = record { host = l .host; terminal = l .terminal; typed = l .typed; pending = true; reading = r }
+abbrev pub onRead : Reading → Flow → Flow
+onRead r f = record { terminal = f .terminal; typed = f .typed; pending = true; reading = r }
 
-abbrev pub offRead : Line → Line
-offRead l = record { host = l .host; terminal = l .terminal; typed = l .typed; pending = false; reading = l .reading }
+abbrev pub offRead : Flow → Flow
+offRead f = record { terminal = f .terminal; typed = f .typed; pending = false; reading = f .reading }
+
+-- the call goes on with another flow, behind what was shown, and behind what was sent
+abbrev pub goesOn : Flow → Work → Work
+goesOn f w = record { flow = f; at = w .at; sent = w .sent }
+
+abbrev pub afterShown : Shown → Work → Work
+afterShown s w =
+    record { flow = onTerminal (onScreen (s .screen) (w .flow .terminal)) (w .flow); at = s .at; sent = w .sent }
+
+abbrev pub afterSent : ℕ → Work → Work
+afterSent n w = record { flow = w .flow; at = w .at; sent = n }
+
+-- A line with one part changed.
+abbrev pub onFlow : Flow → Line → Line
+onFlow f l =
+    record {
+      attributes = l .attributes;
+      keys = l .keys;
+      text = l .text;
+      set = l .set;
+      «last_set» = l .«last_set»;
+      initiated = l .initiated;
+      switches = l .switches;
+      terms = l .terms;
+      flow = f;
+    }
+
+abbrev pub onKeys : List ℕ → Line → Line
+onKeys keys l =
+    record {
+      attributes = l .attributes;
+      keys = keys;
+      text = l .text;
+      set = l .set;
+      «last_set» = l .«last_set»;
+      initiated = l .initiated;
+      switches = l .switches;
+      terms = l .terms;
+      flow = l .flow;
+    }
+
+-- with the terms and the text that a rule is lent
+abbrev pub lent : Terms → List ℕ → Line → Line
+lent t text l =
+    record {
+      attributes = l .attributes;
+      keys = l .keys;
+      text = text;
+      set = l .set;
+      «last_set» = l .«last_set»;
+      initiated = l .initiated;
+      switches = l .switches;
+      terms = t;
+      flow = l .flow;
+    }

@@ -1,30 +1,45 @@
 // A key arrives; the clear rule.
 ghost use mathlib.Core.List.{List};
-ghost use Rattle.rules.specs.State.{codes};
-ghost use Prim.Native.Nat.{ℕ, _+_, _<_, min};
-ghost use Rattle.rules.specs.Arrival as rules;
-ghost use Rattle.line.specs.View.{pendingOf};
-ghost use Rattle.line.specs.Bounded.{Counted, CountedReading};
-ghost use Rattle.line.specs.Promise.{Does};
-ghost use Rattle.line.specs.Acts.{Meets};
-ghost use Rattle.rules.specs.Numbers.{typeAheadSize, topDropped};
+ghost use mathlib.Core.Bool.{Bool};
 ghost use mathlib.Core.Path.{_≡_};
-use crate::Line;
+ghost use lib.ListN.{length, getD};
+ghost use Prim.Native.Nat.{ℕ, _+_, _≤_, _<_, min};
+ghost use Rattle.rules.specs.Numbers.{inputSize, typeAheadSize, topDropped};
+ghost use Rattle.rules.specs.State.{codes};
+ghost use Rattle.rules.specs.Arrival as rules;
+ghost use Rattle.line.specs.declared.Line.{Line};
+ghost use Rattle.line.specs.View.{keyOf, readingOf, pendingOf};
+ghost use Rattle.line.specs.Bounded.{CountedFlow, CountedReading};
+ghost use Rattle.line.specs.With.{onFlow, lent};
+ghost use Rattle.line.specs.KeyParts.{stored};
+ghost use Rattle.line.specs.Promise.{on, Does, DoesOn};
+ghost use Rattle.line.specs.Acts.{Meets};
+use crate::Flow;
 use crate::Reading;
+use crate::Terms;
 use crate::Work;
 use crate::acts::Act;
+use crate::ending;
 use message::Message;
 
-// A pending read has DDD 3.
-fn passes_controls(pending: bool, r: Reading) -> bool
-    ensures { λ passes. ⌜ passes ≡ rules.passesControls (pendingOf pending r) ⌝ }
-{
-    if pending {
-        let terms = r.terms;
-        return terms.disables == 3;
-    }
-    false
-}
+// Codes that are controls, by arrival rule 3.
+const DISCARD: u8 = 15;
+
+const QUOTE: u8 = 22;
+
+const CLEAR: u8 = 24;
+
+pub(crate) const BEL: u8 = 7;
+
+// The out-of-band field of an attribute: what it has of its byte, and what it says.
+const OUT_OF_BAND_VALUES: u8 = 4;
+
+const IMMEDIATE_CLEAR: u8 = 1;
+
+const HELLO: u8 = 3;
+
+// DDD 3: no key is a control.
+const PASSES_CONTROLS: u8 = 3;
 
 // A count that stops at its top.
 fn one_more(n: u16) -> u16
@@ -37,22 +52,22 @@ fn one_more(n: u16) -> u16
 }
 
 impl Work {
-    // One key more in type-ahead; idle is 0.
-    fn keeps(self, quoted: bool, c: u8) -> Work
-        requires { ⌜ Counted (self .line) ⌝ }
-        requires { ⌜ self .line .typed .waiting < typeAheadSize ⌝ }
-        ensures { λ w. ⌜ ((t m : List ℕ) → Does (rules.keeps quoted c) self t m w t m) ⌝ }
+    // One key more waits; idle is 0. The key itself goes into the array beside.
+    fn keeps(self) -> Work
+        requires { ⌜ CountedFlow (self .flow) ⌝ }
+        requires { ⌜ self .flow .typed .waiting < typeAheadSize ⌝ }
+        ensures counted { λ w. ⌜ CountedFlow (w .flow) ⌝ }
+        ensures rule { λ w. ⌜ ((k : ℕ) (l : Line) → length (l .keys) ≡ typeAheadSize → (t m : List ℕ) → Does (rules.keeps (keyOf k .quoted) (keyOf k .char)) (on l self) t m (on (stored k (self .flow) l) w) t m) ⌝ }
     {
-        let line = self.line;
-        let typed = line.typed;
-        let next = typed.store(c, quoted);
-        let mut reading = line.reading;
+        let mut flow = self.flow;
+        let mut typed = flow.typed;
+        typed.waiting = typed.waiting + 1;
+        flow.typed = typed;
+        let mut reading = flow.reading;
         reading.idle = 0;
-        let mut after = line;
-        after.typed = next;
-        after.reading = reading;
+        flow.reading = reading;
         Work {
-            line: after,
+            flow,
             at: self.at,
             sent: self.sent,
         }
@@ -60,59 +75,64 @@ impl Work {
 
     // No room: BEL, and the dropped count rises up to its top.
     fn drops(self, terminal: &mut [u8]) -> Work
-        requires { ⌜ Counted (self .line) ⌝ }
-        ensures { λ w. ⌜ ((c : ℕ) (m : List ℕ) → Does (rules.drops c) self (now (terminal .entry)) m w (now (terminal .exit)) m) ⌝ }
+        requires { ⌜ CountedFlow (self .flow) ⌝ }
+        ensures counted { λ w. ⌜ CountedFlow (w .flow) ⌝ }
+        ensures rule { λ w. ⌜ ((c : ℕ) (l : Line) (m : List ℕ) → Does (rules.drops c) (on l self) (now (terminal .entry)) m (on l w) (now (terminal .exit)) m) ⌝ }
     {
-        let belled = self.put(terminal, 7);
-        let line = belled.line;
-        let mut known = line.terminal;
+        let belled = self.put(terminal, BEL);
+        let flow = belled.flow;
+        let mut known = flow.terminal;
         known.dropped = one_more(known.dropped);
         belled.with_terminal(known)
     }
 
     // Rule 4.
-    pub(crate) fn stores(self, terminal: &mut [u8], quoted: bool, c: u8) -> Work
-        requires { ⌜ Counted (self .line) ⌝ }
-        ensures { λ w. ⌜ ((m : List ℕ) → Does (rules.stores typeAheadSize quoted c) self (now (terminal .entry)) m w (now (terminal .exit)) m) ⌝ }
+    pub(crate) fn stores(self, terminal: &mut [u8]) -> Work
+        requires { ⌜ CountedFlow (self .flow) ⌝ }
+        ensures counted { λ w. ⌜ CountedFlow (w .flow) ⌝ }
+        ensures rule { λ w. ⌜ ((k : ℕ) (l : Line) → length (l .keys) ≡ typeAheadSize → (m : List ℕ) → Does (rules.stores typeAheadSize (keyOf k .quoted) (keyOf k .char)) (on l self) (now (terminal .entry)) m (on (stored k (self .flow) l) w) (now (terminal .exit)) m) ⌝ }
     {
-        let line = self.line;
-        let typed = line.typed;
+        let flow = self.flow;
+        let typed = flow.typed;
         if (typed.waiting as usize) < rules::TYPE_AHEAD {
-            return self.keeps(quoted, c);
+            return self.keeps();
         }
         self.drops(terminal)
     }
 
     // Rule 1.
-    pub(crate) fn stores_quoted(self, terminal: &mut [u8], c: u8) -> Work
-        requires { ⌜ Counted (self .line) ⌝ }
-        ensures { λ w. ⌜ ((m : List ℕ) → Does (rules.storesQuoted c) self (now (terminal .entry)) m w (now (terminal .exit)) m) ⌝ }
+    pub(crate) fn stores_quoted(self, terminal: &mut [u8]) -> Work
+        requires { ⌜ CountedFlow (self .flow) ⌝ }
+        ensures counted { λ w. ⌜ CountedFlow (w .flow) ⌝ }
+        ensures rule { λ w. ⌜ ((c : ℕ) → c < 256 → (l : Line) → length (l .keys) ≡ typeAheadSize → (m : List ℕ) → Does (rules.storesQuoted c) (on l self) (now (terminal .entry)) m (on (stored (c + 256) (self .flow) l) w) (now (terminal .exit)) m) ⌝ }
     {
-        let line = self.line;
-        let mut known = line.terminal;
+        let flow = self.flow;
+        let mut known = flow.terminal;
         known.quoting = false;
         let next = self.with_terminal(known);
-        next.stores(terminal, true, c)
+        next.stores(terminal)
     }
 
     // Rule 3, code 22.
     pub(crate) fn quotes(self) -> Work
-        requires { ⌜ Counted (self .line) ⌝ }
-        ensures { λ w. ⌜ ((c : ℕ) (t m : List ℕ) → Does (rules.quotes c) self t m w t m) ⌝ }
+        requires { ⌜ CountedFlow (self .flow) ⌝ }
+        ensures counted { λ w. ⌜ CountedFlow (w .flow) ⌝ }
+        ensures rule { λ w. ⌜ ((c : ℕ) (l : Line) (t m : List ℕ) → Does (rules.quotes c) (on l self) t m (on l w) t m) ⌝ }
     {
-        let line = self.line;
-        let mut known = line.terminal;
+        let flow = self.flow;
+        let mut known = flow.terminal;
         known.quoting = true;
         self.with_terminal(known)
     }
 
     // Rule 3, code 15; Discard State says 1 where output is not discarded.
     pub(crate) fn flips_discard(self, messages: &mut [u8]) -> Work
-        requires { ⌜ Counted (self .line) ⌝ }
-        ensures { λ w. ⌜ ((c : ℕ) (t : List ℕ) → Does (rules.flipsDiscard c) self t (now (messages .entry)) w t (now (messages .exit))) ⌝ }
+        requires { ⌜ CountedFlow (self .flow) ⌝ }
+        ensures counted { λ w. ⌜ CountedFlow (w .flow) ⌝ }
+        ensures rule { λ w. ⌜ ((c : ℕ) (l : Line) (t : List ℕ) → Does (rules.flipsDiscard c) (on l self) t (now (messages .entry)) (on l w) t (now (messages .exit))) ⌝ }
     {
-        let line = self.line;
-        let mut known = line.terminal;
+        let flow = self.flow;
+        let mut known = flow.terminal;
         known.discarding = !known.discarding;
         let kept = message::bit_of(!known.discarding);
         let next = self.with_terminal(known);
@@ -121,54 +141,67 @@ impl Work {
 
     // Type-ahead and tokens go.
     pub(crate) fn empties_typed(self) -> Work
-        requires { ⌜ Counted (self .line) ⌝ }
-        ensures { λ w. ⌜ ((t m : List ℕ) → Does rules.emptiesTyped self t m w t m) ⌝ }
+        requires { ⌜ CountedFlow (self .flow) ⌝ }
+        ensures counted { λ w. ⌜ CountedFlow (w .flow) ⌝ }
+        ensures rule { λ w. ⌜ ((l : Line) (t m : List ℕ) → Does rules.emptiesTyped (on l self) t m (on l w) t m) ⌝ }
     {
-        let line = self.line;
-        let typed = line.typed;
+        let flow = self.flow;
+        let typed = flow.typed;
         let next = typed.emptied();
         self.with_typed(next)
     }
 
     // A pending read's input goes, without rubbing out.
-    fn clears_unseen(self, pending: bool, r: Reading) -> Work
-        requires { ⌜ Counted (self .line) ⌝ }
-        requires { ⌜ CountedReading r ⌝ }
-        ensures { λ w. ⌜ ((t m : List ℕ) → Does (rules.clearsUnseen (pendingOf pending r)) self t m w t m) ⌝ }
+    fn clears_unseen(self, pending: bool, r: Reading, t: Terms) -> Work
+        requires { ⌜ CountedFlow (self .flow) ⌝ }
+        requires { ⌜ r .count ≤ inputSize ⌝ }
+        ensures counted { λ w. ⌜ CountedFlow (w .flow) ⌝ }
+        ensures rule { λ w. ⌜ ((text : List ℕ) (l : Line) (a m : List ℕ) → DoesOn (λ k. rules.clearsUnseen (pendingOf pending (readingOf k r))) (lent t text l) self a m w a m) ⌝ }
     {
         if pending {
-            return self.deletes_unseen(0, r);
+            return self.deletes_unseen(0, r, t);
         }
         self
     }
 
     // It goes, rubbed out.
-    fn clears_seen(self, terminal: &mut [u8], pending: bool, r: Reading) -> Work
-        requires { ⌜ Counted (self .line) ⌝ }
-        requires { ⌜ CountedReading r ⌝ }
-        ensures { λ w. ⌜ ((m : List ℕ) → Does (rules.clearsSeen codes (pendingOf pending r)) self (now (terminal .entry)) m w (now (terminal .exit)) m) ⌝ }
+    fn clears_seen(
+        self,
+        terminal: &mut [u8],
+        pending: bool,
+        r: Reading,
+        text: &[u8],
+        t: Terms,
+    ) -> Work
+        requires { ⌜ CountedFlow (self .flow) ⌝ }
+        requires { ⌜ CountedReading r (now text) ⌝ }
+        ensures counted { λ w. ⌜ CountedFlow (w .flow) ⌝ }
+        ensures rule { λ w. ⌜ ((l : Line) (m : List ℕ) → DoesOn (λ k. rules.clearsSeen codes (pendingOf pending (readingOf k r))) (lent t (now (text .entry)) l) self (now (terminal .entry)) m w (now (terminal .exit)) m) ⌝ }
     {
         if pending {
-            return self.deletes(terminal, 0, r);
+            return self.deletes(terminal, 0, r, text, t);
         }
         self
     }
 
     // The clear rule of 24 and Clear Input.
-    pub(crate) fn clears(self, terminal: &mut [u8]) -> Work
-        requires { ⌜ Counted (self .line) ⌝ }
-        ensures { λ w. ⌜ ((m : List ℕ) → Does (rules.clears codes) self (now (terminal .entry)) m w (now (terminal .exit)) m) ⌝ }
+    pub(crate) fn clears(self, terminal: &mut [u8], text: &[u8], t: Terms) -> Work
+        requires { ⌜ CountedFlow (self .flow) ⌝ }
+        requires { ⌜ length (now text) ≡ inputSize ⌝ }
+        ensures counted { λ w. ⌜ CountedFlow (w .flow) ⌝ }
+        ensures rule { λ w. ⌜ ((l : Line) (m : List ℕ) → DoesOn (λ k. rules.clears codes) (lent t (now (text .entry)) l) self (now (terminal .entry)) m w (now (terminal .exit)) m) ⌝ }
     {
-        let line = self.line;
-        let reading = line.reading;
+        let flow = self.flow;
+        let reading = flow.reading;
         let next = self.empties_typed();
-        next.clears_seen(terminal, line.pending, reading)
+        next.clears_seen(terminal, flow.pending, reading, text, t)
     }
 
     // Rule 2, hello.
     pub(crate) fn sends_out_of_band(self, messages: &mut [u8], c: u8) -> Work
-        requires { ⌜ Counted (self .line) ⌝ }
-        ensures { λ w. ⌜ ((t : List ℕ) → Does (rules.sendsOutOfBand codes c) self t (now (messages .entry)) w t (now (messages .exit))) ⌝ }
+        requires { ⌜ CountedFlow (self .flow) ⌝ }
+        ensures counted { λ w. ⌜ CountedFlow (w .flow) ⌝ }
+        ensures rule { λ w. ⌜ ((l : Line) (t : List ℕ) → Does (rules.sendsOutOfBand codes c) (on l self) t (now (messages .entry)) (on l w) t (now (messages .exit))) ⌝ }
     {
         self.sends_plain(
             messages,
@@ -180,82 +213,87 @@ impl Work {
     }
 
     // Rule 2, immediate clear: a pending read completes, returning no data.
-    fn ends_out_of_band(self, messages: &mut [u8], pending: bool, r: Reading) -> Work
-        requires { ⌜ Counted (self .line) ⌝ }
-        requires { ⌜ CountedReading r ⌝ }
-        ensures { λ w. ⌜ ((t : List ℕ) → Does (rules.endsOutOfBand codes (pendingOf pending r)) self t (now (messages .entry)) w t (now (messages .exit))) ⌝ }
+    fn ends_out_of_band(
+        self,
+        messages: &mut [u8],
+        pending: bool,
+        r: Reading,
+        text: &[u8],
+        t: Terms,
+    ) -> Work
+        requires { ⌜ CountedFlow (self .flow) ⌝ }
+        requires { ⌜ CountedReading r (now text) ⌝ }
+        ensures counted { λ w. ⌜ CountedFlow (w .flow) ⌝ }
+        ensures rule { λ w. ⌜ ((l : Line) (a : List ℕ) → DoesOn (λ k. rules.endsOutOfBand codes (pendingOf pending (readingOf k r))) (lent t (now (text .entry)) l) self a (now (messages .entry)) w a (now (messages .exit))) ⌝ }
     {
         if pending {
-            return self.completes(messages, 3, 0, r);
+            return self.completes(messages, ending::OUT_OF_BAND, 0, r, text, t);
         }
         self
     }
 
     // Both of these, with the clear rule between them, unseen.
-    pub(crate) fn clears_at_once(self, messages: &mut [u8], c: u8) -> Work
-        requires { ⌜ Counted (self .line) ⌝ }
-        ensures { λ w. ⌜ ((t : List ℕ) → Does (rules.clearsAtOnce codes c) self t (now (messages .entry)) w t (now (messages .exit))) ⌝ }
+    pub(crate) fn clears_at_once(self, messages: &mut [u8], c: u8, text: &[u8], t: Terms) -> Work
+        requires { ⌜ CountedFlow (self .flow) ⌝ }
+        requires { ⌜ length (now text) ≡ inputSize ⌝ }
+        ensures counted { λ w. ⌜ CountedFlow (w .flow) ⌝ }
+        ensures rule { λ w. ⌜ ((l : Line) (a : List ℕ) → DoesOn (λ k. rules.clearsAtOnce codes c) (lent t (now (text .entry)) l) self a (now (messages .entry)) w a (now (messages .exit))) ⌝ }
     {
         let said = self.sends_out_of_band(messages, c);
         let emptied = said.empties_typed();
-        let line = emptied.line;
-        let reading = line.reading;
-        let cleared = emptied.clears_unseen(line.pending, reading);
-        let last = cleared.line;
+        let flow = emptied.flow;
+        let reading = flow.reading;
+        let cleared = emptied.clears_unseen(flow.pending, reading, t);
+        let last = cleared.flow;
         let left = last.reading;
-        cleared.ends_out_of_band(messages, last.pending, left)
+        cleared.ends_out_of_band(messages, last.pending, left, text, t)
     }
 }
 
-impl Line {
-    // Rule 3, then 4.
-    fn act_of_control(self, c: u8) -> Act
-        ensures { λ a. ⌜ ((s : List ℕ) → Meets (rules.controlled codes c) s self a) ⌝ }
-    {
-        if c == 22 {
-            return Act::Quotes;
-        }
-        if c == 24 {
-            return Act::Clears;
-        }
-        if c == 15 {
-            return Act::FlipsDiscard;
-        }
-        Act::Stores(c)
+// Rule 3, then 4.
+fn act_of_control(c: u8) -> Act
+    ensures { λ a. ⌜ ((s : List ℕ) (l : Line) → Meets (rules.controlled codes c) s l a) ⌝ }
+{
+    if c == QUOTE {
+        return Act::Quotes;
     }
+    if c == CLEAR {
+        return Act::Clears;
+    }
+    if c == DISCARD {
+        return Act::FlipsDiscard;
+    }
+    Act::Stores(c)
+}
 
+impl Flow {
     // Rules 1 to 4: the first that applies is the only one.
-    fn act_after_initiate(self, c: u8) -> Act
-        requires { ⌜ Counted self ⌝ }
-        ensures { λ a. ⌜ ((s : List ℕ) → Meets (rules.ruled codes c) s self a) ⌝ }
+    fn act_after_initiate(self, c: u8, attribute: u8, t: Terms) -> Act
+        ensures { λ a. ⌜ ((s : List ℕ) (l : Line) → attribute ≡ getD (l .attributes) c 0 → Meets (rules.ruled codes c) s (onFlow self (lent t (l .text) l)) a) ⌝ }
     {
         let known = self.terminal;
         if known.quoting {
             return Act::StoresQuoted(c);
         }
-        let host = self.host;
-        let band = host.attribute(c) % 4;
-        if band == 3 {
+        let band = attribute % OUT_OF_BAND_VALUES;
+        if band == HELLO {
             return Act::SendsOutOfBand(c);
         }
-        if band == 1 {
+        if band == IMMEDIATE_CLEAR {
             return Act::ClearsAtOnce(c);
         }
-        let reading = self.reading;
-        if passes_controls(self.pending, reading) {
+        if self.pending & (t.disables == PASSES_CONTROLS) {
             return Act::Stores(c);
         }
-        self.act_of_control(c)
+        act_of_control(c)
     }
 
     // The arrival rules; before Initiate only rule 4 applies.
-    pub(crate) fn act_of_key(self, c: u8) -> Act
-        requires { ⌜ Counted self ⌝ }
-        ensures { λ a. ⌜ ((s : List ℕ) → Meets (rules.arrives codes c) s self a) ⌝ }
+    pub(crate) fn act_of_key(self, c: u8, initiated: bool, attribute: u8, t: Terms) -> Act
+        ensures { λ a. ⌜ ((s : List ℕ) (l : Line) → initiated ≡ l .initiated → attribute ≡ getD (l .attributes) c 0 → Meets (rules.arrives codes c) s (onFlow self (lent t (l .text) l)) a) ⌝ }
     {
-        let host = self.host;
-        if host.begun {
-            return self.act_after_initiate(c);
+        if initiated {
+            return self.act_after_initiate(c, attribute, t);
         }
         Act::Stores(c)
     }

@@ -1,41 +1,110 @@
-// The calls: each makes an event, which goes through one method.
-ghost use mathlib.Core.List.{[]};
+// The calls: each makes an event; the act that it meets is chosen and done, and the flow put back.
+ghost use mathlib.Core.Path.{_≡_};
 ghost use Rattle.rules.specs.Calls as rules;
 ghost use Rattle.line.specs.Bounded.{Bounded};
-ghost use Rattle.line.specs.Events.{Admitted, eventOf};
+ghost use Rattle.line.specs.HostMessages.{Accepted};
+ghost use Rattle.line.specs.Rows.{areRoomy};
 ghost use Rattle.line.specs.Answers.{Answers};
+ghost use lib.ListN.{length};
+ghost use mathlib.Core.Bool.{true};
 use crate::Answer;
 use crate::Line;
+use crate::Work;
 use crate::events::Event;
+use crate::events::HostMessage;
+use crate::events::Seen;
+use crate::events::Sender;
+use crate::events::sender_of;
+use crate::keys::code_of;
+use crate::keys::move_keys;
+use crate::refusals;
 use crate::refusals::are_roomy;
+use crate::refusals::early_row;
 use message::Found;
 
-impl Line {
-    // An event with no message, in any areas.
-    fn take_unless_small(self, e: Event, terminal: &mut [u8], messages: &mut [u8]) -> Answer
-        requires { ⌜ Bounded self ⌝ }
-        requires { ⌜ Admitted self [] e ⌝ }
-        ensures { λ r. ⌜ Answers (eventOf [] e) self (now (terminal .entry)) (now (messages .entry)) r (now (terminal .exit)) (now (messages .exit)) ⌝ }
-    {
-        if !are_roomy(terminal.len(), messages.len()) {
-            return self.refuse(1);
-        }
-        self.take(e, b"", terminal, messages)
-    }
+// Where an event looks at none of the arrays.
+const NOTHING_SEEN: Seen = Seen {
+    initiated: false,
+    attribute: 0,
+    first: 0,
+    ends: false,
+};
 
+impl Line {
     // A keystroke arrives.
     pub fn key(self, code: u8, terminal: &mut [u8], messages: &mut [u8]) -> Answer
         requires { ⌜ Bounded self ⌝ }
         ensures { λ r. ⌜ Answers (rules.key code) self (now (terminal .entry)) (now (messages .entry)) r (now (terminal .exit)) (now (messages .exit)) ⌝ }
     {
-        self.take_unless_small(Event::Key(code), terminal, messages)
+        if !are_roomy(terminal.len(), messages.len()) {
+            return self.refuse(refusals::SMALL_AREA);
+        }
+        let mut next = self;
+        let flow = next.flow;
+        let typed = flow.typed;
+        let terms = next.terms;
+        let at = code as usize;
+        let attribute = next.attributes[at];
+        let seen = Seen {
+            initiated: next.initiated,
+            attribute,
+            first: 0,
+            ends: false,
+        };
+        let act = flow.act_of(Event::Key(code), seen, terms);
+        move_keys(&mut next.keys, typed.waiting as usize, act);
+        let w = Work {
+            flow,
+            at: 0,
+            sent: 0,
+        };
+        let done = w.acts(act, b"", terminal, messages, &mut next.text, terms);
+        let after = done.flow;
+        next.flow = after;
+        Answer {
+            line: next,
+            number: 0,
+            terminal: done.at,
+            messages: done.sent,
+        }
     }
 
     pub fn step(self, terminal: &mut [u8], messages: &mut [u8]) -> Answer
         requires { ⌜ Bounded self ⌝ }
         ensures { λ r. ⌜ Answers rules.step self (now (terminal .entry)) (now (messages .entry)) r (now (terminal .exit)) (now (messages .exit)) ⌝ }
     {
-        self.take_unless_small(Event::Step, terminal, messages)
+        if !are_roomy(terminal.len(), messages.len()) {
+            return self.refuse(refusals::SMALL_AREA);
+        }
+        let mut next = self;
+        let flow = next.flow;
+        let typed = flow.typed;
+        let terms = next.terms;
+        let set = next.set;
+        let first = next.keys[0];
+        let raised = terms.raised_by(code_of(first));
+        let seen = Seen {
+            initiated: false,
+            attribute: 0,
+            first,
+            ends: set.has(raised),
+        };
+        let act = flow.act_of(Event::Step, seen, terms);
+        move_keys(&mut next.keys, typed.waiting as usize, act);
+        let w = Work {
+            flow,
+            at: 0,
+            sent: 0,
+        };
+        let done = w.acts(act, b"", terminal, messages, &mut next.text, terms);
+        let after = done.flow;
+        next.flow = after;
+        Answer {
+            line: next,
+            number: 0,
+            terminal: done.at,
+            messages: done.sent,
+        }
     }
 
     // A second has passed.
@@ -43,7 +112,56 @@ impl Line {
         requires { ⌜ Bounded self ⌝ }
         ensures { λ r. ⌜ Answers rules.tick self (now (terminal .entry)) (now (messages .entry)) r (now (terminal .exit)) (now (messages .exit)) ⌝ }
     {
-        self.take_unless_small(Event::Tick, terminal, messages)
+        if !are_roomy(terminal.len(), messages.len()) {
+            return self.refuse(refusals::SMALL_AREA);
+        }
+        let mut next = self;
+        let flow = next.flow;
+        let typed = flow.typed;
+        let terms = next.terms;
+        let act = flow.act_of(Event::Tick, NOTHING_SEEN, terms);
+        move_keys(&mut next.keys, typed.waiting as usize, act);
+        let w = Work {
+            flow,
+            at: 0,
+            sent: 0,
+        };
+        let done = w.acts(act, b"", terminal, messages, &mut next.text, terms);
+        let after = done.flow;
+        next.flow = after;
+        Answer {
+            line: next,
+            number: 0,
+            terminal: done.at,
+            messages: done.sent,
+        }
+    }
+
+    // A host message that is accepted, in areas that are large enough.
+    fn obeys(self, m: HostMessage, s: &[u8], terminal: &mut [u8], messages: &mut [u8]) -> Answer
+        requires { ⌜ Bounded self ⌝ }
+        requires { ⌜ Accepted self (now s) m ⌝ }
+        requires { ⌜ areRoomy (length (now terminal)) (length (now messages)) ≡ true ⌝ }
+        ensures { λ r. ⌜ Answers (rules.message (now (s .entry))) self (now (terminal .entry)) (now (messages .entry)) r (now (terminal .exit)) (now (messages .exit)) ⌝ }
+    {
+        let mut next = self.set_by(m, s);
+        let flow = next.flow;
+        let terms = next.terms;
+        let act = flow.act_of(Event::Host(m), NOTHING_SEEN, terms);
+        let w = Work {
+            flow,
+            at: 0,
+            sent: next.reports(m, s, messages),
+        };
+        let done = w.acts(act, s, terminal, messages, &mut next.text, terms);
+        let after = done.flow;
+        next.flow = after;
+        Answer {
+            line: next,
+            number: 0,
+            terminal: done.at,
+            messages: done.sent,
+        }
     }
 
     // The host sends a message.
@@ -51,7 +169,14 @@ impl Line {
         requires { ⌜ Bounded self ⌝ }
         ensures { λ r. ⌜ Answers (rules.message (now (s .entry))) self (now (terminal .entry)) (now (messages .entry)) r (now (terminal .exit)) (now (messages .exit)) ⌝ }
     {
-        let row = self.early_row(s, terminal.len(), messages.len());
+        let flow = self.flow;
+        let row = early_row(
+            s,
+            terminal.len(),
+            messages.len(),
+            self.initiated,
+            flow.pending,
+        );
         if row != 0 {
             return self.refuse(row);
         }
@@ -60,9 +185,13 @@ impl Line {
             let number = message::number_of(f);
             return self.refuse(number);
         };
-        if !self.carries(m, s) {
-            return self.refuse(6);
+        let sender = sender_of(m);
+        let Sender::Host(h) = sender else {
+            return self.refuse(refusals::WRONG_TYPE);
+        };
+        if !self.carries(h, s) {
+            return self.refuse(refusals::NOT_CARRIED);
         }
-        self.take(Event::Host(m), s, terminal, messages)
+        self.obeys(h, s, terminal, messages)
     }
 }

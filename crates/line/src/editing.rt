@@ -4,83 +4,99 @@ ghost use mathlib.Core.List.{List};
 ghost use Rattle.rules.specs.State.{codes};
 ghost use Rattle.rules.specs.Turns.{Fate};
 ghost use Rattle.rules.specs.Editing as rules;
+ghost use Rattle.rules.specs.Numbers.{inputSize};
+ghost use Rattle.line.specs.declared.Line.{Line};
 ghost use Rattle.line.specs.View.{readingOf};
-ghost use Rattle.line.specs.Bounded.{Counted, CountedReading};
+ghost use Rattle.line.specs.Bounded.{CountedFlow, CountedReading};
+ghost use Rattle.line.specs.With.{lent};
 ghost use Rattle.line.specs.ReadingParts.{displaysData};
-ghost use Rattle.line.specs.Promise.{Does};
+ghost use Rattle.line.specs.Promise.{DoesOn};
 use crate::Reading;
+use crate::Terms;
 use crate::Work;
+
+// The carriage return and line feed of a redisplay.
+const NEW_LINE: [u8; 2] = [13, 10];
 
 impl Work {
     // Deletes all but the first characters, without rubbing out.
-    pub(crate) fn deletes_unseen(self, left: u16, r: Reading) -> Work
-        requires { ⌜ Counted (self .line) ⌝ }
-        requires { ⌜ CountedReading r ⌝ }
+    pub(crate) fn deletes_unseen(self, left: u16, r: Reading, t: Terms) -> Work
+        requires { ⌜ CountedFlow (self .flow) ⌝ }
+        requires { ⌜ r .count ≤ inputSize ⌝ }
         requires { ⌜ left ≤ r .count ⌝ }
-        ensures { λ w. ⌜ ((fate : ℕ → Fate ℕ) (t m : List ℕ) → Does (rules.deletesUnseen fate left (readingOf r)) self t m w t m) ⌝ }
+        ensures counted { λ w. ⌜ CountedFlow (w .flow) ⌝ }
+        ensures rule { λ w. ⌜ ((fate : ℕ → Fate ℕ) (text : List ℕ) (l : Line) (a m : List ℕ) → DoesOn (λ k. rules.deletesUnseen fate left (readingOf k r)) (lent t text l) self a m w a m) ⌝ }
     {
-        let next = r.shortened(left);
+        let next = r.shortened(left, t);
         self.with_read(next)
     }
 
     // Deletes them and, in a read that echoes, rubs them out.
-    pub(crate) fn deletes(self, terminal: &mut [u8], left: u16, r: Reading) -> Work
-        requires { ⌜ Counted (self .line) ⌝ }
-        requires { ⌜ CountedReading r ⌝ }
+    pub(crate) fn deletes(
+        self,
+        terminal: &mut [u8],
+        left: u16,
+        r: Reading,
+        text: &[u8],
+        t: Terms,
+    ) -> Work
+        requires { ⌜ CountedFlow (self .flow) ⌝ }
+        requires { ⌜ CountedReading r (now text) ⌝ }
         requires { ⌜ left ≤ r .count ⌝ }
-        ensures { λ w. ⌜ ((fate : ℕ → Fate ℕ) (m : List ℕ) → Does (rules.deletes codes fate left (readingOf r)) self (now (terminal .entry)) m w (now (terminal .exit)) m) ⌝ }
+        ensures counted { λ w. ⌜ CountedFlow (w .flow) ⌝ }
+        ensures rule { λ w. ⌜ ((fate : ℕ → Fate ℕ) (l : Line) (m : List ℕ) → DoesOn (λ k. rules.deletes codes fate left (readingOf k r)) (lent t (now (text .entry)) l) self (now (terminal .entry)) m w (now (terminal .exit)) m) ⌝ }
     {
-        let terms = r.terms;
-        if terms.echoes {
-            let marks = r.marks(left);
+        if t.echoes {
+            let marks = r.marks(left, text);
             let rubbed = self.rub_out(terminal, marks);
-            return rubbed.deletes_unseen(left, r);
+            return rubbed.deletes_unseen(left, r, t);
         }
-        self.deletes_unseen(left, r)
+        self.deletes_unseen(left, r, t)
     }
 
     // What follows the prompt, from where the cursor stands.
-    fn displays_data(self, terminal: &mut [u8], r: Reading) -> Work
-        requires { ⌜ Counted (self .line) ⌝ }
-        requires { ⌜ CountedReading r ⌝ }
-        ensures { λ w. ⌜ ((m : List ℕ) → Does (displaysData (readingOf r)) self (now (terminal .entry)) m w (now (terminal .exit)) m) ⌝ }
+    fn displays_data(self, terminal: &mut [u8], r: Reading, text: &[u8], t: Terms) -> Work
+        requires { ⌜ CountedFlow (self .flow) ⌝ }
+        requires { ⌜ CountedReading r (now text) ⌝ }
+        ensures counted { λ w. ⌜ CountedFlow (w .flow) ⌝ }
+        ensures rule { λ w. ⌜ ((l : Line) (m : List ℕ) → DoesOn (λ k. displaysData (readingOf k r)) (lent t (now (text .entry)) l) self (now (terminal .entry)) m w (now (terminal .exit)) m) ⌝ }
     {
-        let line = self.line;
-        let known = line.terminal;
+        let flow = self.flow;
+        let known = flow.terminal;
         let screen = known.screen;
         let next = r.with_from(screen.column);
         let begun = self.with_read(next);
-        let terms = r.terms;
-        if terms.echoes {
-            let input = r.input;
+        if t.echoes {
             let start = r.first_shown();
             let end = r.count as usize;
-            return begun.echo_all(terminal, &input[start..end]);
+            return begun.echo_all(terminal, &text[start..end]);
         }
         begun
     }
 
     // The prompt, and the echo of what follows it if the read echoes.
-    pub(crate) fn displays(self, terminal: &mut [u8], r: Reading) -> Work
-        requires { ⌜ Counted (self .line) ⌝ }
-        requires { ⌜ CountedReading r ⌝ }
-        ensures { λ w. ⌜ ((m : List ℕ) → Does (rules.displays codes (readingOf r)) self (now (terminal .entry)) m w (now (terminal .exit)) m) ⌝ }
+    pub(crate) fn displays(self, terminal: &mut [u8], r: Reading, text: &[u8], t: Terms) -> Work
+        requires { ⌜ CountedFlow (self .flow) ⌝ }
+        requires { ⌜ CountedReading r (now text) ⌝ }
+        requires { ⌜ t .«prompt_len» ≤ inputSize ⌝ }
+        ensures counted { λ w. ⌜ CountedFlow (w .flow) ⌝ }
+        ensures rule { λ w. ⌜ ((l : Line) (m : List ℕ) → DoesOn (λ k. rules.displays codes (readingOf k r)) (lent t (now (text .entry)) l) self (now (terminal .entry)) m w (now (terminal .exit)) m) ⌝ }
     {
-        let terms = r.terms;
-        let prompt = terms.prompt;
-        let size = terms.prompt_len as usize;
-        let prompted = self.write(terminal, &prompt[..size]);
-        prompted.displays_data(terminal, r)
+        let start = rules::INPUT - t.prompt_len as usize;
+        let prompted = self.write(terminal, &text[start..]);
+        prompted.displays_data(terminal, r, text, t)
     }
 
     // CR LF, and the display again.
-    pub(crate) fn redisplays(self, terminal: &mut [u8], r: Reading) -> Work
-        requires { ⌜ Counted (self .line) ⌝ }
-        requires { ⌜ CountedReading r ⌝ }
-        ensures { λ w. ⌜ ((m : List ℕ) → Does (rules.redisplays codes (readingOf r)) self (now (terminal .entry)) m w (now (terminal .exit)) m) ⌝ }
+    pub(crate) fn redisplays(self, terminal: &mut [u8], r: Reading, text: &[u8], t: Terms) -> Work
+        requires { ⌜ CountedFlow (self .flow) ⌝ }
+        requires { ⌜ CountedReading r (now text) ⌝ }
+        requires { ⌜ t .«prompt_len» ≤ inputSize ⌝ }
+        ensures counted { λ w. ⌜ CountedFlow (w .flow) ⌝ }
+        ensures rule { λ w. ⌜ ((l : Line) (m : List ℕ) → DoesOn (λ k. rules.redisplays codes (readingOf k r)) (lent t (now (text .entry)) l) self (now (terminal .entry)) m w (now (terminal .exit)) m) ⌝ }
     {
-        let ends: [u8; 2] = [13, 10];
+        let ends = NEW_LINE;
         let next = self.write(terminal, &ends);
-        next.displays(terminal, r)
+        next.displays(terminal, r, text, t)
     }
 }

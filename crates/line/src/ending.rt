@@ -1,7 +1,7 @@
 // A read completes.
 ghost use Prim.Native.Nat.{ℕ, _≤_};
 ghost use mathlib.Core.Path.{_≡_};
-ghost use mathlib.Core.Bool.{true};
+ghost use mathlib.Core.Bool.{true, false};
 ghost use lib.ListN.{length};
 ghost use mathlib.Core.List.{List};
 ghost use Rattle.rules.specs.State.{codes};
@@ -10,23 +10,46 @@ ghost use Rattle.rules.specs.Messages.Codec as codec;
 ghost use Rattle.rules.specs.ReadData as rules;
 ghost use Rattle.message.specs.Found.{heldIn};
 ghost use Rattle.writing.specs.Parts.{partsOf, inside};
+ghost use Rattle.line.specs.declared.Line.{Line};
 ghost use Rattle.line.specs.View.{view, readingOf};
-ghost use Rattle.line.specs.Bounded.{Counted, CountedReading};
-ghost use Rattle.line.specs.Promise.{Does};
+ghost use Rattle.line.specs.Bounded.{CountedFlow, CountedReading};
+ghost use Rattle.line.specs.With.{lent, onFlow};
+ghost use Rattle.line.specs.Promise.{on, Does};
 use crate::Reading;
+use crate::Terms;
 use crate::Work;
 use message::Message;
 use message::Part;
 use message::ReadDataFields;
 
+// Completion codes (000, 4.16.4).
+pub(crate) const TERMINATOR: u8 = 0;
+
+pub(crate) const VALID_TOKEN: u8 = 1;
+
+pub(crate) const INVALID_TOKEN: u8 = 2;
+
+pub(crate) const OUT_OF_BAND: u8 = 3;
+
+pub(crate) const BUFFER_FULL: u8 = 4;
+
+pub(crate) const TIMEOUT: u8 = 5;
+
+pub(crate) const UNREAD: u8 = 6;
+
+pub(crate) const UNDERFLOW: u8 = 7;
+
+pub(crate) const ABSENTEE: u8 = 8;
+
 impl Work {
     // A partial token is dropped.
     fn loses_partial(self) -> Work
-        requires { ⌜ Counted (self .line) ⌝ }
-        ensures { λ w. ⌜ ((t m : List ℕ) → Does (rules.losesPartial codes) self t m w t m) ⌝ }
+        requires { ⌜ CountedFlow (self .flow) ⌝ }
+        ensures counted { λ w. ⌜ CountedFlow (w .flow) ⌝ }
+        ensures rule { λ w. ⌜ ((l : Line) (t m : List ℕ) → Does (rules.losesPartial codes) (on l self) t m (on l w) t m) ⌝ }
     {
-        let line = self.line;
-        let typed = line.typed;
+        let flow = self.flow;
+        let typed = flow.typed;
         if typed.is_partial() {
             let next = typed.without_token();
             return self.with_typed(next);
@@ -34,21 +57,19 @@ impl Work {
         self
     }
 
-    // The read's answer; its text stands in the input.
-    fn answer(self, code: u8, ending: u16, r: Reading) -> Message
-        requires { ⌜ Counted (self .line) ⌝ }
-        requires { ⌜ CountedReading r ⌝ }
+    // The read's answer; its data stands in front of the text.
+    fn answer(self, code: u8, ending: u16, r: Reading, t: Terms) -> Message
+        requires { ⌜ CountedFlow (self .flow) ⌝ }
         requires { ⌜ ending ≤ r .count ⌝ }
-        ensures { λ m. ⌜ (heldIn (r .input) m ≡ codec.message (rules.answerOf codes code ending (readingOf r) (view (self .line)))) × (inside (length (r .input)) (partsOf m) ≡ true) ⌝ }
+        ensures { λ m. ⌜ ((text : List ℕ) (k l : Line) → CountedReading r text → (heldIn text m ≡ codec.message (rules.answerOf codes code ending (readingOf (lent t text l) r) (view (onFlow (self .flow) k)))) × (inside (length text) (partsOf m) ≡ true)) ⌝ }
     {
-        let line = self.line;
-        let typed = line.typed;
-        let terminal = line.terminal;
+        let flow = self.flow;
+        let typed = flow.typed;
+        let terminal = flow.terminal;
         let cursor = terminal.screen;
-        let terms = r.terms;
         let more = typed.remains();
-        let vertical = screen::columns::change(cursor.line as u16, terms.line as u16);
-        let horizontal = screen::columns::change(cursor.column, terms.column);
+        let vertical = screen::columns::change(cursor.line as u16, t.line as u16);
+        let horizontal = screen::columns::change(cursor.column, t.column);
         let text = Part {
             start: 0,
             len: r.count,
@@ -64,26 +85,44 @@ impl Work {
         })
     }
 
-    fn answers(self, messages: &mut [u8], code: u8, ending: u16, r: Reading) -> Work
-        requires { ⌜ Counted (self .line) ⌝ }
-        requires { ⌜ CountedReading r ⌝ }
+    fn answers(
+        self,
+        messages: &mut [u8],
+        code: u8,
+        ending: u16,
+        r: Reading,
+        text: &[u8],
+        t: Terms,
+    ) -> Work
+        requires { ⌜ CountedFlow (self .flow) ⌝ }
+        requires { ⌜ CountedReading r (now text) ⌝ }
         requires { ⌜ ending ≤ r .count ⌝ }
-        ensures { λ w. ⌜ ((t : List ℕ) → Does (λ s. sends (rules.answerOf codes code ending (readingOf r) s) s) self t (now (messages .entry)) w t (now (messages .exit))) ⌝ }
+        ensures counted { λ w. ⌜ CountedFlow (w .flow) ⌝ }
+        ensures rule { λ w. ⌜ ((k l : Line) (a : List ℕ) → Does (λ s. sends (rules.answerOf codes code ending (readingOf (lent t (now (text .entry)) l) r) s) s) (on k self) a (now (messages .entry)) (on k w) a (now (messages .exit))) ⌝ }
     {
-        let message = self.answer(code, ending, r);
-        let input = r.input;
-        self.send(messages, message, &input)
+        let message = self.answer(code, ending, r, t);
+        self.send(messages, message, text)
     }
 
     // Read Data with this code; so many characters at the end are a terminator, token or underflow code.
-    pub(crate) fn completes(self, messages: &mut [u8], code: u8, ending: u16, r: Reading) -> Work
-        requires { ⌜ Counted (self .line) ⌝ }
-        requires { ⌜ CountedReading r ⌝ }
+    pub(crate) fn completes(
+        self,
+        messages: &mut [u8],
+        code: u8,
+        ending: u16,
+        r: Reading,
+        text: &[u8],
+        t: Terms,
+    ) -> Work
+        requires { ⌜ CountedFlow (self .flow) ⌝ }
+        requires { ⌜ CountedReading r (now text) ⌝ }
         requires { ⌜ ending ≤ r .count ⌝ }
-        ensures { λ w. ⌜ ((t : List ℕ) → Does (rules.completes codes code ending (readingOf r)) self t (now (messages .entry)) w t (now (messages .exit))) ⌝ }
+        ensures counted { λ w. ⌜ CountedFlow (w .flow) ⌝ }
+        ensures rule { λ w. ⌜ ((k l : Line) (a : List ℕ) → Does (rules.completes codes code ending (readingOf (lent t (now (text .entry)) l) r)) (on k self) a (now (messages .entry)) (on k w) a (now (messages .exit))) ⌝ }
+        ensures ended { λ w. ⌜ w .flow .pending ≡ false ⌝ }
     {
         let ready = self.loses_partial();
-        let answered = ready.answers(messages, code, ending, r);
+        let answered = ready.answers(messages, code, ending, r, text, t);
         answered.without_read()
     }
 }

@@ -1,83 +1,92 @@
-// An incoming event, and what it does.
+// An incoming event, and the act that it meets.
+ghost use Prim.Native.Nat.{ℕ};
 ghost use mathlib.Core.Path.{_≡_};
 ghost use mathlib.Core.List.{List};
-ghost use Prim.Native.Nat.{ℕ};
-ghost use Rattle.line.specs.Bounded.{Bounded};
-ghost use Rattle.line.specs.Events.{Admitted, Comes, eventPart, eventOf};
+ghost use Rattle.line.specs.declared.Line.{Line};
+ghost use Rattle.line.specs.Bounded.{CountedTyped};
+ghost use Rattle.line.specs.With.{onFlow, lent};
+ghost use Rattle.line.specs.HostMessages.{senderOf};
+ghost use Rattle.line.specs.Events.{Sees, eventPart};
 ghost use Rattle.line.specs.Acts.{Meets};
-ghost use Rattle.line.specs.Answers.{Answers, doneAnswer};
-use crate::Answer;
-use crate::Line;
-use crate::Work;
+ghost use Rattle.line.specs.declared.acts.Act.the-variants.{Obeys};
+ghost use Rattle.line.specs.declared.events.Event.the-variants.{Host};
+ghost use Rattle.line.specs.declared.events.HostMessage as hosts;
+use crate::Flow;
+use crate::Terms;
 use crate::acts::Act;
+use message::InitiateFields;
 use message::Message;
+use message::Part;
+use message::StartReadFields;
+use message::WriteFields;
+
+// The messages that a host sends; a set, text and parameters stand in the lent slice.
+pub(crate) enum HostMessage {
+    Initiate(InitiateFields),
+    StartRead(StartReadFields),
+    Unread(u8),
+    ClearInput,
+    Write(WriteFields),
+    ReadCharacteristics(Part),
+    Characteristics(Part),
+    CheckInput,
+}
 
 pub(crate) enum Event {
     Key(u8),
     Tick,
     Step,
-    // its set, text and parameters stand in the lent slice
-    Host(Message),
+    Host(HostMessage),
 }
 
-impl Work {
-    // The act that an event meets. Asked of the line itself, which `take` then holds twice, it costs a copy more.
-    fn act_of(self, e: Event) -> Act
-        requires { ⌜ Bounded (self .line) ⌝ }
-        ensures { λ a. ⌜ ((s : List ℕ) → Admitted (self .line) s e → Meets (eventPart s e) s (self .line) a) ⌝ }
+// Who sends a message.
+pub(crate) enum Sender {
+    Host(HostMessage),
+    Server,
+}
+
+// What an event looks at in the arrays, and whether Initiate was accepted.
+pub struct Seen {
+    pub(crate) initiated: bool,
+    // of the key
+    pub(crate) attribute: u8,
+    // the first that waits, and whether its raised code is in the termination set
+    pub(crate) first: u16,
+    pub(crate) ends: bool,
+}
+
+pub(crate) fn sender_of(m: Message) -> Sender
+    ensures { λ r. ⌜ r ≡ senderOf m ⌝ }
+{
+    match m {
+        Message::Initiate(f) => Sender::Host(HostMessage::Initiate(f)),
+        Message::StartRead(f) => Sender::Host(HostMessage::StartRead(f)),
+        Message::Unread { condition } => Sender::Host(HostMessage::Unread(condition)),
+        Message::ClearInput => Sender::Host(HostMessage::ClearInput),
+        Message::Write(f) => Sender::Host(HostMessage::Write(f)),
+        Message::ReadCharacteristics { parameters } => {
+            Sender::Host(HostMessage::ReadCharacteristics(parameters))
+        }
+        Message::Characteristics { parameters } => {
+            Sender::Host(HostMessage::Characteristics(parameters))
+        }
+        Message::CheckInput => Sender::Host(HostMessage::CheckInput),
+        _ => Sender::Server,
+    }
+}
+
+impl Flow {
+    // The act that an event meets; a host message is its own.
+    pub(crate) fn act_of(self, e: Event, seen: Seen, t: Terms) -> Act
+        requires { ⌜ CountedTyped (self .typed) ⌝ }
+        ensures rule { λ a. ⌜ ((s : List ℕ) (l : Line) → Sees s (onFlow self (lent t (l .text) l)) seen e → Meets (eventPart s e) s (onFlow self (lent t (l .text) l)) a) ⌝ }
+        ensures obeys { λ a. ⌜ ((m : hosts.HostMessage) → e ≡ Host m → a ≡ Obeys m) ⌝ }
     {
-        let line = self.line;
         match e {
-            Event::Key(c) => line.act_of_key(c),
-            Event::Tick => line.act_of_tick(),
-            Event::Step => line.act_of_step(),
+            Event::Key(c) => self.act_of_key(c, seen.initiated, seen.attribute, t),
+            Event::Tick => self.act_of_tick(t),
+            Event::Step => self.act_of_step(seen.first, seen.ends, t),
             Event::Host(m) => Act::Obeys(m),
-        }
-    }
-
-    // What a call that is done answers.
-    fn done(self) -> Answer
-        ensures { λ a. ⌜ a ≡ doneAnswer self ⌝ }
-    {
-        let line = self.line;
-        Answer {
-            line,
-            number: 0,
-            terminal: self.at,
-            messages: self.sent,
-        }
-    }
-}
-
-impl Line {
-    // An event, in areas that are large enough. 5 is the completion code for a timeout.
-    pub(crate) fn take(self, e: Event, s: &[u8], terminal: &mut [u8], messages: &mut [u8]) -> Answer
-        requires { ⌜ Comes self (now s) e (now terminal) (now messages) ⌝ }
-        ensures { λ r. ⌜ Answers (eventOf (now (s .entry)) e) self (now (terminal .entry)) (now (messages .entry)) r (now (terminal .exit)) (now (messages .exit)) ⌝ }
-    {
-        let w = Work {
-            line: self,
-            at: 0,
-            sent: 0,
-        };
-        let act = w.act_of(e);
-        match act {
-            Act::Nothing => w.done(),
-            Act::Stores(c) => w.stores(terminal, false, c).done(),
-            Act::StoresQuoted(c) => w.stores_quoted(terminal, c).done(),
-            Act::SendsOutOfBand(c) => w.sends_out_of_band(messages, c).done(),
-            Act::ClearsAtOnce(c) => w.clears_at_once(messages, c).done(),
-            Act::Quotes => w.quotes().done(),
-            Act::Clears => w.clears(terminal).done(),
-            Act::FlipsDiscard => w.flips_discard(messages).done(),
-            Act::TakesToken => w.takes_token(messages, w.read()).done(),
-            Act::AddsToToken(c) => w.steps_with_token(messages, c).done(),
-            Act::Terminates(c) => w.steps_with_terminator(terminal, messages, c).done(),
-            Act::Edits(c) => w.steps_with_edit(terminal, messages, c).done(),
-            Act::TakesData(c) => w.steps_with_data(terminal, messages, c).done(),
-            Act::TimesOut => w.completes(messages, 5, 0, w.read()).done(),
-            Act::Idles(idle) => w.sets_idle(idle).done(),
-            Act::Obeys(m) => w.obeys(terminal, messages, m, s).done(),
         }
     }
 }

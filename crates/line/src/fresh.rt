@@ -1,18 +1,15 @@
 // A fresh line, and what can be read off a line.
 ghost use mathlib.Core.Path.{_≡_};
-ghost use mathlib.Core.List.{[]};
-ghost use Rattle.rules.specs.State as rules;
 ghost use Rattle.rules.specs.StartRead as sets;
-ghost use Rattle.characteristics.specs.View.{setOf, hostOf, CountedSet, CountedHost};
-ghost use Rattle.line.specs.View.{typedOf, view};
-ghost use Rattle.line.specs.Bounded.{CountedTyped, CountedReading, IsFresh};
-use crate::Key;
+ghost use Rattle.characteristics.specs.View.{setOf, CountedSet};
+ghost use Rattle.line.specs.View.{view};
+ghost use Rattle.line.specs.Bounded.{IsFreshFlow, IsFresh};
+use crate::Flow;
 use crate::Line;
 use crate::Reading;
 use crate::Terminal;
 use crate::Terms;
 use crate::Typed;
-use characteristics::Host;
 use characteristics::Set;
 use characteristics::Switches;
 use screen::Screen;
@@ -29,69 +26,60 @@ pub(crate) fn universal() -> Set
     Set { bytes, len: 4 }
 }
 
-fn fresh_host() -> Host
-    ensures { λ r. ⌜ (hostOf r ≡ rules.freshHost) × CountedHost r ⌝ }
+// The terms of a line that has no read pending.
+fn no_terms() -> Terms
+    ensures { λ r. ⌜ r .«prompt_len» ≡ 0 ⌝ }
 {
-    let switches = Switches {
-        raising: false,
-        echoing: true,
-        recognising: false,
-        prompting: false,
-    };
-    let last_set = universal();
-    Host {
-        begun: false,
-        switches,
-        attributes: [0u8; 256],
-        last_set,
-    }
-}
-
-fn nothing_typed() -> Typed
-    ensures { λ r. ⌜ (typedOf r ≡ (record { typeAhead = []; token = [] })) × CountedTyped r ⌝ }
-{
-    let key = Key {
-        code: 0,
-        quoted: false,
-    };
-    Typed {
-        keys: [key; rules::TYPE_AHEAD],
-        waiting: 0,
-        token: [0u8; rules::TOKEN],
-        token_len: 0,
-    }
-}
-
-// The read of a line that has none pending.
-fn no_reading() -> Reading
-    ensures { λ r. ⌜ CountedReading r ⌝ }
-{
-    let set = universal();
-    let terms = Terms {
+    Terms {
         underflow: 0,
         disables: 0,
         raises: false,
         recognises: false,
         echoes: false,
         terminator_echo: false,
+        auto_prompt: false,
         timed: false,
         timeout: 0,
-        set,
         max_length: 0,
         end_of_prompt: 0,
-        prompt: [0u8; rules::INPUT],
         prompt_len: 0,
         column: 0,
         line: 0,
+    }
+}
+
+// Nothing shown, nothing typed, no read.
+fn fresh_flow() -> Flow
+    ensures { λ r. ⌜ IsFreshFlow r ⌝ }
+{
+    let screen = Screen {
+        column: 0,
+        line: 0,
+        after_cr: false,
     };
-    Reading {
-        terms,
-        input: [0u8; rules::INPUT],
+    let terminal = Terminal {
+        screen,
+        discarding: false,
+        quoting: false,
+        dropped: 0,
+    };
+    let typed = Typed {
+        waiting: 0,
+        token: [0u8; rules::TOKEN],
+        token_len: 0,
+    };
+    let reading = Reading {
         count: 0,
         low_water: 0,
         hidden: false,
         from: 0,
         idle: 0,
+    };
+    Flow {
+        terminal,
+        typed,
+        pending: false,
+        reading,
     }
 }
 
@@ -99,26 +87,25 @@ impl Line {
     pub fn fresh() -> Line
         ensures { λ r. ⌜ IsFresh r ⌝ }
     {
-        let host = fresh_host();
-        let screen = Screen {
-            column: 0,
-            line: 0,
-            after_cr: false,
+        let switches = Switches {
+            raising: false,
+            echoing: true,
+            recognising: false,
+            prompting: false,
         };
-        let terminal = Terminal {
-            screen,
-            discarding: false,
-            quoting: false,
-            dropped: 0,
-        };
-        let typed = nothing_typed();
-        let reading = no_reading();
+        let set = universal();
+        let terms = no_terms();
+        let flow = fresh_flow();
         Line {
-            host,
-            terminal,
-            typed,
-            pending: false,
-            reading,
+            attributes: [0u8; 256],
+            keys: [0u16; rules::TYPE_AHEAD],
+            text: [0u8; rules::INPUT],
+            set,
+            last_set: set,
+            initiated: false,
+            switches,
+            terms,
+            flow,
         }
     }
 
@@ -126,7 +113,8 @@ impl Line {
     pub fn dropped(self) -> u16
         ensures { λ r. ⌜ r ≡ view self .terminal .dropped ⌝ }
     {
-        let known = self.terminal;
+        let flow = self.flow;
+        let known = flow.terminal;
         known.dropped
     }
 }

@@ -5,8 +5,10 @@ ghost use Rattle.rules.specs.Messages.Layout.{bytesOf};
 ghost use Rattle.rules.specs.Calls.{framed, sentBytes};
 ghost use Rattle.rules.specs.Host as rules;
 ghost use Rattle.writing.specs.Puts.{Puts};
-ghost use Rattle.line.specs.Bounded.{Counted};
-ghost use Rattle.line.specs.Promise.{Does};
+ghost use Rattle.rules.specs.Turns.{sends};
+ghost use Rattle.line.specs.declared.Line.{Line};
+ghost use Rattle.line.specs.Bounded.{CountedFlow};
+ghost use Rattle.line.specs.Promise.{on, Does};
 use crate::Work;
 use message::InitiateFields;
 use message::Message;
@@ -42,17 +44,14 @@ fn put_initiate(area: &mut [u8], at: usize) -> usize
 }
 
 impl Work {
-    // From now on messages other than Initiate are taken.
+    // Our Initiate answers the host's.
     pub(crate) fn initiates(self, messages: &mut [u8]) -> Work
-        requires { ⌜ Counted (self .line) ⌝ }
-        ensures { λ w. ⌜ ((t : List ℕ) → Does rules.initiates self t (now (messages .entry)) w t (now (messages .exit))) ⌝ }
+        requires { ⌜ CountedFlow (self .flow) ⌝ }
+        ensures counted { λ w. ⌜ CountedFlow (w .flow) ⌝ }
+        ensures rule { λ w. ⌜ ((l : Line) (t : List ℕ) → Does (sends rules.ourInitiate) (on l self) t (now (messages .entry)) (on l w) t (now (messages .exit))) ⌝ }
     {
-        let line = self.line;
-        let mut host = line.host;
-        host.begun = true;
-        let begun = self.with_host(host);
-        let at = begun.sent;
+        let at = self.sent;
         let sent = put_initiate(messages, at);
-        begun.sent_up_to(sent)
+        self.sent_up_to(sent)
     }
 }

@@ -1,16 +1,21 @@
-// What stands after a read's prompt.
+// What stands after a read's prompt, in front of its text.
 ghost use mathlib.Core.Path.{_≡_};
+ghost use mathlib.Core.List.{List, [], _∷_, reverse};
 ghost use Prim.Native.Nat.{_+_, _-_, _≤_, _<_, min};
-ghost use mathlib.Core.List.{[], _∷_, reverse};
 ghost use lib.ListN.{length, take};
 ghost use Rattle.rules.specs.Numbers.{inputSize};
+ghost use Rattle.rules.specs.Choice.{bit};
 ghost use Rattle.rules.specs.State.{codes};
 ghost use Rattle.rules.specs.Screen as screen;
 ghost use Rattle.rules.specs.Editing as rules;
+ghost use Rattle.line.specs.declared.Terms as terms;
+ghost use Rattle.line.specs.declared.Line.{Line};
 ghost use Rattle.line.specs.View.{readingOf};
+ghost use Rattle.line.specs.With.{lent};
 ghost use Rattle.line.specs.Bounded.{CountedReading};
-ghost use Rattle.line.specs.ReadingParts.{Becomes, Appends, ShownFrom, LeftBy23, ofClass, idling, shownAt};
+ghost use Rattle.line.specs.ReadingParts.{Shortened, Appends, ShownFrom, LeftBy23, ofClass, idling, shownAt};
 use crate::Reading;
+use crate::Terms;
 
 // The smaller of the two.
 fn lower(a: u16, b: u32) -> u16
@@ -26,7 +31,7 @@ fn is_word(n: u8) -> bool
     (48 <= n) & (n <= 57) | (65 <= n) & (n <= 90) | (97 <= n) & (n <= 122)
 }
 
-// A character of words, or one of none.
+// A word's character, or one between words.
 fn is_of(word: bool, n: u8) -> bool
     ensures { λ r. ⌜ r ≡ ofClass word n ⌝ }
 {
@@ -54,13 +59,11 @@ fn end_before(text: &[u8], end: usize, word: bool) -> usize
 
 impl Reading {
     // Its first characters left; LOW-WATER falls to the new end if lower.
-    pub(crate) fn shortened(self, left: u16) -> Reading
-        requires { ⌜ CountedReading self ⌝ }
+    pub(crate) fn shortened(self, left: u16, t: Terms) -> Reading
         requires { ⌜ left ≤ self .count ⌝ }
-        ensures { λ r. ⌜ Becomes (rules.shortened left (readingOf self)) r ⌝ }
+        ensures { λ r. ⌜ Shortened left t self r ⌝ }
     {
-        let terms = self.terms;
-        let prompt = terms.end_of_prompt as u32;
+        let prompt = t.end_of_prompt as u32;
         let mut next = self;
         next.count = left;
         next.low_water = lower(self.low_water, prompt + left as u32);
@@ -69,30 +72,28 @@ impl Reading {
     }
 
     // One character more.
-    pub(crate) fn push(self, c: u8) -> Reading
-        requires { ⌜ CountedReading self ⌝ }
+    pub(crate) fn push(self, text: &mut [u8; rules::INPUT], c: u8) -> Reading
+        requires { ⌜ CountedReading self (now text) ⌝ }
         requires { ⌜ self .count < inputSize ⌝ }
-        ensures { λ r. ⌜ Appends (c ∷ []) self r ⌝ }
+        ensures { λ r. ⌜ Appends (c ∷ []) self (now (text .entry)) r (now (text .exit)) ⌝ }
     {
         let at = self.count as usize;
-        let mut input = self.input;
-        input[at] = c;
+        text[at] = c;
         let mut next = self;
-        next.input = input;
         next.count = self.count + 1;
         next
     }
 
     // More characters.
-    pub(crate) fn push_all(self, cs: &[u8]) -> Reading
-        requires { ⌜ CountedReading self ⌝ }
+    pub(crate) fn push_all(self, text: &mut [u8; rules::INPUT], cs: &[u8]) -> Reading
+        requires { ⌜ CountedReading self (now text) ⌝ }
         requires { ⌜ self .count + length (now cs) ≤ inputSize ⌝ }
-        ensures { λ r. ⌜ Appends (now (cs .entry)) self r ⌝ }
+        ensures { λ r. ⌜ Appends (now (cs .entry)) self (now (text .entry)) r (now (text .exit)) ⌝ }
     {
         let mut next = self;
         let mut i = 0;
         while i < cs.len() {
-            next = next.push(cs[i]);
+            next = next.push(text, cs[i]);
             i += 1;
         }
         next
@@ -116,17 +117,14 @@ impl Reading {
     }
 
     // The end of the buffer.
-    pub(crate) fn end(self) -> u32
-        requires { ⌜ CountedReading self ⌝ }
-        ensures { λ r. ⌜ r ≡ rules.endOf (readingOf self) ⌝ }
+    pub(crate) fn end(self, t: Terms) -> u32
+        ensures { λ r. ⌜ r ≡ t .«end_of_prompt» + self .count ⌝ }
     {
-        let terms = self.terms;
-        terms.end_of_prompt as u32 + self.count as u32
+        t.end_of_prompt as u32 + self.count as u32
     }
 
     // Where its displayed characters begin: behind the LF that F hides.
     pub(crate) fn first_shown(self) -> usize
-        requires { ⌜ CountedReading self ⌝ }
         ensures { λ r. ⌜ ShownFrom self r ⌝ }
     {
         if self.hidden & (0 < self.count) {
@@ -137,7 +135,7 @@ impl Reading {
 
     // How many of its first characters are displayed.
     fn shown_of(self, left: u16) -> usize
-        ensures { λ r. ⌜ r ≡ left - rules.hiddenCount (readingOf self) ⌝ }
+        ensures { λ r. ⌜ r ≡ left - bit (self .hidden) ⌝ }
     {
         if self.hidden & (0 < left) {
             return left as usize - 1;
@@ -146,26 +144,34 @@ impl Reading {
     }
 
     // The marks and spaces on the screen for all but its first characters.
-    pub(crate) fn marks(self, left: u16) -> usize
-        requires { ⌜ CountedReading self ⌝ }
-        ensures { λ r. ⌜ r ≡ screen.marksBehind (left - rules.hiddenCount (readingOf self)) (self .from) (rules.displayed codes (readingOf self)) ⌝ }
+    pub(crate) fn marks(self, left: u16, text: &[u8]) -> usize
+        requires { ⌜ CountedReading self (now text) ⌝ }
+        ensures { λ n. ⌜ ((t : terms.Terms) (l : Line) → n ≡ screen.marksBehind (left - bit (self .hidden)) (self .from) (rules.displayed codes (readingOf (lent t (now (text .entry)) l) self))) ⌝ }
     {
-        let input = self.input;
         let start = self.first_shown();
         let end = self.count as usize;
         let kept = self.shown_of(left);
         let from = self.from;
-        screen::rub::marks_behind(kept, from, &input[start..end])
+        screen::rub::marks_behind(kept, from, &text[start..end])
+    }
+
+    // How many characters 127 leaves.
+    pub(crate) fn left_by_127(self) -> u16
+        ensures { λ r. ⌜ r ≡ self .count - 1 ⌝ }
+    {
+        if 0 < self.count {
+            return self.count - 1;
+        }
+        0
     }
 
     // How many characters 23 leaves.
-    pub(crate) fn left_by_23(self) -> u16
-        requires { ⌜ CountedReading self ⌝ }
-        ensures { λ r. ⌜ LeftBy23 self r ⌝ }
+    pub(crate) fn left_by_23(self, text: &[u8]) -> u16
+        requires { ⌜ CountedReading self (now text) ⌝ }
+        ensures { λ r. ⌜ LeftBy23 (now (text .entry)) self r ⌝ }
     {
-        let input = self.input;
         let end = self.count as usize;
-        let spaces = end_before(&input, end, false);
-        end_before(&input, spaces, true) as u16
+        let spaces = end_before(text, end, false);
+        end_before(text, spaces, true) as u16
     }
 }

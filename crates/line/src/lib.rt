@@ -1,6 +1,6 @@
 // One line of the console end: its state by value, and the four calls on it.
-use characteristics::Host;
 use characteristics::Set;
+use characteristics::Switches;
 use screen::Screen;
 
 mod acts;
@@ -13,12 +13,14 @@ mod events;
 mod fresh;
 mod initiating;
 mod input;
+mod keys;
 mod obeying;
 mod opening;
 mod output;
 mod parts;
 mod refusals;
 mod sending;
+mod setting;
 mod shows;
 mod starting;
 mod steps;
@@ -34,15 +36,8 @@ pub struct Terminal {
     dropped: u16,
 }
 
-// A key that waits.
-pub struct Key {
-    code: u8,
-    quoted: bool,
-}
-
-// Typed and not yet in a read: type-ahead, and a partial or held token.
+// Typed and not yet in a read: how many keys wait, and a partial or held token.
 pub struct Typed {
-    keys: [Key; rules::TYPE_AHEAD],
     waiting: u8,
     token: [u8; rules::TOKEN],
     token_len: u8,
@@ -56,23 +51,22 @@ pub struct Terms {
     recognises: bool,
     echoes: bool,
     terminator_echo: bool,
+    // code 1 came before the prompt
+    auto_prompt: bool,
     timed: bool,
     timeout: u16,
-    set: Set,
     max_length: u16,
     end_of_prompt: u16,
-    // the prompt as it is displayed
-    prompt: [u8; rules::INPUT],
+    // of the prompt as it is displayed
     prompt_len: u16,
     // the note of column and line
     column: u16,
     line: u8,
 }
 
-// A read: what stands after its prompt, and how it goes on.
+// How a read goes on.
 pub struct Reading {
-    terms: Terms,
-    input: [u8; rules::INPUT],
+    // of what stands after its prompt
     count: u16,
     low_water: u16,
     // the first character is the LF that F hides
@@ -82,13 +76,29 @@ pub struct Reading {
     idle: u16,
 }
 
-pub struct Line {
-    host: Host,
+// What the rules change besides the arrays.
+pub struct Flow {
     terminal: Terminal,
     typed: Typed,
     // `reading` is a pending read
     pending: bool,
     reading: Reading,
+}
+
+pub struct Line {
+    attributes: [u8; 256],
+    // keys that wait, each its code, and QUOTED more if it is quoted
+    keys: [u16; rules::TYPE_AHEAD],
+    // what stands after the read's prompt, from the front; the prompt as it is displayed, at the end
+    text: [u8; rules::INPUT],
+    // the read's termination set, and the last given with ZZ 1
+    set: Set,
+    last_set: Set,
+    // Initiate was accepted
+    initiated: bool,
+    switches: Switches,
+    terms: Terms,
+    flow: Flow,
 }
 
 // A call's answer: the next line, the number, and the bytes written to the front of each area.
@@ -99,9 +109,9 @@ pub struct Answer {
     pub messages: usize,
 }
 
-// A call on its way: the line, and the next place in each area.
+// A call on its way: what the rules change, and the next place in each area.
 struct Work {
-    line: Line,
+    flow: Flow,
     at: usize,
     sent: usize,
 }

@@ -1,100 +1,85 @@
-// What an accepted host message does.
-ghost use Prim.Native.Nat.{ℕ};
+// What an accepted host message does to the flow. What it sets, and a report of that, stand beside.
+ghost use Prim.Native.Nat.{ℕ, _≤_};
 ghost use mathlib.Core.Path.{_≡_};
-ghost use mathlib.Core.Bool.{true};
 ghost use mathlib.Core.List.{List, [], _∷_};
+ghost use lib.ListN.{length};
+ghost use Rattle.rules.specs.Numbers.{inputSize};
 ghost use Rattle.rules.specs.State.{codes};
 ghost use Rattle.rules.specs.Messages.Forms.{plain, unread};
 ghost use Rattle.rules.specs.ReadData as reads;
-ghost use Rattle.rules.specs.Host as rules;
-ghost use Rattle.rules.specs.Calls.{carriesQuestions};
-ghost use Rattle.characteristics.specs.Lists.{settingsIn, questionsIn};
-ghost use Rattle.line.specs.View.{view};
-ghost use Rattle.line.specs.Bounded.{Counted};
-ghost use Rattle.message.specs.Found.{partOf, heldIn};
-ghost use Rattle.line.specs.Obeyed.{Accepted, obeysHeld};
-ghost use Rattle.line.specs.Promise.{Does};
+ghost use Rattle.line.specs.declared.Line.{Line};
+ghost use Rattle.line.specs.Bounded.{CountedFlow};
+ghost use Rattle.line.specs.With.{onFlow, lent};
+ghost use Rattle.line.specs.HostMessages.{Startables, Prompts, flowPart};
+ghost use Rattle.line.specs.Promise.{on, Does, DoesOn};
+use crate::Terms;
 use crate::Work;
+use crate::ending;
+use crate::events::HostMessage;
 use message::Message;
-use message::Part;
+
+// Unread's condition.
+const ALWAYS: u8 = 0;
 
 impl Work {
     // Input Count: the keys that wait and the bytes of a token.
     fn checks_input(self, messages: &mut [u8]) -> Work
-        requires { ⌜ Counted (self .line) ⌝ }
-        ensures { λ w. ⌜ ((t : List ℕ) → Does reads.checksInput self t (now (messages .entry)) w t (now (messages .exit))) ⌝ }
+        requires { ⌜ CountedFlow (self .flow) ⌝ }
+        ensures counted { λ w. ⌜ CountedFlow (w .flow) ⌝ }
+        ensures rule { λ w. ⌜ ((l : Line) (t : List ℕ) → Does reads.checksInput (on l self) t (now (messages .entry)) (on l w) t (now (messages .exit))) ⌝ }
     {
-        let line = self.line;
-        let typed = line.typed;
+        let flow = self.flow;
+        let typed = flow.typed;
         let count = typed.waiting as u16 + typed.token_len as u16;
         self.sends_plain(messages, Message::InputCount { count })
     }
 
     // Unread: always, or only with nothing typed.
-    fn unreads(self, messages: &mut [u8], condition: u8) -> Work
-        requires { ⌜ Counted (self .line) ⌝ }
-        ensures { λ w. ⌜ ((t : List ℕ) → Does (reads.unreads codes (plain unread (condition ∷ []))) self t (now (messages .entry)) w t (now (messages .exit))) ⌝ }
+    fn unreads(self, messages: &mut [u8], condition: u8, text: &[u8], t: Terms) -> Work
+        requires { ⌜ CountedFlow (self .flow) ⌝ }
+        requires { ⌜ length (now text) ≡ inputSize ⌝ }
+        ensures counted { λ w. ⌜ CountedFlow (w .flow) ⌝ }
+        ensures rule { λ w. ⌜ ((l : Line) (a : List ℕ) → DoesOn (λ k. reads.unreads codes (plain unread (condition ∷ []))) (lent t (now (text .entry)) l) self a (now (messages .entry)) w a (now (messages .exit))) ⌝ }
     {
-        let line = self.line;
-        if !line.pending {
+        let flow = self.flow;
+        if !flow.pending {
             return self;
         }
-        let typed = line.typed;
-        let r = line.reading;
+        let typed = flow.typed;
+        let r = flow.reading;
         let nothing = (typed.waiting == 0) & (typed.token_len == 0) & (r.count == 0);
-        if (condition == 0) | nothing {
-            return self.completes(messages, 6, 0, r);
+        if (condition == ALWAYS) | nothing {
+            return self.completes(messages, ending::UNREAD, 0, r, text, t);
         }
         self
     }
 
-    // The line as the parameters set it.
-    fn sets_characteristics(self, parameters: Part, s: &[u8]) -> Work
-        requires { ⌜ Counted (self .line) ⌝ }
-        ensures { λ w. ⌜ ((t m : List ℕ) → Does (rules.setsCharacteristics (settingsIn (partOf (now (s .entry)) parameters))) self t m w t m) ⌝ }
-    {
-        let line = self.line;
-        let host = line.host;
-        let list = message::bytes_of(s, parameters);
-        let next = host.with_settings(list);
-        self.with_host(next)
-    }
-
-    // The characteristics that are asked for.
-    fn reports(self, messages: &mut [u8], parameters: Part, s: &[u8]) -> Work
-        requires { ⌜ Counted (self .line) ⌝ }
-        requires { ⌜ carriesQuestions (view (self .line)) (questionsIn (partOf (now s) parameters)) ≡ true ⌝ }
-        ensures { λ w. ⌜ ((t : List ℕ) → Does (rules.reports (questionsIn (partOf (now (s .entry)) parameters))) self t (now (messages .entry)) w t (now (messages .exit))) ⌝ }
-    {
-        let line = self.line;
-        let host = line.host;
-        let list = message::bytes_of(s, parameters);
-        let at = self.sent;
-        let sent = host.put_report(list, messages, at);
-        self.sent_up_to(sent)
-    }
-
-    // By its type. What only servers send is never accepted.
+    // By its type.
     pub(crate) fn obeys(
         self,
+        m: HostMessage,
+        s: &[u8],
         terminal: &mut [u8],
         messages: &mut [u8],
-        m: Message,
-        s: &[u8],
+        text: &[u8],
+        t: Terms,
     ) -> Work
-        requires { ⌜ Counted (self .line) ⌝ }
-        requires { ⌜ Accepted (self .line) (now s) m ⌝ }
-        ensures { λ w. ⌜ Does (obeysHeld (heldIn (now (s .entry)) m)) self (now (terminal .entry)) (now (messages .entry)) w (now (terminal .exit)) (now (messages .exit)) ⌝ }
+        requires { ⌜ CountedFlow (self .flow) ⌝ }
+        requires { ⌜ length (now text) ≡ inputSize ⌝ }
+        requires { ⌜ t .«prompt_len» ≤ inputSize ⌝ }
+        requires { ⌜ Startables (now s) m ⌝ }
+        ensures counted { λ w. ⌜ CountedFlow (w .flow) ⌝ }
+        ensures rule { λ w. ⌜ ((l : Line) → Prompts t l m → DoesOn (λ k. flowPart (now (s .entry)) (onFlow (self .flow) k) m) (lent t (now (text .entry)) l) self (now (terminal .entry)) (now (messages .entry)) w (now (terminal .exit)) (now (messages .exit))) ⌝ }
     {
         match m {
-            Message::Initiate(_) => self.initiates(messages),
-            Message::StartRead(f) => self.starts_read(terminal, messages, f, s),
-            Message::Unread { condition } => self.unreads(messages, condition),
-            Message::ClearInput => self.clears(terminal),
-            Message::Write(f) => self.writes_out(terminal, messages, f, s),
-            Message::ReadCharacteristics { parameters } => self.reports(messages, parameters, s),
-            Message::Characteristics { parameters } => self.sets_characteristics(parameters, s),
-            _ => self.checks_input(messages),
+            HostMessage::Initiate(_) => self.initiates(messages),
+            HostMessage::StartRead(f) => self.begins(terminal, messages, f, s, text, t),
+            HostMessage::Unread(condition) => self.unreads(messages, condition, text, t),
+            HostMessage::ClearInput => self.clears(terminal, text, t),
+            HostMessage::Write(f) => self.writes_out(terminal, messages, f, s),
+            HostMessage::ReadCharacteristics(_) => self,
+            HostMessage::Characteristics(_) => self,
+            HostMessage::CheckInput => self.checks_input(messages),
         }
     }
 }

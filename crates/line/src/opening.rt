@@ -1,23 +1,30 @@
 // The read that a Start Read opens: its termination set, its terms and its text.
-ghost use Prim.Native.Nat.{_≤_};
+ghost use Prim.Native.Nat.{_+_, _≤_};
 ghost use mathlib.Core.Path.{_≡_};
+ghost use lib.Dec.{eqb};
 ghost use lib.ListN.{length, take, drop};
-ghost use Rattle.rules.specs.Choice.{bit};
-ghost use Rattle.rules.specs.State.{codes};
+ghost use lib.Seq.{sets};
+ghost use Rattle.rules.specs.Choice.{pick, bit};
+ghost use Rattle.rules.specs.Numbers.{inputSize};
 ghost use Rattle.rules.specs.StartRead as fields;
 ghost use Rattle.rules.specs.StartRead.Acceptance as rules;
 ghost use Rattle.message.specs.Found.{partOf, startReadIn};
 ghost use Rattle.characteristics.specs.View.{setOf, CountedSet};
-ghost use Rattle.line.specs.View.{termsOf, view};
-ghost use Rattle.line.specs.Bounded.{Counted, CountedTerms};
-ghost use Rattle.line.specs.ReadingParts.{Becomes};
-ghost use Rattle.line.specs.Starts.{Startable, Piece, promptIn, dataIn};
+ghost use Rattle.line.specs.Bounded.{Counted};
+ghost use Rattle.line.specs.Starts.{Startable, promptIn, dataIn, readingAt, termsFor, Opens};
 use crate::Line;
 use crate::Reading;
 use crate::Terms;
 use crate::fresh::universal;
 use characteristics::Set;
+use characteristics::Switches;
 use message::StartReadFields;
+use screen::Screen;
+
+// ZZ.
+const LAST_SET: u8 = 0;
+
+const THIS_SET: u8 = 1;
 
 // II and EE: 0 leaves it to the characteristic, 1 is off, 2 is on.
 fn chosen(n: u8, characteristic: bool) -> bool
@@ -30,7 +37,7 @@ fn chosen(n: u8, characteristic: bool) -> bool
 }
 
 // The set that these bytes are.
-pub(crate) fn set_of(given: &[u8]) -> Set
+fn set_of(given: &[u8]) -> Set
     requires { ⌜ length (now given) ≤ 32 ⌝ }
     ensures { λ r. ⌜ (setOf r ≡ now (given .entry)) × CountedSet r ⌝ }
 {
@@ -46,15 +53,29 @@ fn chosen_set(last: Set, f: StartReadFields, s: &[u8]) -> Set
     ensures { λ r. ⌜ (setOf r ≡ fields.chosenSet (setOf last) (startReadIn (now (s .entry)) f)) × CountedSet r ⌝ }
 {
     let choice = f.set_choice;
-    if choice == 0 {
+    if choice == LAST_SET {
         return last;
     }
-    if choice == 1 {
+    if choice == THIS_SET {
         let part = f.set;
         let given = message::bytes_of(s, part);
         return set_of(given);
     }
     universal()
+}
+
+// ZZ 1 gives the set that ZZ 0 looks at.
+fn last_set(last: Set, f: StartReadFields, s: &[u8]) -> Set
+    requires { ⌜ CountedSet last ⌝ }
+    requires { ⌜ length (partOf (now s) (f .set)) ≤ 32 ⌝ }
+    ensures { λ r. ⌜ (setOf r ≡ pick (eqb (f .«set_choice») 1) (partOf (now (s .entry)) (f .set)) (setOf last)) × CountedSet r ⌝ }
+{
+    if f.set_choice == THIS_SET {
+        let part = f.set;
+        let given = message::bytes_of(s, part);
+        return set_of(given);
+    }
+    last
 }
 
 // With F, a first DATA byte LF is never displayed.
@@ -81,7 +102,7 @@ fn front_of(text: &[u8], end: usize, hidden: bool) -> &[u8]
 // The prompt as it is displayed.
 fn prompt_of(f: StartReadFields, s: &[u8]) -> &[u8]
     requires { ⌜ Startable (now s) f ⌝ }
-    ensures { λ r. ⌜ Piece (promptIn (now (s .entry)) f) (now r) ⌝ }
+    ensures { λ r. ⌜ now r ≡ promptIn (now (s .entry)) f ⌝ }
 {
     let hidden = hides_lf(f, s);
     let part = f.text;
@@ -92,7 +113,7 @@ fn prompt_of(f: StartReadFields, s: &[u8]) -> &[u8]
 // What the text has behind the prompt.
 fn data_of(f: StartReadFields, s: &[u8]) -> &[u8]
     requires { ⌜ Startable (now s) f ⌝ }
-    ensures { λ r. ⌜ Piece (dataIn (now (s .entry)) f) (now r) ⌝ }
+    ensures { λ r. ⌜ now r ≡ dataIn (now (s .entry)) f ⌝ }
 {
     let part = f.text;
     let text = message::bytes_of(s, part);
@@ -100,61 +121,78 @@ fn data_of(f: StartReadFields, s: &[u8]) -> &[u8]
     &text[start..]
 }
 
-impl Line {
-    // What is fixed for the whole of the read.
-    fn terms_for(self, f: StartReadFields, s: &[u8]) -> Terms
-        requires { ⌜ Counted self ⌝ }
-        requires { ⌜ Startable (now s) f ⌝ }
-        ensures { λ r. ⌜ (termsOf r ≡ rules.termsOf codes (startReadIn (now (s .entry)) f) (view self)) × CountedTerms r ⌝ }
-    {
-        let host = self.host;
-        let switches = host.switches;
-        let last = host.last_set;
-        let known = self.terminal;
-        let screen = known.screen;
-        let set = chosen_set(last, f, s);
-        let shown = prompt_of(f, s);
-        let mut prompt = [0u8; rules::INPUT];
-        let prompt_len = bytes::copy(shown, &mut prompt) as u16;
-        Terms {
-            underflow: f.underflow,
-            disables: f.disables,
-            raises: chosen(f.raises, switches.raising),
-            recognises: chosen(f.escapes, switches.recognising),
-            echoes: (f.silent == 0) & switches.echoing,
-            terminator_echo: f.terminator_echo == 1,
-            timed: f.timed == 1,
-            timeout: f.timeout,
-            set,
-            max_length: f.max_length,
-            end_of_prompt: f.end_of_prompt,
-            prompt,
-            prompt_len,
-            column: screen.column,
-            line: screen.line,
-        }
+// A piece of a read's text, put at its place.
+fn put_text(text: &mut [u8; rules::INPUT], at: usize, piece: &[u8])
+    requires { ⌜ length (now text) ≡ inputSize ⌝ }
+    requires { ⌜ at + length (now piece) ≤ inputSize ⌝ }
+    ensures { λ r. ⌜ now (text .exit) ≡ sets (now (text .entry)) at (now (piece .entry)) ⌝ }
+{
+    let mut i = 0;
+    while i < piece.len() {
+        let byte = piece[i];
+        text[at + i] = byte;
+        i += 1;
     }
+}
 
-    // The read as it begins.
-    pub(crate) fn read_for(self, f: StartReadFields, s: &[u8]) -> Reading
+// What is fixed for the whole of the read.
+fn terms_for(f: StartReadFields, switches: Switches, cursor: Screen, size: u16) -> Terms
+    ensures { λ r. ⌜ r ≡ termsFor f switches cursor size ⌝ }
+{
+    Terms {
+        underflow: f.underflow,
+        disables: f.disables,
+        raises: chosen(f.raises, switches.raising),
+        recognises: chosen(f.escapes, switches.recognising),
+        echoes: (f.silent == 0) & switches.echoing,
+        terminator_echo: f.terminator_echo == 1,
+        auto_prompt: switches.prompting,
+        timed: f.timed == 1,
+        timeout: f.timeout,
+        max_length: f.max_length,
+        end_of_prompt: f.end_of_prompt,
+        prompt_len: size,
+        column: cursor.column,
+        line: cursor.line,
+    }
+}
+
+// The read as it begins, at this column.
+pub(crate) fn reading_at(f: StartReadFields, s: &[u8], column: u16) -> Reading
+    requires { ⌜ f .«end_of_prompt» ≤ f .«end_of_data» ⌝ }
+    ensures { λ r. ⌜ r ≡ readingAt (now (s .entry)) f column ⌝ }
+{
+    Reading {
+        count: f.end_of_data - f.end_of_prompt,
+        low_water: f.low_water,
+        hidden: hides_lf(f, s) & (f.end_of_prompt == 0),
+        from: column,
+        idle: 0,
+    }
+}
+
+impl Line {
+    // The line with all that the Start Read fixes for its read.
+    pub(crate) fn opens(self, f: StartReadFields, s: &[u8]) -> Line
         requires { ⌜ Counted self ⌝ }
         requires { ⌜ Startable (now s) f ⌝ }
-        ensures { λ r. ⌜ Becomes (rules.readingOf codes (startReadIn (now (s .entry)) f) (view self)) r ⌝ }
+        ensures { λ r. ⌜ Opens (now (s .entry)) f self r ⌝ }
     {
-        let known = self.terminal;
-        let screen = known.screen;
-        let terms = self.terms_for(f, s);
+        let flow = self.flow;
+        let known = flow.terminal;
+        let cursor = known.screen;
+        let switches = self.switches;
+        let last = self.last_set;
+        let prompt = prompt_of(f, s);
         let data = data_of(f, s);
-        let mut input = [0u8; rules::INPUT];
-        let count = bytes::copy(data, &mut input) as u16;
-        Reading {
-            terms,
-            input,
-            count,
-            low_water: f.low_water,
-            hidden: hides_lf(f, s) & (f.end_of_prompt == 0),
-            from: screen.column,
-            idle: 0,
-        }
+        let size = prompt.len();
+        let terms = terms_for(f, switches, cursor, size as u16);
+        let mut next = self;
+        next.set = chosen_set(last, f, s);
+        next.last_set = last_set(last, f, s);
+        next.terms = terms;
+        put_text(&mut next.text, 0, data);
+        put_text(&mut next.text, rules::INPUT - size, prompt);
+        next
     }
 }

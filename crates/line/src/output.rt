@@ -11,8 +11,9 @@ ghost use Rattle.rules.specs.Turns.{writes, changes, sends, only};
 ghost use Rattle.rules.specs.Host as rules;
 ghost use Rattle.message.specs.Found.{writeIn};
 ghost use Rattle.screen.specs.View as screen;
-ghost use Rattle.line.specs.Bounded.{Counted};
-ghost use Rattle.line.specs.Promise.{Does};
+ghost use Rattle.line.specs.declared.Line.{Line};
+ghost use Rattle.line.specs.Bounded.{CountedFlow};
+ghost use Rattle.line.specs.Promise.{on, Does};
 use crate::Work;
 use message::Message;
 use message::WriteFields;
@@ -21,12 +22,13 @@ use screen::Screen;
 impl Work {
     // Don't-discard turns discarding off.
     fn keeps_output(self, keeps: u8) -> Work
-        requires { ⌜ Counted (self .line) ⌝ }
-        ensures { λ w. ⌜ ((t m : List ℕ) → Does (only (eqb keeps 1) (changes (λ s. withTerminal (withDiscarding false (s .terminal)) s))) self t m w t m) ⌝ }
+        requires { ⌜ CountedFlow (self .flow) ⌝ }
+        ensures counted { λ w. ⌜ CountedFlow (w .flow) ⌝ }
+        ensures rule { λ w. ⌜ ((l : Line) (t m : List ℕ) → Does (only (eqb keeps 1) (changes (λ s. withTerminal (withDiscarding false (s .terminal)) s))) (on l self) t m (on l w) t m) ⌝ }
     {
         if keeps == 1 {
-            let line = self.line;
-            let mut known = line.terminal;
+            let flow = self.flow;
+            let mut known = flow.terminal;
             known.discarding = false;
             return self.with_terminal(known);
         }
@@ -35,11 +37,12 @@ impl Work {
 
     // The data, unless output is discarded.
     fn writes_kept(self, terminal: &mut [u8], text: &[u8]) -> Work
-        requires { ⌜ Counted (self .line) ⌝ }
-        ensures { λ w. ⌜ ((m : List ℕ) → Does (λ s. only (not (s .terminal .discarding)) (writes (now (text .entry))) s) self (now (terminal .entry)) m w (now (terminal .exit)) m) ⌝ }
+        requires { ⌜ CountedFlow (self .flow) ⌝ }
+        ensures counted { λ w. ⌜ CountedFlow (w .flow) ⌝ }
+        ensures rule { λ w. ⌜ ((l : Line) (m : List ℕ) → Does (λ s. only (not (s .terminal .discarding)) (writes (now (text .entry))) s) (on l self) (now (terminal .entry)) m (on l w) (now (terminal .exit)) m) ⌝ }
     {
-        let line = self.line;
-        let known = line.terminal;
+        let flow = self.flow;
+        let known = flow.terminal;
         if known.discarding {
             return self;
         }
@@ -48,12 +51,13 @@ impl Work {
 
     // Write Completion: whether output was lost, and how far the cursor has moved.
     fn says_completion(self, messages: &mut [u8], wants: u8, some: bool, before: Screen) -> Work
-        requires { ⌜ Counted (self .line) ⌝ }
-        ensures { λ w. ⌜ ((x : forms.Message ℕ) (b : State ℕ) → some ≡ not (isEmpty (x .text)) → screen.view before ≡ b .terminal .screen → (t : List ℕ) → Does (only (eqb wants 1) (λ s. sends (rules.completion x b s) s)) self t (now (messages .entry)) w t (now (messages .exit))) ⌝ }
+        requires { ⌜ CountedFlow (self .flow) ⌝ }
+        ensures counted { λ w. ⌜ CountedFlow (w .flow) ⌝ }
+        ensures rule { λ w. ⌜ ((x : forms.Message ℕ) (b : State ℕ) → some ≡ not (isEmpty (x .text)) → screen.view before ≡ b .terminal .screen → (l : Line) (t : List ℕ) → Does (only (eqb wants 1) (λ s. sends (rules.completion x b s) s)) (on l self) t (now (messages .entry)) (on l w) t (now (messages .exit))) ⌝ }
     {
         if wants == 1 {
-            let line = self.line;
-            let known = line.terminal;
+            let flow = self.flow;
+            let known = flow.terminal;
             let cursor = known.screen;
             let lost = message::bit_of(known.discarding & some);
             let horizontal = screen::columns::change(cursor.column, before.column) as u16;
@@ -78,11 +82,12 @@ impl Work {
         f: WriteFields,
         s: &[u8],
     ) -> Work
-        requires { ⌜ Counted (self .line) ⌝ }
-        ensures { λ w. ⌜ Does (rules.writesOut (writeIn (now (s .entry)) f)) self (now (terminal .entry)) (now (messages .entry)) w (now (terminal .exit)) (now (messages .exit)) ⌝ }
+        requires { ⌜ CountedFlow (self .flow) ⌝ }
+        ensures counted { λ w. ⌜ CountedFlow (w .flow) ⌝ }
+        ensures rule { λ w. ⌜ ((l : Line) → Does (rules.writesOut (writeIn (now (s .entry)) f)) (on l self) (now (terminal .entry)) (now (messages .entry)) (on l w) (now (terminal .exit)) (now (messages .exit))) ⌝ }
     {
-        let line = self.line;
-        let known = line.terminal;
+        let flow = self.flow;
+        let known = flow.terminal;
         let before = known.screen;
         let text = message::bytes_of(s, f.text);
         let some = text.len() != 0;

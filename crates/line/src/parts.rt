@@ -1,44 +1,31 @@
-// A call goes on with one part of its line changed.
+// A call goes on with one part of its flow changed.
 ghost use mathlib.Core.Path.{_≡_};
-ghost use Rattle.line.specs.With.{onLine, onTerminal, onTyped, onHost, onRead, offRead};
+ghost use Rattle.line.specs.With.{goesOn, onTerminal, onTyped, onRead, offRead};
 use crate::Reading;
 use crate::Terminal;
 use crate::Typed;
 use crate::Work;
-use characteristics::Host;
 
 impl Work {
     pub(crate) fn with_terminal(self, t: Terminal) -> Work
-        ensures { λ r. ⌜ r ≡ onLine (onTerminal t (self .line)) self ⌝ }
+        ensures { λ r. ⌜ r ≡ goesOn (onTerminal t (self .flow)) self ⌝ }
     {
-        let mut line = self.line;
-        line.terminal = t;
+        let mut flow = self.flow;
+        flow.terminal = t;
         Work {
-            line,
+            flow,
             at: self.at,
             sent: self.sent,
         }
     }
 
     pub(crate) fn with_typed(self, t: Typed) -> Work
-        ensures { λ r. ⌜ r ≡ onLine (onTyped t (self .line)) self ⌝ }
+        ensures { λ r. ⌜ r ≡ goesOn (onTyped t (self .flow)) self ⌝ }
     {
-        let mut line = self.line;
-        line.typed = t;
+        let mut flow = self.flow;
+        flow.typed = t;
         Work {
-            line,
-            at: self.at,
-            sent: self.sent,
-        }
-    }
-
-    pub(crate) fn with_host(self, h: Host) -> Work
-        ensures { λ r. ⌜ r ≡ onLine (onHost h (self .line)) self ⌝ }
-    {
-        let mut line = self.line;
-        line.host = h;
-        Work {
-            line,
+            flow,
             at: self.at,
             sent: self.sent,
         }
@@ -46,25 +33,25 @@ impl Work {
 
     // With this read pending.
     pub(crate) fn with_read(self, read: Reading) -> Work
-        ensures { λ r. ⌜ r ≡ onLine (onRead read (self .line)) self ⌝ }
+        ensures { λ r. ⌜ r ≡ goesOn (onRead read (self .flow)) self ⌝ }
     {
-        let mut line = self.line;
-        line.pending = true;
-        line.reading = read;
+        let mut flow = self.flow;
+        flow.pending = true;
+        flow.reading = read;
         Work {
-            line,
+            flow,
             at: self.at,
             sent: self.sent,
         }
     }
 
     pub(crate) fn without_read(self) -> Work
-        ensures { λ r. ⌜ r ≡ onLine (offRead (self .line)) self ⌝ }
+        ensures { λ r. ⌜ r ≡ goesOn (offRead (self .flow)) self ⌝ }
     {
-        let mut line = self.line;
-        line.pending = false;
+        let mut flow = self.flow;
+        flow.pending = false;
         Work {
-            line,
+            flow,
             at: self.at,
             sent: self.sent,
         }

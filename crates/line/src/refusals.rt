@@ -5,17 +5,36 @@ ghost use mathlib.Core.List.{List};
 ghost use Rattle.rules.specs.Messages.Forms as forms;
 ghost use Rattle.rules.specs.Messages.Codec as codec;
 ghost use Rattle.rules.specs.Messages.Codec.{soundLength};
+ghost use Rattle.rules.specs.State.{State};
 ghost use Rattle.rules.specs.Calls as rules;
+ghost use Rattle.rules.specs.Calls.{isPending};
 ghost use Rattle.message.specs.Found.{startReadIn, writeIn, heldIn};
 ghost use Rattle.line.specs.View.{view};
 ghost use Rattle.line.specs.Bounded.{Counted};
+ghost use Rattle.line.specs.HostMessages.{messageOf};
 ghost use Rattle.line.specs.Answers.{refusal};
 ghost use Rattle.line.specs.Rows.{areRoomy, isHosts, firstRow, earlyRow};
 use crate::Answer;
 use crate::Line;
-use message::Message;
+use crate::events::HostMessage;
 use message::StartReadFields;
 use message::WriteFields;
+
+// The rows of the table.
+pub(crate) const SMALL_AREA: u8 = 1;
+
+const WRONG_LENGTH: u8 = 2;
+
+pub(crate) const WRONG_TYPE: u8 = 3;
+
+const WRONG_TIME: u8 = 4;
+
+pub(crate) const NOT_CARRIED: u8 = 6;
+
+// Types of messages.
+const INITIATE: u8 = 1;
+
+const START_READ: u8 = 2;
 
 // Both areas are large enough.
 pub(crate) fn are_roomy(terminal: usize, messages: usize) -> bool
@@ -63,18 +82,46 @@ fn first_row(roomy: bool, long: bool, hosts: bool, timely: bool) -> u8
     ensures { λ r. ⌜ r ≡ firstRow roomy long hosts timely ⌝ }
 {
     if !roomy {
-        return 1;
+        return SMALL_AREA;
     }
     if !long {
-        return 2;
+        return WRONG_LENGTH;
     }
     if !hosts {
-        return 3;
+        return WRONG_TYPE;
     }
     if !timely {
-        return 4;
+        return WRONG_TIME;
     }
     0
+}
+
+// First Initiate, and only once; Start Read with no read pending.
+fn is_timely(kind: u8, initiated: bool, pending: bool) -> bool
+    ensures { λ r. ⌜ ((s : State ℕ) → initiated ≡ s .host .begun → pending ≡ isPending (s .read) → r ≡ rules.isTimely kind s) ⌝ }
+{
+    if initiated {
+        return (kind != INITIATE) & !((kind == START_READ) & pending);
+    }
+    kind == INITIATE
+}
+
+// The row that applies before the message is read, or 0.
+pub(crate) fn early_row(
+    s: &[u8],
+    terminal: usize,
+    messages: usize,
+    initiated: bool,
+    pending: bool,
+) -> u8
+    ensures { λ r. ⌜ ((x : State ℕ) → initiated ≡ x .host .begun → pending ≡ isPending (x .read) → r ≡ earlyRow terminal messages (now (s .entry)) x) ⌝ }
+{
+    let roomy = are_roomy(terminal, messages);
+    let long = is_sound_length(s.len());
+    let kind = message::byte_at(s, 0);
+    let hosts = is_hosts(kind);
+    let timely = is_timely(kind, initiated, pending);
+    first_row(roomy, long, hosts, timely)
 }
 
 impl Line {
@@ -90,43 +137,21 @@ impl Line {
         }
     }
 
-    // First Initiate, and only once; Start Read with no read pending.
-    fn is_timely(self, kind: u8) -> bool
-        ensures { λ r. ⌜ r ≡ rules.isTimely kind (view self) ⌝ }
-    {
-        let host = self.host;
-        if host.begun {
-            return (kind != 1) & !((kind == 2) & self.pending);
-        }
-        kind == 1
-    }
-
-    // The row that applies before the message is read, or 0.
-    pub(crate) fn early_row(self, s: &[u8], terminal: usize, messages: usize) -> u8
-        ensures { λ r. ⌜ r ≡ earlyRow terminal messages (now (s .entry)) (view self) ⌝ }
-    {
-        let roomy = are_roomy(terminal, messages);
-        let long = is_sound_length(s.len());
-        let kind = message::byte_at(s, 0);
-        let hosts = is_hosts(kind);
-        let timely = self.is_timely(kind);
-        first_row(roomy, long, hosts, timely)
-    }
-
     // Row 6 does not apply.
-    pub(crate) fn carries(self, m: Message, s: &[u8]) -> bool
+    pub(crate) fn carries(self, m: HostMessage, s: &[u8]) -> bool
         requires { ⌜ Counted self ⌝ }
-        ensures { λ r. ⌜ ((x : forms.Message ℕ) → heldIn (now (s .entry)) m ≡ codec.message x → r ≡ rules.isCarriedBy (view self) x) ⌝ }
+        ensures { λ r. ⌜ ((x : forms.Message ℕ) → heldIn (now (s .entry)) (messageOf m) ≡ codec.message x → r ≡ rules.isCarriedBy (view self) x) ⌝ }
     {
-        let host = self.host;
         match m {
-            Message::StartRead(f) => carries_start_read(f),
-            Message::Write(f) => carries_write(f),
-            Message::ReadCharacteristics { parameters } => {
+            HostMessage::StartRead(f) => carries_start_read(f),
+            HostMessage::Write(f) => carries_write(f),
+            HostMessage::ReadCharacteristics(parameters) => {
+                let host = self.characteristics();
                 let list = message::bytes_of(s, parameters);
                 host.carries_questions(list)
             }
-            Message::Characteristics { parameters } => {
+            HostMessage::Characteristics(parameters) => {
+                let host = self.characteristics();
                 let list = message::bytes_of(s, parameters);
                 host.carries_settings(list)
             }

@@ -11,9 +11,10 @@ ghost use Rattle.message.specs.Found.{heldIn};
 ghost use Rattle.rules.specs.Turns.{sends};
 ghost use Rattle.writing.specs.Parts.{partsOf, inside};
 ghost use Rattle.writing.proofs.Lengths.{Sendable};
-ghost use Rattle.line.specs.Bounded.{Counted};
+ghost use Rattle.line.specs.declared.Line.{Line};
+ghost use Rattle.line.specs.Bounded.{CountedFlow};
 ghost use Rattle.line.specs.With.{afterSent};
-ghost use Rattle.line.specs.Promise.{Does};
+ghost use Rattle.line.specs.Promise.{on, Does};
 use crate::Work;
 use message::Message;
 
@@ -22,9 +23,9 @@ impl Work {
     pub(crate) fn sent_up_to(self, sent: usize) -> Work
         ensures { λ r. ⌜ r ≡ afterSent sent self ⌝ }
     {
-        let line = self.line;
+        let flow = self.flow;
         Work {
-            line,
+            flow,
             at: self.at,
             sent,
         }
@@ -32,8 +33,9 @@ impl Work {
 
     // A message without parameters, whose text stands in a slice.
     pub(crate) fn send(self, messages: &mut [u8], m: Message, s: &[u8]) -> Work
-        requires { ⌜ Counted (self .line) ⌝ }
-        ensures { λ w. ⌜ ((x : forms.Message ℕ) → Sendable (now (s .entry)) m x → inside (length (now (s .entry))) (partsOf m) ≡ true → (t : List ℕ) → Does (sends x) self t (now (messages .entry)) w t (now (messages .exit))) ⌝ }
+        requires { ⌜ CountedFlow (self .flow) ⌝ }
+        ensures counted { λ w. ⌜ CountedFlow (w .flow) ⌝ }
+        ensures rule { λ w. ⌜ ((x : forms.Message ℕ) → Sendable (now (s .entry)) m x → inside (length (now (s .entry))) (partsOf m) ≡ true → (l : Line) (t : List ℕ) → Does (sends x) (on l self) t (now (messages .entry)) (on l w) t (now (messages .exit))) ⌝ }
     {
         let at = self.sent;
         let sent = writing::put_framed(m, s, messages, at);
@@ -42,8 +44,9 @@ impl Work {
 
     // A message that has numbers alone.
     pub(crate) fn sends_plain(self, messages: &mut [u8], m: Message) -> Work
-        requires { ⌜ Counted (self .line) ⌝ }
-        ensures { λ w. ⌜ ((kind : ℕ) (numbers : List ℕ) → ((s : List ℕ) → heldIn s m ≡ codec.message (plain kind numbers)) → inside 0 (partsOf m) ≡ true → (t : List ℕ) → Does (sends (plain kind numbers)) self t (now (messages .entry)) w t (now (messages .exit))) ⌝ }
+        requires { ⌜ CountedFlow (self .flow) ⌝ }
+        ensures counted { λ w. ⌜ CountedFlow (w .flow) ⌝ }
+        ensures rule { λ w. ⌜ ((kind : ℕ) (numbers : List ℕ) → ((s : List ℕ) → heldIn s m ≡ codec.message (plain kind numbers)) → inside 0 (partsOf m) ≡ true → (l : Line) (t : List ℕ) → Does (sends (plain kind numbers)) (on l self) t (now (messages .entry)) (on l w) t (now (messages .exit))) ⌝ }
     {
         let text = [0u8; 1];
         self.send(messages, m, &text[..0])

@@ -5,24 +5,24 @@ ghost use Rattle.rules.specs.Screen as rules;
 ghost use Rattle.rules.specs.Turns.{writes};
 ghost use mathlib.Core.Path.{_≡_};
 ghost use Rattle.line.specs.With.{afterShown};
-ghost use Rattle.line.specs.Bounded.{Counted};
-ghost use Rattle.line.specs.Promise.{Does};
+ghost use Rattle.line.specs.declared.Line.{Line};
+ghost use Rattle.line.specs.Bounded.{CountedFlow};
+ghost use Rattle.line.specs.Promise.{on, Does};
 use crate::Work;
 use screen::Shown;
 
 impl Work {
-    // The line with the screen as it then is.
+    // With the screen as it then is.
     fn showing(self, s: Shown) -> Work
         ensures { λ r. ⌜ r ≡ afterShown s self ⌝ }
     {
-        let line = self.line;
-        let mut terminal = line.terminal;
+        let mut flow = self.flow;
+        let mut terminal = flow.terminal;
         let screen = s.screen;
         terminal.screen = screen;
-        let mut next = line;
-        next.terminal = terminal;
+        flow.terminal = terminal;
         Work {
-            line: next,
+            flow,
             at: s.at,
             sent: self.sent,
         }
@@ -30,11 +30,12 @@ impl Work {
 
     // The bytes of a text, raw.
     pub(crate) fn write(self, terminal: &mut [u8], text: &[u8]) -> Work
-        requires { ⌜ Counted (self .line) ⌝ }
-        ensures { λ r. ⌜ ((m : List ℕ) → Does (writes (now (text .entry))) self (now (terminal .entry)) m r (now (terminal .exit)) m) ⌝ }
+        requires { ⌜ CountedFlow (self .flow) ⌝ }
+        ensures counted { λ r. ⌜ CountedFlow (r .flow) ⌝ }
+        ensures rule { λ r. ⌜ ((l : Line) (m : List ℕ) → Does (writes (now (text .entry))) (on l self) (now (terminal .entry)) m (on l r) (now (terminal .exit)) m) ⌝ }
     {
-        let line = self.line;
-        let known = line.terminal;
+        let flow = self.flow;
+        let known = flow.terminal;
         let screen = known.screen;
         let at = self.at;
         let shown = screen::put::write(screen, terminal, at, text);
@@ -43,11 +44,12 @@ impl Work {
 
     // One byte.
     pub(crate) fn put(self, terminal: &mut [u8], b: u8) -> Work
-        requires { ⌜ Counted (self .line) ⌝ }
-        ensures { λ r. ⌜ ((m : List ℕ) → Does (writes (b ∷ [])) self (now (terminal .entry)) m r (now (terminal .exit)) m) ⌝ }
+        requires { ⌜ CountedFlow (self .flow) ⌝ }
+        ensures counted { λ r. ⌜ CountedFlow (r .flow) ⌝ }
+        ensures rule { λ r. ⌜ ((l : Line) (m : List ℕ) → Does (writes (b ∷ [])) (on l self) (now (terminal .entry)) m (on l r) (now (terminal .exit)) m) ⌝ }
     {
-        let line = self.line;
-        let known = line.terminal;
+        let flow = self.flow;
+        let known = flow.terminal;
         let screen = known.screen;
         let at = self.at;
         let shown = screen::put::put(screen, terminal, at, b);
@@ -56,11 +58,12 @@ impl Work {
 
     // A character's echo.
     pub(crate) fn echo(self, terminal: &mut [u8], n: u8) -> Work
-        requires { ⌜ Counted (self .line) ⌝ }
-        ensures { λ r. ⌜ ((m : List ℕ) → Does (writes (rules.echo (self .line .terminal .screen .column) n)) self (now (terminal .entry)) m r (now (terminal .exit)) m) ⌝ }
+        requires { ⌜ CountedFlow (self .flow) ⌝ }
+        ensures counted { λ r. ⌜ CountedFlow (r .flow) ⌝ }
+        ensures rule { λ r. ⌜ ((l : Line) (m : List ℕ) → Does (writes (rules.echo (self .flow .terminal .screen .column) n)) (on l self) (now (terminal .entry)) m (on l r) (now (terminal .exit)) m) ⌝ }
     {
-        let line = self.line;
-        let known = line.terminal;
+        let flow = self.flow;
+        let known = flow.terminal;
         let screen = known.screen;
         let at = self.at;
         let shown = screen::echo::echo(screen, terminal, at, n);
@@ -69,11 +72,12 @@ impl Work {
 
     // A terminator's echo.
     pub(crate) fn echo_terminator(self, terminal: &mut [u8], n: u8) -> Work
-        requires { ⌜ Counted (self .line) ⌝ }
-        ensures { λ r. ⌜ ((m : List ℕ) → Does (writes (rules.terminatorEcho (self .line .terminal .screen .column) n)) self (now (terminal .entry)) m r (now (terminal .exit)) m) ⌝ }
+        requires { ⌜ CountedFlow (self .flow) ⌝ }
+        ensures counted { λ r. ⌜ CountedFlow (r .flow) ⌝ }
+        ensures rule { λ r. ⌜ ((l : Line) (m : List ℕ) → Does (writes (rules.terminatorEcho (self .flow .terminal .screen .column) n)) (on l self) (now (terminal .entry)) m (on l r) (now (terminal .exit)) m) ⌝ }
     {
-        let line = self.line;
-        let known = line.terminal;
+        let flow = self.flow;
+        let known = flow.terminal;
         let screen = known.screen;
         let at = self.at;
         let shown = screen::echo::terminator_echo(screen, terminal, at, n);
@@ -82,11 +86,12 @@ impl Work {
 
     // A text's echo.
     pub(crate) fn echo_all(self, terminal: &mut [u8], text: &[u8]) -> Work
-        requires { ⌜ Counted (self .line) ⌝ }
-        ensures { λ r. ⌜ ((m : List ℕ) → Does (writes (rules.echoAll (self .line .terminal .screen .column) (now (text .entry)))) self (now (terminal .entry)) m r (now (terminal .exit)) m) ⌝ }
+        requires { ⌜ CountedFlow (self .flow) ⌝ }
+        ensures counted { λ r. ⌜ CountedFlow (r .flow) ⌝ }
+        ensures rule { λ r. ⌜ ((l : Line) (m : List ℕ) → Does (writes (rules.echoAll (self .flow .terminal .screen .column) (now (text .entry)))) (on l self) (now (terminal .entry)) m (on l r) (now (terminal .exit)) m) ⌝ }
     {
-        let line = self.line;
-        let known = line.terminal;
+        let flow = self.flow;
+        let known = flow.terminal;
         let screen = known.screen;
         let at = self.at;
         let shown = screen::echo::echo_all(screen, terminal, at, text);
@@ -95,11 +100,12 @@ impl Work {
 
     // Blanks over so many marks.
     pub(crate) fn rub_out(self, terminal: &mut [u8], marks: usize) -> Work
-        requires { ⌜ Counted (self .line) ⌝ }
-        ensures { λ r. ⌜ ((m : List ℕ) → Does (writes (rules.rubOut marks)) self (now (terminal .entry)) m r (now (terminal .exit)) m) ⌝ }
+        requires { ⌜ CountedFlow (self .flow) ⌝ }
+        ensures counted { λ r. ⌜ CountedFlow (r .flow) ⌝ }
+        ensures rule { λ r. ⌜ ((l : Line) (m : List ℕ) → Does (writes (rules.rubOut marks)) (on l self) (now (terminal .entry)) m (on l r) (now (terminal .exit)) m) ⌝ }
     {
-        let line = self.line;
-        let known = line.terminal;
+        let flow = self.flow;
+        let known = flow.terminal;
         let screen = known.screen;
         let at = self.at;
         let shown = screen::rub::rub_out(screen, terminal, at, marks);

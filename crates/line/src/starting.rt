@@ -1,111 +1,104 @@
 // What an accepted Start Read does.
-ghost use Prim.Native.Nat.{ℕ};
+ghost use Prim.Native.Nat.{ℕ, _≤_};
+ghost use mathlib.Core.Path.{_≡_};
 ghost use mathlib.Core.List.{List, [], _∷_};
+ghost use lib.ListN.{length};
+ghost use Rattle.rules.specs.Numbers.{inputSize};
 ghost use Rattle.rules.specs.State.{codes};
 ghost use Rattle.rules.specs.Turns.{writes, only};
 ghost use Rattle.rules.specs.Arrival.{emptiesTyped};
 ghost use Rattle.rules.specs.ReadData.{byFullBuffer, completes};
 ghost use Rattle.rules.specs.StartRead.Acceptance as rules;
 ghost use Rattle.message.specs.Found.{startReadIn};
+ghost use Rattle.line.specs.declared.Line.{Line};
 ghost use Rattle.line.specs.View.{readingOf};
-ghost use Rattle.line.specs.Bounded.{Counted, CountedReading};
-ghost use Rattle.line.specs.Starts.{Startable};
-ghost use Rattle.line.specs.Promise.{Does};
+ghost use Rattle.line.specs.Bounded.{CountedFlow, CountedReading};
+ghost use Rattle.line.specs.With.{lent};
+ghost use Rattle.line.specs.Starts.{Startable, readingAt};
+ghost use Rattle.line.specs.Promise.{on, Does, DoesOn};
 use crate::Reading;
+use crate::Terms;
 use crate::Work;
-use crate::opening::set_of;
+use crate::ending;
+use crate::opening::reading_at;
 use message::StartReadFields;
 
+const LINE_FEED: u8 = 10;
+
+// What auto prompt writes before the prompt.
+const AUTO_PROMPT: u8 = 1;
+
 impl Work {
-    fn empties_typed_if(self, on: bool) -> Work
-        requires { ⌜ Counted (self .line) ⌝ }
-        ensures { λ w. ⌜ ((t m : List ℕ) → Does (only on emptiesTyped) self t m w t m) ⌝ }
+    fn empties_typed_if(self, wanted: bool) -> Work
+        requires { ⌜ CountedFlow (self .flow) ⌝ }
+        ensures counted { λ w. ⌜ CountedFlow (w .flow) ⌝ }
+        ensures rule { λ w. ⌜ ((l : Line) (t m : List ℕ) → Does (only wanted emptiesTyped) (on l self) t m (on l w) t m) ⌝ }
     {
-        if on {
+        if wanted {
             return self.empties_typed();
         }
         self
     }
 
-    fn puts_if(self, terminal: &mut [u8], on: bool, b: u8) -> Work
-        requires { ⌜ Counted (self .line) ⌝ }
-        ensures { λ w. ⌜ ((m : List ℕ) → Does (only on (writes (b ∷ []))) self (now (terminal .entry)) m w (now (terminal .exit)) m) ⌝ }
+    fn puts_if(self, terminal: &mut [u8], wanted: bool, b: u8) -> Work
+        requires { ⌜ CountedFlow (self .flow) ⌝ }
+        ensures counted { λ w. ⌜ CountedFlow (w .flow) ⌝ }
+        ensures rule { λ w. ⌜ ((l : Line) (m : List ℕ) → Does (only wanted (writes (b ∷ []))) (on l self) (now (terminal .entry)) m (on l w) (now (terminal .exit)) m) ⌝ }
     {
-        if on {
+        if wanted {
             return self.put(terminal, b);
         }
         self
     }
 
     // A read whose buffer is full from the start completes at once.
-    fn completes_if(self, messages: &mut [u8], full: bool, r: Reading) -> Work
-        requires { ⌜ Counted (self .line) ⌝ }
-        requires { ⌜ CountedReading r ⌝ }
-        ensures { λ w. ⌜ ((t : List ℕ) → Does (only full (completes codes byFullBuffer 0 (readingOf r))) self t (now (messages .entry)) w t (now (messages .exit))) ⌝ }
+    fn completes_if(
+        self,
+        messages: &mut [u8],
+        full: bool,
+        r: Reading,
+        text: &[u8],
+        t: Terms,
+    ) -> Work
+        requires { ⌜ CountedFlow (self .flow) ⌝ }
+        requires { ⌜ CountedReading r (now text) ⌝ }
+        ensures counted { λ w. ⌜ CountedFlow (w .flow) ⌝ }
+        ensures rule { λ w. ⌜ ((l : Line) (a : List ℕ) → DoesOn (λ k. only full (completes codes byFullBuffer 0 (readingOf k r))) (lent t (now (text .entry)) l) self a (now (messages .entry)) w a (now (messages .exit))) ⌝ }
     {
         if full {
-            return self.completes(messages, 4, 0, r);
+            return self.completes(messages, ending::BUFFER_FULL, 0, r, text, t);
         }
         self
     }
 
     // Type-ahead that C clears, LF, byte 1, the display, and an answer where the buffer is full.
-    fn begins(
+    pub(crate) fn begins(
         self,
         terminal: &mut [u8],
         messages: &mut [u8],
         f: StartReadFields,
         s: &[u8],
-        r: Reading,
+        text: &[u8],
+        t: Terms,
     ) -> Work
-        requires { ⌜ Counted (self .line) ⌝ }
-        requires { ⌜ CountedReading r ⌝ }
-        ensures { λ w. ⌜ Does (rules.begins codes (startReadIn (now (s .entry)) f) (readingOf r)) self (now (terminal .entry)) (now (messages .entry)) w (now (terminal .exit)) (now (messages .exit)) ⌝ }
+        requires { ⌜ CountedFlow (self .flow) ⌝ }
+        requires { ⌜ length (now text) ≡ inputSize ⌝ }
+        requires { ⌜ t .«prompt_len» ≤ inputSize ⌝ }
+        requires { ⌜ Startable (now s) f ⌝ }
+        ensures counted { λ w. ⌜ CountedFlow (w .flow) ⌝ }
+        ensures rule { λ w. ⌜ ((l : Line) → t .«auto_prompt» ≡ l .switches .prompting → DoesOn (λ k. rules.begins codes (startReadIn (now (s .entry)) f) (readingOf k (readingAt (now (s .entry)) f (self .flow .terminal .screen .column)))) (lent t (now (text .entry)) l) self (now (terminal .entry)) (now (messages .entry)) w (now (terminal .exit)) (now (messages .exit))) ⌝ }
     {
-        let emptied = self.empties_typed_if(f.clears == 1);
-        let line = emptied.line;
-        let known = line.terminal;
+        let flow = self.flow;
+        let known = flow.terminal;
         let screen = known.screen;
-        let formatted = emptied.puts_if(terminal, (f.formats == 1) & screen.after_cr, 10);
-        let next = formatted.line;
-        let host = next.host;
-        let switches = host.switches;
-        let prompted = formatted.puts_if(terminal, switches.prompting, 1);
-        let shown = prompted.displays(terminal, r);
-        shown.completes_if(messages, f.end_of_data == f.max_length, r)
-    }
-
-    // ZZ 1 gives the set that ZZ 0 looks at.
-    fn remembers_set(self, f: StartReadFields, s: &[u8]) -> Work
-        requires { ⌜ Counted (self .line) ⌝ }
-        requires { ⌜ Startable (now s) f ⌝ }
-        ensures { λ w. ⌜ ((t m : List ℕ) → Does (rules.remembersSet codes (startReadIn (now (s .entry)) f)) self t m w t m) ⌝ }
-    {
-        if f.set_choice == 1 {
-            let part = f.set;
-            let given = message::bytes_of(s, part);
-            let line = self.line;
-            let mut host = line.host;
-            host.last_set = set_of(given);
-            return self.with_host(host);
-        }
-        self
-    }
-
-    pub(crate) fn starts_read(
-        self,
-        terminal: &mut [u8],
-        messages: &mut [u8],
-        f: StartReadFields,
-        s: &[u8],
-    ) -> Work
-        requires { ⌜ Counted (self .line) ⌝ }
-        requires { ⌜ Startable (now s) f ⌝ }
-        ensures { λ w. ⌜ Does (rules.startsRead codes (startReadIn (now (s .entry)) f)) self (now (terminal .entry)) (now (messages .entry)) w (now (terminal .exit)) (now (messages .exit)) ⌝ }
-    {
-        let line = self.line;
-        let r = line.read_for(f, s);
-        let begun = self.begins(terminal, messages, f, s, r);
-        begun.remembers_set(f, s)
+        let r = reading_at(f, s, screen.column);
+        let emptied = self.empties_typed_if(f.clears == 1);
+        let next = emptied.flow;
+        let shown = next.terminal;
+        let cursor = shown.screen;
+        let formatted = emptied.puts_if(terminal, (f.formats == 1) & cursor.after_cr, LINE_FEED);
+        let prompted = formatted.puts_if(terminal, t.auto_prompt, AUTO_PROMPT);
+        let displayed = prompted.displays(terminal, r, text, t);
+        displayed.completes_if(messages, f.end_of_data == f.max_length, r, text, t)
     }
 }

@@ -1,83 +1,132 @@
 // A step takes a key as data, a terminator, an edit or a part of a token.
 ghost use Prim.Native.Nat.{ℕ, _+_, _≤_, _<_};
+ghost use mathlib.Core.Path.{_≡_};
 ghost use mathlib.Core.List.{List};
+ghost use lib.ListN.{length};
 ghost use Rattle.rules.specs.Numbers.{inputSize, tokenSize};
 ghost use Rattle.rules.specs.State.{codes};
 ghost use Rattle.rules.specs.Steps as rules;
+ghost use Rattle.line.specs.declared.Line.{Line};
 ghost use Rattle.line.specs.View.{readingOf};
-ghost use Rattle.line.specs.Bounded.{Counted, CountedReading};
+ghost use Rattle.line.specs.Bounded.{CountedFlow, CountedReading};
+ghost use Rattle.line.specs.With.{lent};
 ghost use Rattle.line.specs.ReadingParts.{HasRoom};
 ghost use Rattle.line.specs.StepParts.{endsByToken, echoesIf, echoesTerminatorIf};
-ghost use Rattle.line.specs.Promise.{Does};
+ghost use Rattle.line.specs.Promise.{on, Does, DoesAcross};
 use crate::Reading;
+use crate::Terms;
 use crate::Work;
+use crate::arrival::BEL;
+use crate::ending;
+
+// Codes that edit, by step rule 6.
+pub(crate) const DELETE_CHARACTER: u8 = 127;
+
+pub(crate) const DELETE_WORD: u8 = 23;
+
+pub(crate) const DELETE_LINE: u8 = 21;
+
+pub(crate) const REDISPLAY: u8 = 18;
+
+// UU: what 127 or 23 does with nothing to delete.
+const UNDERFLOW_BEL: u8 = 1;
+
+const UNDERFLOW_COMPLETES: u8 = 2;
 
 impl Work {
     // A token that fits completes the read.
-    fn ends_by_token(self, messages: &mut [u8], r: Reading) -> Work
-        requires { ⌜ Counted (self .line) ⌝ }
-        requires { ⌜ CountedReading r ⌝ }
-        requires { ⌜ r .count + self .line .typed .«token_len» ≤ inputSize ⌝ }
-        ensures { λ w. ⌜ ((t : List ℕ) → Does (endsByToken (readingOf r)) self t (now (messages .entry)) w t (now (messages .exit))) ⌝ }
+    fn ends_by_token(
+        self,
+        messages: &mut [u8],
+        r: Reading,
+        text: &mut [u8; rules::INPUT],
+        t: Terms,
+    ) -> Work
+        requires { ⌜ CountedFlow (self .flow) ⌝ }
+        requires { ⌜ CountedReading r (now text) ⌝ }
+        requires { ⌜ r .count + self .flow .typed .«token_len» + t .«prompt_len» ≤ inputSize ⌝ }
+        ensures counted { λ w. ⌜ CountedFlow (w .flow) ⌝ }
+        ensures sized { λ w. ⌜ length (now (text .exit)) ≡ inputSize ⌝ }
+        ensures rule { λ w. ⌜ ((l : Line) (a : List ℕ) → DoesAcross (λ k. endsByToken (readingOf k r)) (lent t (now (text .entry)) l) self a (now (messages .entry)) (lent t (now (text .exit)) l) w a (now (messages .exit))) ⌝ }
     {
-        let line = self.line;
-        let typed = line.typed;
+        let flow = self.flow;
+        let typed = flow.typed;
         let token = typed.token;
         let size = typed.token_len as usize;
-        let next = r.push_all(&token[..size]);
+        let next = r.push_all(text, &token[..size]);
         let code = typed.token_code();
         let without = typed.without_token();
         let ready = self.with_typed(without);
-        ready.completes(messages, code, size as u16, next)
+        ready.completes(messages, code, size as u16, next, text, t)
     }
 
     // A whole token: one that does not fit stays held.
-    pub(crate) fn takes_token(self, messages: &mut [u8], r: Reading) -> Work
-        requires { ⌜ Counted (self .line) ⌝ }
-        requires { ⌜ HasRoom r ⌝ }
-        ensures { λ w. ⌜ ((t : List ℕ) → Does (rules.takesToken codes (readingOf r)) self t (now (messages .entry)) w t (now (messages .exit))) ⌝ }
+    pub(crate) fn takes_token(
+        self,
+        messages: &mut [u8],
+        r: Reading,
+        text: &mut [u8; rules::INPUT],
+        t: Terms,
+    ) -> Work
+        requires { ⌜ CountedFlow (self .flow) ⌝ }
+        requires { ⌜ CountedReading r (now text) ⌝ }
+        requires { ⌜ HasRoom t r ⌝ }
+        ensures counted { λ w. ⌜ CountedFlow (w .flow) ⌝ }
+        ensures sized { λ w. ⌜ length (now (text .exit)) ≡ inputSize ⌝ }
+        ensures rule { λ w. ⌜ ((l : Line) (a : List ℕ) → DoesAcross (λ k. rules.takesToken codes (readingOf k r)) (lent t (now (text .entry)) l) self a (now (messages .entry)) (lent t (now (text .exit)) l) w a (now (messages .exit))) ⌝ }
     {
-        let line = self.line;
-        let typed = line.typed;
-        let terms = r.terms;
-        if r.end() + typed.token_len as u32 <= terms.max_length as u32 {
-            return self.ends_by_token(messages, r);
+        let flow = self.flow;
+        let typed = flow.typed;
+        if r.end(t) + typed.token_len as u32 <= t.max_length as u32 {
+            return self.ends_by_token(messages, r, text, t);
         }
-        self.completes(messages, 8, 0, r)
+        self.completes(messages, ending::ABSENTEE, 0, r, text, t)
     }
 
     // Rules 1 and 3.
-    pub(crate) fn adds_to_token(self, messages: &mut [u8], c: u8, r: Reading) -> Work
-        requires { ⌜ Counted (self .line) ⌝ }
-        requires { ⌜ HasRoom r ⌝ }
-        requires { ⌜ self .line .typed .«token_len» < tokenSize ⌝ }
-        ensures { λ w. ⌜ ((t : List ℕ) → Does (rules.addsToToken codes c (readingOf r)) self t (now (messages .entry)) w t (now (messages .exit))) ⌝ }
+    pub(crate) fn adds_to_token(
+        self,
+        messages: &mut [u8],
+        c: u8,
+        r: Reading,
+        text: &mut [u8; rules::INPUT],
+        t: Terms,
+    ) -> Work
+        requires { ⌜ CountedFlow (self .flow) ⌝ }
+        requires { ⌜ CountedReading r (now text) ⌝ }
+        requires { ⌜ HasRoom t r ⌝ }
+        requires { ⌜ self .flow .typed .«token_len» < tokenSize ⌝ }
+        ensures counted { λ w. ⌜ CountedFlow (w .flow) ⌝ }
+        ensures sized { λ w. ⌜ length (now (text .exit)) ≡ inputSize ⌝ }
+        ensures rule { λ w. ⌜ ((l : Line) (a : List ℕ) → DoesAcross (λ k. rules.addsToToken codes c (readingOf k r)) (lent t (now (text .entry)) l) self a (now (messages .entry)) (lent t (now (text .exit)) l) w a (now (messages .exit))) ⌝ }
     {
-        let line = self.line;
-        let typed = line.typed;
+        let flow = self.flow;
+        let typed = flow.typed;
         let next = typed.tokened(c);
         let ready = self.with_typed(next);
         if next.is_held() {
-            return ready.takes_token(messages, r);
+            return ready.takes_token(messages, r, text, t);
         }
         ready
     }
 
-    fn echoes_if(self, terminal: &mut [u8], on: bool, c: u8) -> Work
-        requires { ⌜ Counted (self .line) ⌝ }
-        ensures { λ w. ⌜ ((m : List ℕ) → Does (echoesIf on c) self (now (terminal .entry)) m w (now (terminal .exit)) m) ⌝ }
+    fn echoes_if(self, terminal: &mut [u8], wanted: bool, c: u8) -> Work
+        requires { ⌜ CountedFlow (self .flow) ⌝ }
+        ensures counted { λ w. ⌜ CountedFlow (w .flow) ⌝ }
+        ensures rule { λ w. ⌜ ((l : Line) (m : List ℕ) → Does (echoesIf wanted c) (on l self) (now (terminal .entry)) m (on l w) (now (terminal .exit)) m) ⌝ }
     {
-        if on {
+        if wanted {
             return self.echo(terminal, c);
         }
         self
     }
 
-    fn echoes_terminator_if(self, terminal: &mut [u8], on: bool, c: u8) -> Work
-        requires { ⌜ Counted (self .line) ⌝ }
-        ensures { λ w. ⌜ ((m : List ℕ) → Does (echoesTerminatorIf on c) self (now (terminal .entry)) m w (now (terminal .exit)) m) ⌝ }
+    fn echoes_terminator_if(self, terminal: &mut [u8], wanted: bool, c: u8) -> Work
+        requires { ⌜ CountedFlow (self .flow) ⌝ }
+        ensures counted { λ w. ⌜ CountedFlow (w .flow) ⌝ }
+        ensures rule { λ w. ⌜ ((l : Line) (m : List ℕ) → Does (echoesTerminatorIf wanted c) (on l self) (now (terminal .entry)) m (on l w) (now (terminal .exit)) m) ⌝ }
     {
-        if on {
+        if wanted {
             return self.echo_terminator(terminal, c);
         }
         self
@@ -90,17 +139,21 @@ impl Work {
         messages: &mut [u8],
         c: u8,
         r: Reading,
+        text: &mut [u8; rules::INPUT],
+        t: Terms,
     ) -> Work
-        requires { ⌜ Counted (self .line) ⌝ }
-        requires { ⌜ HasRoom r ⌝ }
-        ensures { λ w. ⌜ Does (rules.takesData codes c (readingOf r)) self (now (terminal .entry)) (now (messages .entry)) w (now (terminal .exit)) (now (messages .exit)) ⌝ }
+        requires { ⌜ CountedFlow (self .flow) ⌝ }
+        requires { ⌜ CountedReading r (now text) ⌝ }
+        requires { ⌜ HasRoom t r ⌝ }
+        ensures counted { λ w. ⌜ CountedFlow (w .flow) ⌝ }
+        ensures sized { λ w. ⌜ length (now (text .exit)) ≡ inputSize ⌝ }
+        ensures rule { λ w. ⌜ ((l : Line) → DoesAcross (λ k. rules.takesData codes c (readingOf k r)) (lent t (now (text .entry)) l) self (now (terminal .entry)) (now (messages .entry)) (lent t (now (text .exit)) l) w (now (terminal .exit)) (now (messages .exit))) ⌝ }
     {
-        let terms = r.terms;
-        let next = r.push(c);
+        let next = r.push(text, c);
         let ready = self.with_read(next);
-        let shown = ready.echoes_if(terminal, terms.echoes, c);
-        if r.end() + 1 == terms.max_length as u32 {
-            return shown.completes(messages, 4, 0, next);
+        let shown = ready.echoes_if(terminal, t.echoes, c);
+        if r.end(t) + 1 == t.max_length as u32 {
+            return shown.completes(messages, ending::BUFFER_FULL, 0, next, text, t);
         }
         shown
     }
@@ -112,66 +165,103 @@ impl Work {
         messages: &mut [u8],
         c: u8,
         r: Reading,
+        text: &mut [u8; rules::INPUT],
+        t: Terms,
     ) -> Work
-        requires { ⌜ Counted (self .line) ⌝ }
-        requires { ⌜ HasRoom r ⌝ }
-        ensures { λ w. ⌜ Does (rules.terminates codes c (readingOf r)) self (now (terminal .entry)) (now (messages .entry)) w (now (terminal .exit)) (now (messages .exit)) ⌝ }
+        requires { ⌜ CountedFlow (self .flow) ⌝ }
+        requires { ⌜ CountedReading r (now text) ⌝ }
+        requires { ⌜ HasRoom t r ⌝ }
+        ensures counted { λ w. ⌜ CountedFlow (w .flow) ⌝ }
+        ensures sized { λ w. ⌜ length (now (text .exit)) ≡ inputSize ⌝ }
+        ensures rule { λ w. ⌜ ((l : Line) → DoesAcross (λ k. rules.terminates codes c (readingOf k r)) (lent t (now (text .entry)) l) self (now (terminal .entry)) (now (messages .entry)) (lent t (now (text .exit)) l) w (now (terminal .exit)) (now (messages .exit))) ⌝ }
     {
-        let terms = r.terms;
-        let next = r.push(c);
-        let shown = self.echoes_terminator_if(terminal, terms.terminator_echo & terms.echoes, c);
-        shown.completes(messages, 0, 1, next)
+        let next = r.push(text, c);
+        let shown = self.echoes_terminator_if(terminal, t.terminator_echo & t.echoes, c);
+        shown.completes(messages, ending::TERMINATOR, 1, next, text, t)
     }
 
     // 127 or 23 with nothing to delete.
-    fn underflows(self, terminal: &mut [u8], messages: &mut [u8], c: u8, r: Reading) -> Work
-        requires { ⌜ Counted (self .line) ⌝ }
-        requires { ⌜ HasRoom r ⌝ }
-        ensures { λ w. ⌜ Does (rules.underflows codes c (readingOf r)) self (now (terminal .entry)) (now (messages .entry)) w (now (terminal .exit)) (now (messages .exit)) ⌝ }
+    fn underflows(
+        self,
+        terminal: &mut [u8],
+        messages: &mut [u8],
+        c: u8,
+        r: Reading,
+        text: &mut [u8; rules::INPUT],
+        t: Terms,
+    ) -> Work
+        requires { ⌜ CountedFlow (self .flow) ⌝ }
+        requires { ⌜ CountedReading r (now text) ⌝ }
+        requires { ⌜ HasRoom t r ⌝ }
+        ensures counted { λ w. ⌜ CountedFlow (w .flow) ⌝ }
+        ensures sized { λ w. ⌜ length (now (text .exit)) ≡ inputSize ⌝ }
+        ensures rule { λ w. ⌜ ((l : Line) → DoesAcross (λ k. rules.underflows codes c (readingOf k r)) (lent t (now (text .entry)) l) self (now (terminal .entry)) (now (messages .entry)) (lent t (now (text .exit)) l) w (now (terminal .exit)) (now (messages .exit))) ⌝ }
     {
-        let terms = r.terms;
-        let underflow = terms.underflow;
-        if underflow == 2 {
-            let next = r.push(c);
-            return self.completes(messages, 7, 1, next);
+        let underflow = t.underflow;
+        if underflow == UNDERFLOW_COMPLETES {
+            let next = r.push(text, c);
+            return self.completes(messages, ending::UNDERFLOW, 1, next, text, t);
         }
-        if underflow == 1 {
-            return self.put(terminal, 7);
+        if underflow == UNDERFLOW_BEL {
+            return self.put(terminal, BEL);
         }
         self
     }
 
     // 127 and 23, which leave so many characters.
-    fn erases(self, terminal: &mut [u8], messages: &mut [u8], left: u16, c: u8, r: Reading) -> Work
-        requires { ⌜ Counted (self .line) ⌝ }
-        requires { ⌜ HasRoom r ⌝ }
+    fn erases(
+        self,
+        terminal: &mut [u8],
+        messages: &mut [u8],
+        left: u16,
+        c: u8,
+        r: Reading,
+        text: &mut [u8; rules::INPUT],
+        t: Terms,
+    ) -> Work
+        requires { ⌜ CountedFlow (self .flow) ⌝ }
+        requires { ⌜ CountedReading r (now text) ⌝ }
+        requires { ⌜ HasRoom t r ⌝ }
         requires { ⌜ left ≤ r .count ⌝ }
-        ensures { λ w. ⌜ Does (rules.erases codes left c (readingOf r)) self (now (terminal .entry)) (now (messages .entry)) w (now (terminal .exit)) (now (messages .exit)) ⌝ }
+        ensures counted { λ w. ⌜ CountedFlow (w .flow) ⌝ }
+        ensures sized { λ w. ⌜ length (now (text .exit)) ≡ inputSize ⌝ }
+        ensures rule { λ w. ⌜ ((l : Line) → DoesAcross (λ k. rules.erases codes left c (readingOf k r)) (lent t (now (text .entry)) l) self (now (terminal .entry)) (now (messages .entry)) (lent t (now (text .exit)) l) w (now (terminal .exit)) (now (messages .exit))) ⌝ }
     {
         let count = r.count;
         if count == 0 {
-            return self.underflows(terminal, messages, c, r);
+            return self.underflows(terminal, messages, c, r, text, t);
         }
-        self.deletes(terminal, left, r)
+        self.deletes(terminal, left, r, text, t)
     }
 
     // Rule 6.
-    pub(crate) fn edits(self, terminal: &mut [u8], messages: &mut [u8], c: u8, r: Reading) -> Work
-        requires { ⌜ Counted (self .line) ⌝ }
-        requires { ⌜ HasRoom r ⌝ }
-        ensures { λ w. ⌜ Does (rules.edits codes c (readingOf r)) self (now (terminal .entry)) (now (messages .entry)) w (now (terminal .exit)) (now (messages .exit)) ⌝ }
+    pub(crate) fn edits(
+        self,
+        terminal: &mut [u8],
+        messages: &mut [u8],
+        c: u8,
+        r: Reading,
+        text: &mut [u8; rules::INPUT],
+        t: Terms,
+    ) -> Work
+        requires { ⌜ CountedFlow (self .flow) ⌝ }
+        requires { ⌜ CountedReading r (now text) ⌝ }
+        requires { ⌜ HasRoom t r ⌝ }
+        ensures counted { λ w. ⌜ CountedFlow (w .flow) ⌝ }
+        ensures sized { λ w. ⌜ length (now (text .exit)) ≡ inputSize ⌝ }
+        ensures rule { λ w. ⌜ ((l : Line) → DoesAcross (λ k. rules.edits codes c (readingOf k r)) (lent t (now (text .entry)) l) self (now (terminal .entry)) (now (messages .entry)) (lent t (now (text .exit)) l) w (now (terminal .exit)) (now (messages .exit))) ⌝ }
     {
-        if c == 127 {
+        if c == DELETE_CHARACTER {
             let left = r.left_by_127();
-            return self.erases(terminal, messages, left, c, r);
+            return self.erases(terminal, messages, left, c, r, text, t);
         }
-        if c == 23 {
-            let left = r.left_by_23();
-            return self.erases(terminal, messages, left, c, r);
+        if c == DELETE_WORD {
+            let left = r.left_by_23(text);
+            return self.erases(terminal, messages, left, c, r, text, t);
         }
-        if c == 21 {
-            return self.deletes(terminal, 0, r);
+        if c == DELETE_LINE {
+            return self.deletes(terminal, 0, r, text, t);
         }
-        self.redisplays(terminal, r)
+        self.redisplays(terminal, r, text, t)
     }
 }

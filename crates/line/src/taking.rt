@@ -1,74 +1,81 @@
-// Which act a step or a tick meets, and the acts that take a key.
-ghost use Prim.Native.Nat.{ℕ};
+// Which act a step or a tick meets, and the first key taken.
+ghost use Prim.Native.Nat.{ℕ, _<_};
 ghost use mathlib.Core.Path.{_≡_};
 ghost use mathlib.Core.List.{List, []};
 ghost use mathlib.Core.Option.{some};
+ghost use lib.ListN.{length, getD};
+ghost use Rattle.rules.specs.Numbers.{inputSize, typeAheadSize};
 ghost use Rattle.rules.specs.State.{codes, withRead, withIdle};
+ghost use Rattle.rules.specs.StartRead.{inSet};
 ghost use Rattle.rules.specs.Turns.{changes, _then_};
 ghost use Rattle.rules.specs.Steps as rules;
+ghost use Rattle.characteristics.specs.View.{setOf};
+ghost use Rattle.line.specs.declared.Line.{Line};
+ghost use Rattle.line.specs.declared.acts.Act.the-variants.{Takes};
 ghost use Rattle.line.specs.View.{keyOf, readingOf};
-ghost use Rattle.line.specs.Bounded.{Counted, Bounded};
-ghost use Rattle.line.specs.Promise.{Does};
-ghost use Rattle.line.specs.Acts.{CanTakeKey, idleAtZero, takesKey, HasTakenKey, Meets};
-use crate::Key;
-use crate::Line;
-use crate::Reading;
+ghost use Rattle.line.specs.Bounded.{CountedTyped, CountedFlow, Bounded};
+ghost use Rattle.line.specs.With.{onFlow, lent};
+ghost use Rattle.line.specs.KeyParts.{shifted};
+ghost use Rattle.line.specs.Promise.{on, Does, DoesAcross, DoesOn};
+ghost use Rattle.line.specs.Acts.{CanTakeKey, idleAtZero, takesKey, takenPart, HasTakenKey, Meets};
+use crate::Flow;
+use crate::Terms;
 use crate::Work;
 use crate::acts::Act;
+use crate::acts::Taken;
+use crate::keys::code_of;
+use crate::keys::is_quoted;
 
-impl Line {
-    // Rules 5, 6 and 7, after raising.
-    fn act_of_plain(self, c: u8) -> Act
-        requires { ⌜ CanTakeKey self ⌝ }
-        ensures { λ a. ⌜ ((s : List ℕ) → Meets (takesKey self then rules.takesPlain codes c (idleAtZero self)) s self a) ⌝ }
+impl Terms {
+    // Rules 5, 6 and 7, after raising; `ends`: the code is in the termination set.
+    fn takes_plain(self, c: u8, ends: bool) -> Taken
+        ensures { λ k. ⌜ ((s : List ℕ) (l : Line) → CanTakeKey (l .flow) self → ends ≡ inSet (setOf (l .set)) c → Meets (takesKey (lent self (l .text) l) then rules.takesPlain codes c (idleAtZero (lent self (l .text) l))) s (lent self (l .text) l) (Takes k)) ⌝ }
     {
-        let r = self.reading;
-        if r.ends_by(c) {
-            return Act::Terminates(c);
+        if ends {
+            return Taken::Terminator(c);
         }
-        if r.edits_by(c) {
-            return Act::Edits(c);
+        if self.edits_by(c) {
+            return Taken::Edit(c);
         }
-        Act::TakesData(c)
-    }
-
-    // The rules in order.
-    fn act_of_taking(self, k: Key) -> Act
-        requires { ⌜ Counted self ⌝ }
-        requires { ⌜ CanTakeKey self ⌝ }
-        ensures { λ a. ⌜ ((s : List ℕ) → Meets (takesKey self then rules.takes codes (keyOf k) (idleAtZero self)) s self a) ⌝ }
-    {
-        let typed = self.typed;
-        if typed.is_partial() {
-            return Act::AddsToToken(k.code);
-        }
-        if k.quoted {
-            return Act::TakesData(k.code);
-        }
-        let r = self.reading;
-        if r.begins_token(k.code) {
-            return Act::AddsToToken(k.code);
-        }
-        let c = r.raised_by(k.code);
-        self.act_of_plain(c)
+        Taken::Data(c)
     }
 
     // No key waits: a read with Q and TIMEOUT 0 completes.
     fn act_without_key(self) -> Act
-        ensures { λ a. ⌜ ((s : List ℕ) → Meets (rules.takesFirst codes [] (readingOf (self .reading))) s self a) ⌝ }
+        ensures { λ a. ⌜ ((s : List ℕ) (l : Line) → Meets (rules.takesFirst codes [] (readingOf (lent self (l .text) l) (l .flow .reading))) s (lent self (l .text) l) a) ⌝ }
     {
-        let r = self.reading;
-        let terms = r.terms;
-        if terms.timed & (terms.timeout == 0) {
+        if self.timed & (self.timeout == 0) {
             return Act::TimesOut;
         }
         Act::Nothing
     }
+}
+
+impl Flow {
+    // The rules in order.
+    fn takes(self, key: u16, ends: bool, t: Terms) -> Taken
+        requires { ⌜ CountedTyped (self .typed) ⌝ }
+        ensures { λ k. ⌜ ((s : List ℕ) (l : Line) → CanTakeKey self t → ends ≡ inSet (setOf (l .set)) (rules.raisedBy codes (readingOf (lent t (l .text) l) (self .reading)) (keyOf key .char)) → Meets (takesKey (onFlow self (lent t (l .text) l)) then rules.takes codes (keyOf key) (idleAtZero (onFlow self (lent t (l .text) l)))) s (onFlow self (lent t (l .text) l)) (Takes k)) ⌝ }
+    {
+        let typed = self.typed;
+        let c = code_of(key);
+        if typed.is_partial() {
+            return Taken::Token(c);
+        }
+        if is_quoted(key) {
+            return Taken::Data(c);
+        }
+        if t.begins_token(c) {
+            return Taken::Token(c);
+        }
+        let raised = t.raised_by(c);
+        t.takes_plain(raised, ends)
+    }
 
     // A whole held token goes first.
-    pub(crate) fn act_of_step(self) -> Act
-        requires { ⌜ Bounded self ⌝ }
-        ensures { λ a. ⌜ ((s : List ℕ) → Meets (rules.steps codes) s self a) ⌝ }
+    pub(crate) fn act_of_step(self, first: u16, ends: bool, t: Terms) -> Act
+        requires { ⌜ CountedTyped (self .typed) ⌝ }
+        ensures { λ a. ⌜ ((s : List ℕ) (l : Line) → Bounded (onFlow self (lent t (l .text) l)) → first ≡ getD (l .keys) 0 0 → ends ≡ inSet (setOf (l .set)) (rules.raisedBy codes (readingOf (lent t (l .text) l) (self .reading)) (keyOf first .char)) → Meets (rules.steps codes) s (onFlow self (lent t (l .text) l)) a) ⌝ }
     {
         let pending = self.pending;
         if !pending {
@@ -80,124 +87,98 @@ impl Line {
         }
         let waiting = typed.waiting;
         if waiting == 0 {
-            return self.act_without_key();
+            return t.act_without_key();
         }
-        let key = typed.first();
-        self.act_of_taking(key)
+        Act::Takes(self.takes(first, ends, t))
     }
 
     // Idle rises by one; at TIMEOUT the read completes.
-    fn act_of_idling(self) -> Act
-        ensures { λ a. ⌜ ((s : List ℕ) → Meets (rules.idles codes (readingOf (self .reading))) s self a) ⌝ }
+    fn act_of_idling(self, t: Terms) -> Act
+        ensures { λ a. ⌜ ((s : List ℕ) (l : Line) → Meets (rules.idles codes (readingOf (lent t (l .text) l) (self .reading))) s (onFlow self (lent t (l .text) l)) a) ⌝ }
     {
         let r = self.reading;
-        let terms = r.terms;
         let idle = r.idle as u32 + 1;
-        if terms.timeout as u32 <= idle {
+        if t.timeout as u32 <= idle {
             return Act::TimesOut;
         }
         Act::Idles(idle as u16)
     }
 
     // Idle counts while a read with Q and TIMEOUT over 0 waits for a key.
-    pub(crate) fn act_of_tick(self) -> Act
-        requires { ⌜ Bounded self ⌝ }
-        ensures { λ a. ⌜ ((s : List ℕ) → Meets (rules.ticks codes) s self a) ⌝ }
+    pub(crate) fn act_of_tick(self, t: Terms) -> Act
+        requires { ⌜ CountedTyped (self .typed) ⌝ }
+        ensures { λ a. ⌜ ((s : List ℕ) (l : Line) → Meets (rules.ticks codes) s (onFlow self (lent t (l .text) l)) a) ⌝ }
     {
         let pending = self.pending;
         if !pending {
             return Act::Nothing;
         }
         let typed = self.typed;
-        let r = self.reading;
-        let terms = r.terms;
         let held = typed.is_held();
-        if terms.timed & (0 < terms.timeout) & (typed.waiting == 0) & !held {
-            return self.act_of_idling();
+        if t.timed & (0 < t.timeout) & (typed.waiting == 0) & !held {
+            return self.act_of_idling(t);
         }
         Act::Nothing
     }
 }
 
 impl Work {
-    // The line's read; it means nothing while none is pending.
-    pub(crate) fn read(self) -> Reading
-        ensures { λ r. ⌜ r ≡ self .line .reading ⌝ }
-    {
-        let line = self.line;
-        line.reading
-    }
-
-    // The first key goes from type-ahead, and the read is no longer idle.
+    // The first key no longer waits, and the read is no longer idle. The others are moved beside.
     fn takes_key(self) -> Work
-        requires { ⌜ Counted (self .line) ⌝ }
-        requires { ⌜ CanTakeKey (self .line) ⌝ }
+        requires { ⌜ CountedFlow (self .flow) ⌝ }
+        requires { ⌜ 0 < self .flow .typed .waiting ⌝ }
         ensures { λ w. ⌜ HasTakenKey self w ⌝ }
     {
-        let line = self.line;
-        let typed = line.typed;
-        let rest = typed.without_first();
-        let r = line.reading;
+        let mut flow = self.flow;
+        let mut typed = flow.typed;
+        typed.waiting = typed.waiting - 1;
+        flow.typed = typed;
+        flow.pending = true;
+        let r = flow.reading;
         let next = r.with_idle(0);
-        self.with_typed(rest).with_read(next)
+        flow.reading = next;
+        Work {
+            flow,
+            at: self.at,
+            sent: self.sent,
+        }
     }
 
-    // The key is taken, then rules 1 and 3.
-    pub(crate) fn steps_with_token(self, messages: &mut [u8], c: u8) -> Work
-        requires { ⌜ Counted (self .line) ⌝ }
-        requires { ⌜ CanTakeKey (self .line) ⌝ }
-        ensures { λ w. ⌜ ((t : List ℕ) → Does (takesKey (self .line) then rules.addsToToken codes c (idleAtZero (self .line))) self t (now (messages .entry)) w t (now (messages .exit))) ⌝ }
-    {
-        let taken = self.takes_key();
-        let r = taken.read();
-        taken.adds_to_token(messages, c, r)
-    }
-
-    // The key is taken, then rule 5.
-    pub(crate) fn steps_with_terminator(
+    // The first key is taken, and meets its rule.
+    pub(crate) fn takes(
         self,
+        k: Taken,
         terminal: &mut [u8],
         messages: &mut [u8],
-        c: u8,
+        text: &mut [u8; rules::INPUT],
+        t: Terms,
     ) -> Work
-        requires { ⌜ Counted (self .line) ⌝ }
-        requires { ⌜ CanTakeKey (self .line) ⌝ }
-        ensures { λ w. ⌜ Does (takesKey (self .line) then rules.terminates codes c (idleAtZero (self .line))) self (now (terminal .entry)) (now (messages .entry)) w (now (terminal .exit)) (now (messages .exit)) ⌝ }
+        requires { ⌜ CountedFlow (self .flow) ⌝ }
+        requires { ⌜ length (now text) ≡ inputSize ⌝ }
+        requires { ⌜ CanTakeKey (self .flow) t ⌝ }
+        ensures counted { λ w. ⌜ CountedFlow (w .flow) ⌝ }
+        ensures sized { λ w. ⌜ length (now (text .exit)) ≡ inputSize ⌝ }
+        ensures rule { λ w. ⌜ ((l : Line) → length (l .keys) ≡ typeAheadSize → DoesAcross (λ j. takesKey (onFlow (self .flow) j) then takenPart k (idleAtZero (onFlow (self .flow) j))) (lent t (now (text .entry)) l) self (now (terminal .entry)) (now (messages .entry)) (lent t (now (text .exit)) (shifted (self .flow) l)) w (now (terminal .exit)) (now (messages .exit))) ⌝ }
     {
         let taken = self.takes_key();
-        let r = taken.read();
-        taken.terminates(terminal, messages, c, r)
-    }
-
-    // The key is taken, then rule 6.
-    pub(crate) fn steps_with_edit(self, terminal: &mut [u8], messages: &mut [u8], c: u8) -> Work
-        requires { ⌜ Counted (self .line) ⌝ }
-        requires { ⌜ CanTakeKey (self .line) ⌝ }
-        ensures { λ w. ⌜ Does (takesKey (self .line) then rules.edits codes c (idleAtZero (self .line))) self (now (terminal .entry)) (now (messages .entry)) w (now (terminal .exit)) (now (messages .exit)) ⌝ }
-    {
-        let taken = self.takes_key();
-        let r = taken.read();
-        taken.edits(terminal, messages, c, r)
-    }
-
-    // The key is taken, then rule 2 or 7.
-    pub(crate) fn steps_with_data(self, terminal: &mut [u8], messages: &mut [u8], c: u8) -> Work
-        requires { ⌜ Counted (self .line) ⌝ }
-        requires { ⌜ CanTakeKey (self .line) ⌝ }
-        ensures { λ w. ⌜ Does (takesKey (self .line) then rules.takesData codes c (idleAtZero (self .line))) self (now (terminal .entry)) (now (messages .entry)) w (now (terminal .exit)) (now (messages .exit)) ⌝ }
-    {
-        let taken = self.takes_key();
-        let r = taken.read();
-        taken.takes_data(terminal, messages, c, r)
+        let flow = taken.flow;
+        let r = flow.reading;
+        match k {
+            Taken::Token(c) => taken.adds_to_token(messages, c, r, text, t),
+            Taken::Terminator(c) => taken.terminates(terminal, messages, c, r, text, t),
+            Taken::Edit(c) => taken.edits(terminal, messages, c, r, text, t),
+            Taken::Data(c) => taken.takes_data(terminal, messages, c, r, text, t),
+        }
     }
 
     // A tick that does not reach TIMEOUT.
     pub(crate) fn sets_idle(self, idle: u16) -> Work
-        requires { ⌜ Counted (self .line) ⌝ }
-        ensures { λ w. ⌜ ((t m : List ℕ) → Does (changes (withRead (some (withIdle idle (readingOf (self .line .reading)))))) self t m w t m) ⌝ }
+        requires { ⌜ CountedFlow (self .flow) ⌝ }
+        ensures counted { λ w. ⌜ CountedFlow (w .flow) ⌝ }
+        ensures rule { λ w. ⌜ ((l : Line) (a m : List ℕ) → DoesOn (λ k. changes (withRead (some (withIdle idle (readingOf k (self .flow .reading)))))) l self a m w a m) ⌝ }
     {
-        let line = self.line;
-        let r = line.reading;
+        let flow = self.flow;
+        let r = flow.reading;
         let next = r.with_idle(idle);
         self.with_read(next)
     }

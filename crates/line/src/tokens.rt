@@ -1,19 +1,8 @@
-// Tokens: where one stands in the grammar of escape sequences, and the token and the first key that wait.
+// Tokens: where one stands in the grammar of escape sequences.
 ghost use mathlib.Core.Path.{_≡_};
-ghost use Prim.Native.Nat.{_<_};
-ghost use mathlib.Core.Bool.{not, _||_};
-ghost use mathlib.Core.List.{_∷_};
-ghost use lib.ListN.{drop};
-ghost use Rattle.rules.specs.Choice.{pick, within, isEmpty, bit};
-ghost use Rattle.rules.specs.Numbers.{tokenSize};
-ghost use Rattle.rules.specs.State.{codes};
+ghost use Rattle.rules.specs.Choice.{pick, within};
 ghost use Rattle.rules.specs.Token as rules;
-ghost use Rattle.rules.specs.Steps.{tokenCode};
-ghost use Rattle.line.specs.View.{keyOf, keysOf, tokenOf};
-ghost use Rattle.line.specs.Bounded.{CountedTyped};
-ghost use Rattle.line.specs.TokenParts.{placeOf, codesOf, untokened, tokened, FirstTaken};
-use crate::Key;
-use crate::Typed;
+ghost use Rattle.line.specs.TokenParts.{placeOf};
 
 // The places of the grammar, in its order.
 const ESCAPE: u8 = 1;
@@ -118,113 +107,14 @@ fn standing(token: &[u8]) -> u8
     place
 }
 
-fn is_whole(token: &[u8]) -> bool
+pub(crate) fn is_whole(token: &[u8]) -> bool
     ensures { λ r. ⌜ r ≡ rules.isWhole (now (token .entry)) ⌝ }
 {
     VALID <= standing(token)
 }
 
-fn is_valid(token: &[u8]) -> bool
+pub(crate) fn is_valid(token: &[u8]) -> bool
     ensures { λ r. ⌜ r ≡ rules.isValid (rules.standing (now (token .entry))) ⌝ }
 {
     standing(token) == VALID
-}
-
-impl Typed {
-    // A whole token is held.
-    pub(crate) fn is_held(self) -> bool
-        requires { ⌜ CountedTyped self ⌝ }
-        ensures { λ r. ⌜ r ≡ rules.isWhole (codesOf self) ⌝ }
-    {
-        let token = self.token;
-        let size = self.token_len as usize;
-        is_whole(&token[..size])
-    }
-
-    // One is begun and not whole.
-    pub(crate) fn is_partial(self) -> bool
-        requires { ⌜ CountedTyped self ⌝ }
-        ensures { λ r. ⌜ r ≡ rules.isPartial (codesOf self) ⌝ }
-    {
-        let held = self.is_held();
-        (self.token_len != 0) & !held
-    }
-
-    // The completion code that its token gives a read.
-    pub(crate) fn token_code(self) -> u8
-        requires { ⌜ CountedTyped self ⌝ }
-        ensures { λ r. ⌜ r ≡ tokenCode codes (tokenOf self) ⌝ }
-    {
-        let token = self.token;
-        let size = self.token_len as usize;
-        if is_valid(&token[..size]) {
-            return 1;
-        }
-        2
-    }
-
-    // Type-ahead or a held token remains.
-    pub(crate) fn remains(self) -> u8
-        requires { ⌜ CountedTyped self ⌝ }
-        ensures { λ r. ⌜ r ≡ bit (not (isEmpty (keysOf self)) || rules.isWhole (codesOf self)) ⌝ }
-    {
-        let held = self.is_held();
-        if (self.waiting != 0) | held {
-            return 1;
-        }
-        0
-    }
-
-    pub(crate) fn without_token(self) -> Typed
-        ensures { λ r. ⌜ r ≡ untokened self ⌝ }
-    {
-        let mut next = self;
-        next.token_len = 0;
-        next
-    }
-
-    // One byte more of a token.
-    pub(crate) fn tokened(self, c: u8) -> Typed
-        requires { ⌜ CountedTyped self ⌝ }
-        requires { ⌜ self .«token_len» < tokenSize ⌝ }
-        ensures { λ r. ⌜ r ≡ tokened c self ⌝ }
-    {
-        let at = self.token_len as usize;
-        let mut token = self.token;
-        token[at] = c;
-        let mut next = self;
-        next.token = token;
-        next.token_len = self.token_len + 1;
-        next
-    }
-
-    pub(crate) fn first(self) -> Key
-        requires { ⌜ CountedTyped self ⌝ }
-        requires { ⌜ 0 < self .waiting ⌝ }
-        ensures { λ r. ⌜ keysOf self ≡ keyOf r ∷ drop 1 (keysOf self) ⌝ }
-    {
-        let keys = self.keys;
-        keys[0]
-    }
-
-    // The others, each a place further down.
-    pub(crate) fn without_first(self) -> Typed
-        requires { ⌜ CountedTyped self ⌝ }
-        requires { ⌜ 0 < self .waiting ⌝ }
-        ensures { λ r. ⌜ FirstTaken self r ⌝ }
-    {
-        let old = self.keys;
-        let left = self.waiting - 1;
-        let last = left as usize;
-        let mut keys = self.keys;
-        let mut i = 0;
-        while i < last {
-            keys[i] = old[i + 1];
-            i += 1;
-        }
-        let mut next = self;
-        next.keys = keys;
-        next.waiting = left;
-        next
-    }
 }

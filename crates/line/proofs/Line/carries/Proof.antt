@@ -3,14 +3,23 @@ use Rattle.rules.specs.Choice.{pick}
 use Rattle.rules.specs.Calls.{isCarriedBy, carriesQuestions}
 use Rattle.rules.specs.Characteristics.{carriesSettings}
 use Rattle.message.specs.Found.{partOf, heldIn, startReadIn, writeIn}
-use Rattle.characteristics.specs.View.{hostOf}
+use Rattle.characteristics.specs.View as host
 use Rattle.characteristics.specs.Lists.{settingsIn, questionsIn}
 use Rattle.characteristics.proofs.Held.{held-settings, held-questions}
-use Rattle.line.specs.View.{view}
+use Rattle.line.specs.View.{view, hostOf}
+use Rattle.rules.specs.State.{withHost}
 use Rattle.line.proofs.Accepts.{carried-as, other-carried}
 use borrow.Author.Needs.{needs}
 use Rattle.line.proofs.Line.carries.Statement.{statement}
 use Rattle.line.proofs.Line.carries.Tie as tie
+use Rattle.line.proofs.Line.carries.Reads as reads
+use Rattle.line.proofs.Line.carries.Lts as lts
+use Rattle.characteristics.proofs.Host.carries_questions.Reads as carries-questions-reads
+use Rattle.characteristics.proofs.Host.carries_settings.Reads as carries-settings-reads
+use Rattle.line.proofs.Line.characteristics.Reads as characteristics-reads
+use Rattle.line.proofs.refusals.carries_start_read.Reads as carries-start-read-reads
+use Rattle.line.proofs.refusals.carries_write.Reads as carries-write-reads
+use Rattle.message.proofs.bytes_of.Reads as bytes-of-reads
 
 enum-known-m : tie.Need-enum-known-m
 enum-known-m c = search needs
@@ -27,6 +36,9 @@ carries-write-requires c κs = search needs
 enum-known-m-3 : tie.Need-enum-known-m-3
 enum-known-m-3 c = search needs
 
+characteristics-requires : tie.Need-characteristics-requires
+characteristics-requires c κs = search needs
+
 bytes-of-requires : tie.Need-bytes-of-requires
 bytes-of-requires c κs = search needs
 
@@ -36,42 +48,49 @@ carries-questions-requires c κs = search needs
 enum-known-m-4 : tie.Need-enum-known-m-4
 enum-known-m-4 c = search needs
 
+characteristics-requires-2 : tie.Need-characteristics-requires-2
+characteristics-requires-2 c κs = search needs
+
 bytes-of-requires-2 : tie.Need-bytes-of-requires-2
 bytes-of-requires-2 c κs = search needs
 
 carries-settings-requires : tie.Need-carries-settings-requires
-carries-settings-requires c κs = search needs
+carries-settings-requires c κs =
+    let counted = c .before .before .before .before .before .before .pre in
+    rw (c .before .characteristics2 .ensures) (record { table = counted .table; set = counted .lastSet })
 
 returns : tie.Need-returns
 unfolding heldIn startReadIn isCarriedBy pick
 returns c =
-    let a = c .before .before .before .before .before .before .args in
+    let a = c .before .before .before .before .before .args in
     carried-as (a .s .now) (view (a .self)) (c .before .before .m .given .1) (startReadIn (a .s .now) _) refl (c .carries-start-read .ensures (a .s .now))
 
 returns-2 : tie.Need-returns-2
 unfolding heldIn isCarriedBy pick
 returns-2 c =
-    let a = c .before .before .before .before .before .before .args in
+    let a = c .before .before .before .before .before .args in
     carried-as (a .s .now) (view (a .self)) (c .before .before .m2 .given .1) (writeIn (a .s .now) _) refl (c .carries-write .ensures (a .s .now))
 
 returns-3 : tie.Need-returns-3
 unfolding isCarriedBy pick
 returns-3 c =
     let a = c .before .before .before .before .before .before .before .args in
-    let list = c .before .bytes-of .ensures in
-    carried-as (a .s .now) (view (a .self)) (c .before .before .before .m3 .given .1) (questionsIn (partOf (a .s .now) _)) (held-questions _ _)
-    (c .carries-questions .ensures (view (a .self)) ∙ ap (λ bs. carriesQuestions (view (a .self)) (questionsIn bs)) list)
+    carried-as (a .s .now) (view (a .self)) (c .before .before .before .before .m3 .given .1) (questionsIn (partOf (a .s .now) _)) (held-questions _ _)
+    (c .carries-questions .ensures (view (a .self))
+    ∙ ap (λ h. carriesQuestions (withHost (host.hostOf h) (view (a .self))) (questionsIn (c .before .bytes-of .result .now))) (c .before .before .characteristics .ensures)
+    ∙ ap (λ bs. carriesQuestions (view (a .self)) (questionsIn bs)) (c .before .bytes-of .ensures))
 
 returns-4 : tie.Need-returns-4
 unfolding isCarriedBy pick
 returns-4 c =
     let a = c .before .before .before .before .before .before .before .args in
-    let list = c .before .bytes-of2 .ensures in
-    carried-as (a .s .now) (view (a .self)) (c .before .before .before .m4 .given .1) (settingsIn (partOf (a .s .now) _)) (held-settings _ _)
-    (c .carries-settings .ensures ∙ ap (λ bs. carriesSettings (hostOf (a .self .host)) (settingsIn bs)) list)
+    carried-as (a .s .now) (view (a .self)) (c .before .before .before .before .m4 .given .1) (settingsIn (partOf (a .s .now) _)) (held-settings _ _)
+    (c .carries-settings .ensures
+    ∙ ap (λ h. carriesSettings (host.hostOf h) (settingsIn (c .before .bytes-of2 .result .now))) (c .before .before .characteristics2 .ensures)
+    ∙ ap (λ bs. carriesSettings (hostOf (a .self)) (settingsIn bs)) (c .before .bytes-of2 .ensures))
 
 returns-5 : tie.Need-returns-5
-returns-5 c = other-carried _ _ _ (c .match .keys5)
+returns-5 c = let a = c .before .before .args in other-carried (a .s .now) (view (a .self)) (a .m) (c .match .keys5)
 
 pub carries-spec : {M : Type 1} → statement M
 carries-spec =
@@ -82,9 +101,11 @@ carries-spec =
     enum-known-m-2
     carries-write-requires
     enum-known-m-3
+    characteristics-requires
     bytes-of-requires
     carries-questions-requires
     enum-known-m-4
+    characteristics-requires-2
     bytes-of-requires-2
     carries-settings-requires
     returns

@@ -1,26 +1,30 @@
-use mathlib.Core.Path.{refl}
-use Rattle.rules.specs.State.{freshTerminal}
-use borrow.Author.Needs.{needs}
+use mathlib.Core.Path.{sym}
+use Rattle.line.proofs.Sizes.{input-size, type-ahead-size}
 use Rattle.line.proofs.FreshLine.{is-fresh}
+use borrow.Author.Needs.{needs}
 use Rattle.line.proofs.Line.fresh.Statement.{statement}
 use Rattle.line.proofs.Line.fresh.Tie as tie
+use Rattle.line.proofs.Line.fresh.Reads as reads
+use Rattle.line.proofs.Line.fresh.Lts as lts
+use Rattle.line.proofs.fresh.fresh_flow.Reads as fresh-flow-reads
+use Rattle.line.proofs.fresh.no_terms.Reads as no-terms-reads
+use Rattle.line.proofs.fresh.universal.Reads as universal-reads
 
-fresh-host-requires : tie.Need-fresh-host-requires
-fresh-host-requires c κs = search needs
+universal-requires : tie.Need-universal-requires
+universal-requires c κs = search needs
 
-nothing-typed-requires : tie.Need-nothing-typed-requires
-nothing-typed-requires c κs = search needs
+no-terms-requires : tie.Need-no-terms-requires
+no-terms-requires c κs = search needs
 
-no-reading-requires : tie.Need-no-reading-requires
-no-reading-requires c κs = search needs
+fresh-flow-requires : tie.Need-fresh-flow-requires
+fresh-flow-requires c κs = search needs
 
 returns : tie.Need-returns
-unfolding freshTerminal
 returns c =
-    let h = c .before .before .fresh-host in
-    let t = c .before .nothing-typed in
-    is-fresh (h .result) _ (t .result) (c .no-reading .result) (h .ensures .0) refl (t .ensures .0) (h .ensures .1) (t .ensures .1) (c .no-reading .ensures)
+    let flow = c .fresh-flow in
+    let set = c .before .before .universal in
+    let terms = c .before .no-terms in
+    is-fresh _ _ (set .result) (terms .result) (flow .result) (flow .ensures) (set .ensures) (sym type-ahead-size) (sym input-size) (terms .ensures)
 
 pub fresh-spec : {M : Type 1} → statement M
-fresh-spec =
-    tie.close (tie.spec fresh-host-requires nothing-typed-requires no-reading-requires returns)
+fresh-spec = tie.close (tie.spec universal-requires no-terms-requires fresh-flow-requires returns)

@@ -1,17 +1,26 @@
-use mathlib.Core.Path.{sym, ap, _∙_}
+use mathlib.Core.Path.{refl, sym, ap, _∙_}
 use native.Mathlib.Omega.{arith}
 use borrow.Author.Tests.{not-true, not-false}
 use Rattle.rules.specs.Calls as rules
 use Rattle.rules.specs.Calls.{refuses}
 use Rattle.message.specs.Found.{foundIn, foundNumber}
 use Rattle.writing.proofs.Fitting.{bytes-all}
-use Rattle.line.specs.View.{view}
-use Rattle.line.specs.Events.{eventOf}
+use Rattle.line.specs.View.{view, readingOf}
+use Rattle.line.proofs.Accepts.{host-sends}
 use Rattle.line.proofs.Answering.{refused}
-use Rattle.line.proofs.Considered.{early-refused, early-passed, outcome-refused, found-refused, not-carried, is-accepted}
+use Rattle.line.proofs.Considered.{is-pending, early-refused, early-passed, outcome-refused, found-refused, server-found, not-carried, is-accepted}
 use borrow.Author.Needs.{needs}
 use Rattle.line.proofs.Line.host.Statement.{statement}
 use Rattle.line.proofs.Line.host.Tie as tie
+use Rattle.line.proofs.Line.host.Reads as reads
+use Rattle.line.proofs.Line.host.Lts as lts
+use Rattle.line.proofs.Line.carries.Reads as carries-reads
+use Rattle.line.proofs.Line.obeys.Reads as obeys-reads
+use Rattle.line.proofs.Line.refuse.Reads as refuse-reads
+use Rattle.line.proofs.events.sender_of.Reads as sender-of-reads
+use Rattle.line.proofs.refusals.early_row.Reads as early-row-reads
+use Rattle.message.proofs.number_of.Reads as number-of-reads
+use Rattle.message.proofs.read.Reads as read-reads
 
 early-row-requires : tie.Need-early-row-requires
 early-row-requires c κs = search needs
@@ -21,12 +30,14 @@ refuse-requires c κs = search needs
 
 returns : tie.Need-returns
 returns c =
-    let a = c .before .before .before .before .before .before in
-    let l = a .args .self in
-    let s = a .args .s .now in
-    let t = a .args .terminal .now in
-    let m = a .args .messages .now in
-    refused (rules.message s) l t m _ (a .pre) (early-refused l t m s (c .before .before .early-row .ensures) (c .before .if1 .taken)) (c .refuse .ensures)
+    let start = c .before .before .before .before .before .before .before in
+    let a = start .args in
+    let l = a .self in
+    let s = a .s .now in
+    let t = a .terminal .now in
+    let m = a .messages .now in
+    let row = c .before .before .early-row .ensures (view l) refl (is-pending (l .flow .pending) (readingOf l (l .flow .reading))) in
+    refused (rules.message s) l t m _ (start .pre) (early-refused l t m s row (c .before .if1 .taken)) (c .refuse .ensures)
 
 read-requires : tie.Need-read-requires
 read-requires c κs = search needs
@@ -45,49 +56,76 @@ refuse-requires-2 c κs = search needs
 
 returns-2 : tie.Need-returns-2
 returns-2 c =
-    let a = c .before .before .before .before .before .before .before .before .before .before in
-    let l = a .args .self in
-    let s = a .args .s .now in
-    let t = a .args .terminal .now in
-    let m = a .args .messages .now in
+    let start = c .before .before .before .before .before .before .before .before .before .before .before in
+    let a = start .args in
+    let l = a .self in
+    let s = a .s .now in
+    let t = a .terminal .now in
+    let m = a .messages .now in
+    let row = c .before .before .before .before .before .before .early-row .ensures (view l) refl (is-pending (l .flow .pending) (readingOf l (l .flow .reading))) in
     let told = c .before .before .enum-told .given .1 in
     let found = ap (foundIn s) (sym told) ∙ c .before .before .before .before .read .ensures .fields in
     let number = c .before .number-of .ensures ∙ ap foundNumber told in
-    refused (rules.message s) l t m _ (a .pre)
-    (outcome-refused l t m s (c .before .before .before .before .before .before .early-row .ensures) (c .before .before .before .before .before .if1 .left) (found-refused l s found) ∙ ap (λ n. refuses n (view l)) (sym number))
+    refused (rules.message s) l t m _ (start .pre)
+    (outcome-refused l t m s row (c .before .before .before .before .before .if1 .left) (found-refused l s found) ∙ ap (λ n. refuses n (view l)) (sym number))
     (c .refuse2 .ensures)
 
-carries-requires : tie.Need-carries-requires
-carries-requires c κs = search needs
+sender-of-requires : tie.Need-sender-of-requires
+sender-of-requires c κs = search needs
+
+enum-known-sender : tie.Need-enum-known-sender
+enum-known-sender c = search needs
+
+enum-told-2 : tie.Need-enum-told-2
+enum-told-2 c = search needs
 
 refuse-requires-3 : tie.Need-refuse-requires-3
 refuse-requires-3 c κs = search needs
 
 returns-3 : tie.Need-returns-3
 returns-3 c =
-    let a = c .before .before .before .before .before .before .before .before .before .before .before .before in
-    let l = a .args .self in
-    let s = a .args .s .now in
-    let t = a .args .terminal .now in
-    let m = a .args .messages .now in
-    let found = ap (foundIn s) (sym (c .before .before .before .before .f .given .1)) ∙ c .before .before .before .before .before .before .read .ensures .fields in
-    refused (rules.message s) l t m 6 (a .pre)
-    (outcome-refused l t m s (c .before .before .before .before .before .before .before .before .early-row .ensures) (c .before .before .before .before .before .before .before .if1 .left)
-    (not-carried l s _ found (c .before .before .carries .ensures) (not-true _ (c .before .if2 .taken))))
-    (c .refuse3 .ensures)
-
-take-requires : tie.Need-take-requires
-take-requires c κs =
-    let a = c .before .before .before .before .before .before .before .before .before .before .before .before .before in
-    let l = a .args .self in
-    let s = a .args .s .now in
-    let t = a .args .terminal .now in
-    let m = a .args .messages .now in
+    let start = c .before .before .before .before .before .before .before .before .before .before .before .before .before .before in
+    let a = start .args in
+    let l = a .self in
+    let s = a .s .now in
+    let row = c .before .before .before .before .before .before .before .before .before .early-row .ensures (view l) refl (is-pending (l .flow .pending) (readingOf l (l .flow .reading))) in
+    let passed = early-passed l (a .terminal .now) (a .messages .now) s row (c .before .before .before .before .before .before .before .before .if1 .left) in
     let found = ap (foundIn s) (sym (c .before .before .before .before .before .f .given .1)) ∙ c .before .before .before .before .before .before .before .read .ensures .fields in
-    let passed = early-passed l t m s (c .before .before .before .before .before .before .before .before .before .early-row .ensures) (c .before .before .before .before .before .before .before .before .if1 .left) in
-    let bytes = bytes-all s (λ i. omega (arith, c .before .before .before .before .before .before .before .before .before .before .before .before .shared-slice-known .given i)) in
-    let accepted = is-accepted l s _ found (c .before .before .before .carries .ensures) (not-false _ (c .before .before .if2 .left)) bytes (passed .1) in
-    record { bounded = a .pre; admitted = accepted; roomy = passed .0 }
+    absurd (server-found s (passed .2) _ (sym (c .before .before .before .sender-of .ensures) ∙ c .before .enum-told2 .given .1) found)
+
+carries-requires : tie.Need-carries-requires
+carries-requires c κs = search needs
+
+refuse-requires-4 : tie.Need-refuse-requires-4
+refuse-requires-4 c κs = search needs
+
+returns-4 : tie.Need-returns-4
+returns-4 c =
+    let start = c .before .before .before .before .before .before .before .before .before .before .before .before .before .before .before .before .before in
+    let a = start .args in
+    let l = a .self in
+    let s = a .s .now in
+    let t = a .terminal .now in
+    let m = a .messages .now in
+    let row = c .before .before .before .before .before .before .before .before .before .before .before .before .early-row .ensures (view l) refl (is-pending (l .flow .pending) (readingOf l (l .flow .reading))) in
+    let found = ap (foundIn s) (sym (c .before .before .before .before .before .before .before .before .f .given .1)) ∙ c .before .before .before .before .before .before .before .before .before .before .read .ensures .fields in
+    let sent = host-sends (c .before .before .before .before .before .before .before .before .f .given .0 .0) (c .before .before .before .before .sender .given .0 .0) (sym (c .before .before .before .before .before .before .sender-of .ensures) ∙ c .before .before .before .before .sender .given .1) in
+    refused (rules.message s) l t m 6 (start .pre)
+    (outcome-refused l t m s row (c .before .before .before .before .before .before .before .before .before .before .before .if1 .left) (not-carried l s (c .before .before .before .before .before .before .before .before .f .given .0 .0) (c .before .before .before .before .sender .given .0 .0) sent found (c .before .before .carries .ensures) (not-true _ (c .before .if2 .taken))))
+    (c .refuse4 .ensures)
+
+obeys-requires : tie.Need-obeys-requires
+obeys-requires c κs =
+    let start = c .before .before .before .before .before .before .before .before .before .before .before .before .before .before .before .before .before .before in
+    let a = start .args in
+    let l = a .self in
+    let s = a .s .now in
+    let row = c .before .before .before .before .before .before .before .before .before .before .before .before .before .early-row .ensures (view l) refl (is-pending (l .flow .pending) (readingOf l (l .flow .reading))) in
+    let passed = early-passed l (a .terminal .now) (a .messages .now) s row (c .before .before .before .before .before .before .before .before .before .before .before .before .if1 .left) in
+    let found = ap (foundIn s) (sym (c .before .before .before .before .before .before .before .before .before .f .given .1)) ∙ c .before .before .before .before .before .before .before .before .before .before .before .read .ensures .fields in
+    let sent = host-sends (c .before .before .before .before .before .before .before .before .before .f .given .0 .0) (c .before .before .before .before .before .sender .given .0 .0) (sym (c .before .before .before .before .before .before .before .sender-of .ensures) ∙ c .before .before .before .before .before .sender .given .1) in
+    let bytes = bytes-all s (λ i. omega (arith, c .before .before .before .before .before .before .before .before .before .before .before .before .before .before .before .before .before .shared-slice-known .given i)) in
+    (start .pre, (is-accepted l s (c .before .before .before .before .before .before .before .before .before .f .given .0 .0) (c .before .before .before .before .before .sender .given .0 .0) sent found (c .before .before .before .carries .ensures) (not-false _ (c .before .before .if2 .left)) bytes (passed .1), passed .0))
 
 same-length : tie.Need-same-length
 same-length c = search needs
@@ -95,9 +133,8 @@ same-length c = search needs
 same-length-2 : tie.Need-same-length-2
 same-length-2 c = search needs
 
-returns-4 : tie.Need-returns-4
-unfolding eventOf
-returns-4 c = c .before .before .before .before .take .ensures
+returns-5 : tie.Need-returns-5
+returns-5 c = search needs
 
 pub host-spec : {M : Type 1} → statement M
 host-spec =
@@ -112,10 +149,15 @@ host-spec =
     number-of-requires
     refuse-requires-2
     returns-2
-    carries-requires
+    sender-of-requires
+    enum-known-sender
+    enum-told-2
     refuse-requires-3
     returns-3
-    take-requires
+    carries-requires
+    refuse-requires-4
+    returns-4
+    obeys-requires
     same-length
     same-length-2
-    returns-4)
+    returns-5)

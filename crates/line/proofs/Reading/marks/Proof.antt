@@ -7,6 +7,7 @@ use Rattle.rules.specs.Screen.{marksBehind}
 use Rattle.rules.specs.State.{codes}
 use Rattle.rules.specs.Editing.{displayed}
 use Rattle.line.specs.View.{readingOf}
+use Rattle.line.specs.With.{lent}
 use Rattle.screen.proofs.Marks.{counted-whole}
 use Rattle.line.proofs.Reading.marks.Statement.{statement}
 use Rattle.line.proofs.Reading.marks.Tie as tie
@@ -34,17 +35,19 @@ marks-behind-requires c κs = search needs
 
 returns : tie.Need-returns
 returns c =
-    let place = c .before .before .before in
-    let start = place .before .before .before .before in
+    let start = c .before .before .before .before .before .before in
     let r = start .args .self in
-    let shown = place .before .before .first-shown in
+    let text = start .args .text .now in
+    let shown = c .before .before .before .before .first-shown in
     let from = shown .result in
-    let kept = place .shown-of .result in
-    let part = take (r .count - from) (drop from (r .input)) in
-    let short : length part < 2 ^ 60 = omega (arith, length-take (r .count - from) (drop from (r .input)), start .pre .within) in
+    let kept = c .before .before .shown-of .result in
+    let part = take (r .count - from) (drop from text) in
+    let short : length part < 2 ^ 60 = omega (arith, length-take (r .count - from) (drop from text), start .pre .within) in
+    λ t l.
+    let line = lent t text l in
     c .marks-behind .ensures ∙ counted-whole kept (r .from) part short
-    ∙ ap (λ l. marksBehind kept (r .from) l) (shown .ensures .text)
-    ∙ ap (λ k. marksBehind k (r .from) (displayed codes (readingOf r))) (place .shown-of .ensures)
+    ∙ ap (λ x. marksBehind kept (r .from) x) (shown .ensures .text line)
+    ∙ ap (λ k. marksBehind k (r .from) (displayed codes (readingOf line r))) (c .before .before .shown-of .ensures)
 
 pub marks-spec : {M : Type 1} → statement M
 marks-spec =

@@ -14,8 +14,8 @@ lower-requires c κs = search needs
 
 returns : tie.Need-returns
 returns c =
-    let start = c .before .before .before .before in
-    left-becomes (start .args .self) (start .args .left) _ (start .pre .0) (start .pre .1) (c .before .lower .ensures)
+    let start = c .before .before .before in
+    left-becomes (start .args .t) (start .args .self) (start .args .left) _ (start .pre) (c .before .lower .ensures)
 
 pub shortened-spec : {M : Type 1} → statement M
 shortened-spec = tie.close (tie.spec cast-prompt add-lower lower-requires returns)

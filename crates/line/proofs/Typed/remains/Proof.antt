@@ -8,12 +8,12 @@ is-held-requires c κs = c .pre
 returns : tie.Need-returns
 returns c =
     let start = c .before .before .before in
-    some-remains (start .args .self) (start .pre) (c .before .before .is-held .ensures) (c .if1 .taken)
+    λ keys. some-remains (start .args .self) (start .pre) (c .before .before .is-held .ensures) keys (c .if1 .taken)
 
 returns-2 : tie.Need-returns-2
 returns-2 c =
     let start = c .before .before .before in
-    none-remains (start .args .self) (start .pre) (c .before .before .is-held .ensures) (c .if1 .left)
+    λ keys. none-remains (start .args .self) (start .pre) (c .before .before .is-held .ensures) keys (c .if1 .left)
 
 pub remains-spec : {M : Type 1} → statement M
 remains-spec = tie.close (tie.spec is-held-requires returns returns-2)

@@ -28,9 +28,13 @@ sub-t14 c = search needs
 returns : tie.Need-returns
 unfolding partsOf
 returns c =
-    let start = c .before .before .before .before .before .before .before .before .before .before .before in
+    let start = c .before .before .before .before .before .before .before .before .before .before in
     let a = start .args in
-    (answer-held (a .self) (a .r) (a .code) (a .ending) (start .pre .1 .0) (c .before .before .before .before .before .remains .ensures) (c .before .before .change .ensures) (c .before .change2 .ensures), text-inside (a .r .count) (length (a .r .input)) (omega (arith, start .pre .1 .0 .within, start .pre .1 .0 .input)))
+    λ text k l full. (
+      answer-held (a .self .flow) (a .t) (a .r) (a .code) (a .ending) text k l full (c .before .before .before .before .before .remains .ensures (k .keys))
+          (c .before .before .change .ensures) (c .before .change2 .ensures),
+      text-inside (a .r .count) (length text) (omega (arith, full .within, full .full)),
+    )
 
 pub answer-spec : {M : Type 1} → statement M
 answer-spec =

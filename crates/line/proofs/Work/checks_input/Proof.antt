@@ -30,12 +30,14 @@ same-length c = search needs
 returns : tie.Need-returns
 unfolding checksInput heldIn partsOf inside
 returns c =
-    let b = c .before .before in
-    let start = b .before .before .before .before .before .before .before in
-    let count = waiting-count (start .args .self .line .typed) (start .pre .typed) in
-    λ t.
-    here-does (λ s. sends (plain inputCount (waitingCount (s .typed) ∷ [])))
-    (b .sends-plain .ensures _ _ (λ s. ap (λ n. codec.message (plain inputCount (n ∷ []))) count) refl t)
+    let start = c .before .before .before .before .before .before .before .before .before in
+    let sent = c .before .before .sends-plain .ensures in (
+      sent .0,
+      λ l t.
+          let count = waiting-count (l .keys) (start .args .self .flow .typed) (start .pre .typed) in
+          here-does (λ s. sends (plain inputCount (waitingCount (s .typed) ∷ [])))
+          (sent .1 _ _ (λ s. ap (λ n. codec.message (plain inputCount (n ∷ []))) count) refl l t),
+    )
 
 pub checks-input-spec : {M : Type 1} → statement M
 checks-input-spec =

@@ -1,3 +1,4 @@
+use Rattle.line.specs.With.{lent}
 use borrow.Author.Needs.{needs}
 use mathlib.Core.List.{[]}
 use Rattle.rules.specs.State.{codes}
@@ -12,8 +13,8 @@ empties-typed-requires c κs = search needs
 
 clears-seen-requires : tie.Need-clears-seen-requires
 clears-seen-requires c κs =
-    let e = c .before in
-    (e .empties-typed .ensures [] [] .counted, e .before .before .before .before .pre .reading)
+    let start = c .before .before .before .before .before .before in
+    (c .before .empties-typed .ensures .0, record { within = start .pre .0 .within; full = start .pre .1 })
 
 same-length : tie.Need-same-length
 same-length c = search needs
@@ -21,10 +22,13 @@ same-length c = search needs
 returns : tie.Need-returns
 unfolding clears
 returns c =
-    let b = c .before .before in
-    λ m.
-    here-does (λ s. emptiesTyped then clearsSeen codes (s .read))
-    (then-does (b .before .before .empties-typed .ensures _ m) (b .clears-seen .ensures m))
+    let a = c .before .before .before .before .before .before .before .before .before .args in
+    let cleared = c .before .before .clears-seen .ensures in (
+      cleared .0,
+      λ l m.
+          here-does (λ s. emptiesTyped then clearsSeen codes (s .read))
+          (then-does (c .before .before .before .before .empties-typed .ensures .1 (lent (a .t) (a .text .now) l) _ m) (cleared .1 l m)),
+    )
 
 pub clears-spec : {M : Type 1} → statement M
 clears-spec = tie.close (tie.spec empties-typed-requires clears-seen-requires same-length returns)

@@ -1,3 +1,4 @@
+use Rattle.line.specs.With.{lent}
 use borrow.Author.Needs.{needs}
 use mathlib.Core.List.{[]}
 use Rattle.rules.specs.State.{codes}
@@ -10,17 +11,15 @@ sends-out-of-band-requires : tie.Need-sends-out-of-band-requires
 sends-out-of-band-requires c κs = search needs
 
 empties-typed-requires : tie.Need-empties-typed-requires
-empties-typed-requires c κs = c .before .before .sends-out-of-band .ensures [] .counted
+empties-typed-requires c κs = c .before .before .sends-out-of-band .ensures .0
 
 clears-unseen-requires : tie.Need-clears-unseen-requires
-clears-unseen-requires c κs =
-    let counted = c .before .before .empties-typed .ensures [] [] .counted in
-    (counted, counted .reading)
+clears-unseen-requires c κs = let counted = c .before .before .empties-typed .ensures .0 in (counted, counted .within)
 
 ends-out-of-band-requires : tie.Need-ends-out-of-band-requires
 ends-out-of-band-requires c κs =
-    let counted = c .before .before .before .clears-unseen .ensures [] [] .counted in
-    (counted, counted .reading)
+    let counted = c .before .before .before .clears-unseen .ensures .0 in
+    (counted, record { within = counted .within; full = c .before .before .before .before .before .before .before .before .before .before .before .before .before .pre .1 })
 
 same-length : tie.Need-same-length
 same-length c = search needs
@@ -28,15 +27,19 @@ same-length c = search needs
 returns : tie.Need-returns
 unfolding clearsAtOnce
 returns c =
-    let ended = c .before .before in
-    let unseen = ended .before .before .before .before in
-    let emptied = unseen .before .before .before in
-    let sent = emptied .before .before .before in
-    λ t.
-    then-does (sent .sends-out-of-band .ensures t)
-    (then-does (emptied .empties-typed .ensures t _)
-    (then-does (here-does (λ s. clearsUnseen (s .read)) (unseen .clears-unseen .ensures t _))
-    (here-does (λ s. endsOutOfBand codes (s .read)) (ended .ends-out-of-band .ensures t))))
+    let a = c .before .before .before .before .before .before .before .before .before .before .before .before .before .before .before .before .args in
+    let ended = c .before .before .ends-out-of-band .ensures in
+    let unseen = c .before .before .before .before .before .before .clears-unseen .ensures in
+    let emptied = c .before .before .before .before .before .before .before .before .before .empties-typed .ensures in
+    let sent = c .before .before .before .before .before .before .before .before .before .before .before .before .sends-out-of-band .ensures in (
+      ended .0,
+      λ l x.
+          let line = lent (a .t) (a .text .now) l in
+          then-does (sent .1 line x)
+          (then-does (emptied .1 line x _)
+          (then-does (here-does (λ s. clearsUnseen (s .read)) (unseen .1 (a .text .now) l x _))
+          (here-does (λ s. endsOutOfBand codes (s .read)) (ended .1 l x)))),
+    )
 
 pub clears-at-once-spec : {M : Type 1} → statement M
 clears-at-once-spec =

@@ -1,3 +1,5 @@
+use Rattle.line.specs.View.{readingOf}
+use Rattle.line.specs.With.{lent}
 use borrow.Author.Needs.{needs}
 use Rattle.rules.specs.State.{codes}
 use Rattle.rules.specs.Arrival.{clearsSeen}
@@ -16,16 +18,16 @@ same-length c = search needs
 returns : tie.Need-returns
 unfolding clearsSeen
 returns c =
-    let b = c .before .before in
-    let branch = b .before .before in
-    let start = branch .before .before in
-    λ m. pending-does (clearsSeen codes) (start .args .r) (branch .if1 .taken) (b .deletes .ensures cleared m)
+    let a = c .before .before .before .before .before .before .before .args in
+    let deleted = c .before .before .deletes .ensures in
+    (deleted .0, λ l m. pending-does (clearsSeen codes) (readingOf (lent (a .t) (a .text .now) l) (a .r)) (c .before .before .before .before .if1 .taken) (deleted .1 cleared l m))
 
 returns-2 : tie.Need-returns-2
 unfolding clearsSeen
 returns-2 c =
-    let start = c .before .before in
-    λ m. idle-does (clearsSeen codes) (start .args .r) (c .if1 .left) (still-does (start .args .self) _ m (start .pre .0))
+    let start = c .before .before .before in
+    let a = start .args in
+    (start .pre .0, λ l m. idle-does (clearsSeen codes) (readingOf (lent (a .t) (a .text .now) l) (a .r)) (c .if1 .left) (still-does _ _ m))
 
 pub clears-seen-spec : {M : Type 1} → statement M
 clears-seen-spec = tie.close (tie.spec deletes-requires same-length returns returns-2)

@@ -1,3 +1,5 @@
+use Rattle.line.specs.View.{readingOf}
+use Rattle.line.specs.With.{lent}
 use borrow.Author.Needs.{needs}
 use Rattle.rules.specs.Arrival.{clearsUnseen}
 use Rattle.rules.specs.Turns.{cleared}
@@ -12,14 +14,16 @@ deletes-unseen-requires c κs = search needs
 returns : tie.Need-returns
 unfolding clearsUnseen
 returns c =
-    let start = c .before .before in
-    λ t m. pending-does clearsUnseen (start .args .r) (c .before .if1 .taken) (c .deletes-unseen .ensures cleared t m)
+    let a = c .before .before .args in
+    let deleted = c .deletes-unseen .ensures in
+    (deleted .0, λ text l x m. pending-does clearsUnseen (readingOf (lent (a .t) text l) (a .r)) (c .before .if1 .taken) (deleted .1 cleared text l x m))
 
 returns-2 : tie.Need-returns-2
 unfolding clearsUnseen
 returns-2 c =
     let start = c .before in
-    λ t m. idle-does clearsUnseen (start .args .r) (c .if1 .left) (still-does (start .args .self) t m (start .pre .0))
+    let a = start .args in
+    (start .pre .0, λ text l x m. idle-does clearsUnseen (readingOf (lent (a .t) text l) (a .r)) (c .if1 .left) (still-does _ x m))
 
 pub clears-unseen-spec : {M : Type 1} → statement M
 clears-unseen-spec = tie.close (tie.spec deletes-unseen-requires returns returns-2)

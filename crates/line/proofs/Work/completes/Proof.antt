@@ -1,8 +1,8 @@
-use mathlib.Core.List.{[]}
+use mathlib.Core.Path.{ap}
 use borrow.Author.Needs.{needs}
 use Rattle.rules.specs.ReadData.{completes}
 use Rattle.line.proofs.Works.{then-does}
-use Rattle.line.proofs.Joints.{off-does}
+use Rattle.line.proofs.Joints.{goes-counted, off-does}
 use Rattle.line.proofs.Work.completes.Statement.{statement}
 use Rattle.line.proofs.Work.completes.Tie as tie
 
@@ -10,7 +10,7 @@ loses-partial-requires : tie.Need-loses-partial-requires
 loses-partial-requires c κs = search needs
 
 answers-requires : tie.Need-answers-requires
-answers-requires c κs = (c .before .loses-partial .ensures [] [] .counted, c .before .before .before .pre .1)
+answers-requires c κs = (c .before .loses-partial .ensures .0, c .before .before .before .before .pre .1)
 
 without-read-requires : tie.Need-without-read-requires
 without-read-requires c κs = search needs
@@ -21,8 +21,16 @@ same-length c = search needs
 returns : tie.Need-returns
 unfolding completes
 returns c =
-    let answered = c .before .before .before .answers .ensures in
-    λ t. then-does (c .before .before .before .before .before .loses-partial .ensures t _) (then-does (answered t) (off-does (answered t .counted) (c .without-read .ensures) t _))
+    let answered = c .before .before .before .answers in
+    let off = c .without-read .ensures in (
+      goes-counted (answered .result) off (record { typed = answered .ensures .0 .typed; within = answered .ensures .0 .within }),
+      (
+        λ k l x.
+            then-does (c .before .before .before .before .before .loses-partial .ensures .1 k x _)
+            (then-does (answered .ensures .1 k l x) (off-does (answered .result) off k x _)),
+        ap (λ w. w .flow .pending) off,
+      ),
+    )
 
 pub completes-spec : {M : Type 1} → statement M
 completes-spec =

@@ -1,3 +1,4 @@
+use Rattle.line.specs.With.{lent}
 use borrow.Author.Needs.{needs}
 use Rattle.line.proofs.Works.{only-does, not-does, still-does}
 use Rattle.line.proofs.Work.completes_if.Statement.{statement}
@@ -10,12 +11,13 @@ same-length : tie.Need-same-length
 same-length c = search needs
 
 returns : tie.Need-returns
-returns c = λ t. only-does _ (c .before .before .before .before .if1 .taken) (c .before .before .completes .ensures t)
+returns c =
+    let a = c .before .before .before .before .before .before .before .args in
+    let done = c .before .before .completes .ensures in
+    (done .0, λ l x. only-does _ (c .before .before .before .before .if1 .taken) (done .1 .0 (lent (a .t) (a .text .now) l) l x))
 
 returns-2 : tie.Need-returns-2
-returns-2 c =
-    let start = c .before .before in
-    λ t. not-does _ (c .if1 .left) (still-does (start .args .self) t _ (start .pre .0))
+returns-2 c = (c .before .before .before .pre .0, λ l x. not-does _ (c .if1 .left) (still-does _ x _))
 
 pub completes-if-spec : {M : Type 1} → statement M
 completes-if-spec = tie.close (tie.spec completes-requires same-length returns returns-2)

@@ -1,8 +1,9 @@
 use mathlib.Core.Path.{sym, ap, _∙_}
 use mathlib.Core.List.{[]}
+use Rattle.line.specs.With.{lent}
 use borrow.Author.Needs.{needs}
 use Rattle.rules.specs.Screen.{rubOut}
-use Rattle.rules.specs.Editing.{rubbing, deletes}
+use Rattle.rules.specs.Editing.{hiddenCount, rubbing, deletes}
 use Rattle.rules.proofs.Tests.{pick-true, pick-false}
 use Rattle.line.proofs.Works.{then-does}
 use Rattle.line.proofs.Joints.{same-writes, unwritten-does}
@@ -18,26 +19,34 @@ rub-out-requires c κs = search needs
 deletes-unseen-requires : tie.Need-deletes-unseen-requires
 deletes-unseen-requires c κs =
     let start = c .before .before .before .before .before .before .before .before in
-    (c .before .before .rub-out .ensures [] .counted, start .pre .1)
+    (c .before .before .rub-out .ensures .0, (start .pre .1 .0 .within, start .pre .1 .1))
 
 same-length : tie.Need-same-length
 same-length c = search needs
 
 returns : tie.Need-returns
-unfolding deletes rubbing
+unfolding deletes rubbing hiddenCount
 returns c =
-    let rubbed = c .before .before .before in
-    let test = rubbed .before .before .before .if1 .taken in
-    let marks = ap rubOut (rubbed .before .before .marks .ensures) ∙ sym (pick-true _ [] test) in
-    λ fate m. then-does (same-writes marks (rubbed .rub-out .ensures m)) (c .deletes-unseen .ensures fate _ m)
+    let test = c .before .before .before .before .before .before .if1 .taken in
+    let rubbed = c .before .before .before .rub-out .ensures in
+    let a = c .before .before .before .before .before .before .before .before .before .args in
+    let deleted = c .deletes-unseen .ensures in (
+      deleted .0,
+      λ fate l m.
+          let line = lent (a .t) (a .text .now) l in
+          let marks = ap rubOut (c .before .before .before .before .before .marks .ensures (a .t) l) ∙ sym (pick-true _ [] test) in
+          then-does (same-writes marks (rubbed .1 line m)) (deleted .1 fate (a .text .now) l _ m),
+    )
 
 deletes-unseen-requires-2 : tie.Need-deletes-unseen-requires-2
 deletes-unseen-requires-2 c κs = search needs
 
 returns-2 : tie.Need-returns-2
-unfolding deletes rubbing
+unfolding deletes rubbing hiddenCount
 returns-2 c =
-    λ fate m. unwritten-does (pick-false _ _ (c .before .if1 .left)) (c .deletes-unseen2 .ensures fate _ m)
+    let deleted = c .deletes-unseen2 .ensures in
+    let text = c .before .before .before .before .args .text .now in
+    (deleted .0, λ fate l m. unwritten-does (pick-false _ _ (c .before .if1 .left)) (deleted .1 fate text l _ m))
 
 pub deletes-spec : {M : Type 1} → statement M
 deletes-spec =

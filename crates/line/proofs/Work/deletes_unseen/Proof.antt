@@ -1,6 +1,9 @@
 use borrow.Author.Needs.{needs}
 use Rattle.rules.specs.Editing.{deletesUnseen}
-use Rattle.line.proofs.Works.{told-does, read-does}
+use Rattle.line.proofs.Works.{told-does}
+use Rattle.line.proofs.Joints.{read-counted, read-does}
+use Rattle.line.specs.With.{lent}
+use native.Mathlib.Omega.{arith}
 use Rattle.line.proofs.Work.deletes_unseen.Statement.{statement}
 use Rattle.line.proofs.Work.deletes_unseen.Tie as tie
 
@@ -14,7 +17,12 @@ returns : tie.Need-returns
 unfolding deletesUnseen
 returns c =
     let start = c .before .before in
-    λ fate t m. told-does _ (read-does (c .before .shortened .result) (c .before .shortened .ensures) (start .pre .0) (c .with-read .ensures) t m)
+    let next = c .before .shortened in
+    let short = next .ensures in
+    let read = c .with-read .ensures in (
+      read-counted (start .args .self) (next .result) read (start .pre .0) (omega (arith, short .count, start .pre)),
+      λ fate text l x m. told-does _ (read-does (start .args .self) (next .result) read (lent (start .args .t) text l) (short .same text l) x m),
+    )
 
 pub deletes-unseen-spec : {M : Type 1} → statement M
 deletes-unseen-spec = tie.close (tie.spec shortened-requires with-read-requires returns)

@@ -1,49 +1,70 @@
-use mathlib.Core.Path.{sym}
-use mathlib.Core.List.{[]}
-use native.Mathlib.Omega.{arith}
 use borrow.Author.Needs.{needs}
-use lib.Seq.{length-take-le}
+use mathlib.Core.Path.{_≡_, ap, _∙_}
+use Prim.Native.Nat.{_-_, _≤_, _+_}
+use native.Mathlib.Omega.{arith}
+use lib.ListN.{length, drop}
+use Rattle.rules.specs.Numbers.{inputSize}
 use Rattle.rules.specs.Editing.{displays}
-use Rattle.rules.proofs.Sizes.{input-word}
+use Rattle.message.proofs.Pieces.{all-behind}
 use Rattle.line.specs.View.{promptOf}
+use Rattle.line.specs.With.{lent}
 use Rattle.line.specs.ReadingParts.{displaysData}
+use Rattle.line.proofs.Sizes.{input-size}
 use Rattle.line.proofs.Works.{then-does}
+use Rattle.line.proofs.Joints.{same-writes}
 use Rattle.line.proofs.Work.displays.Statement.{statement}
 use Rattle.line.proofs.Work.displays.Tie as tie
+use Rattle.line.proofs.Work.displays.Reads as reads
+use Rattle.line.proofs.Work.displays.Lts as lts
+use Rattle.line.proofs.Work.displays_data.Reads as displays-data-reads
+use Rattle.line.proofs.Work.write.Reads as write-reads
 
-cast-size : tie.Need-cast-size
-cast-size c = omega (arith, input-word)
+cast-start : tie.Need-cast-start
+cast-start c = omega (arith, input-size)
 
-array-share-prefix-prompt : tie.Need-array-share-prefix-prompt
-array-share-prefix-prompt c = search needs
+sub-start : tie.Need-sub-start
+sub-start c = omega (arith, input-size)
 
-slice-aggregate-write : tie.Need-slice-aggregate-write
-slice-aggregate-write c =
-    let start = c .before .before .before .before .before .before in
-    let terms = start .args .r .terms in
-    let counted = start .pre .1 .terms in
-    sym (length-take-le (terms .«prompt_len») (terms .prompt) (omega arith))
+sub-write : tie.Need-sub-write
+sub-write c = omega (arith, input-size)
+
+part-write-start : tie.Need-part-write-start
+part-write-start c = omega (arith, input-size)
+
+part-write-end : tie.Need-part-write-end
+part-write-end c = omega (arith, input-size)
 
 write-requires : tie.Need-write-requires
 write-requires c κs = search needs
 
 displays-data-requires : tie.Need-displays-data-requires
-displays-data-requires c κs = (c .before .before .before .write .ensures [] .counted, c .before .before .before .before .before .before .before .before .before .before .pre .1)
+displays-data-requires c κs = (c .before .before .before .write .ensures .0, c .before .before .before .before .before .before .before .before .before .pre .1 .0)
 
 same-length : tie.Need-same-length
 same-length c = search needs
 
 returns : tie.Need-returns
 unfolding displays displaysData promptOf
-returns c = λ m. then-does (c .before .before .before .before .before .before .write .ensures m) (c .before .before .displays-data .ensures m)
+returns c =
+    let start = c .before .before .before .before .before .before .before .before .before .before .before .before in
+    let a = start .args in
+    let text = a .text .now in
+    let from = 132 - a .t .«prompt_len» in
+    let all : length text ≤ from + (length text - from) = omega arith in
+    let place : from ≡ inputSize - a .t .«prompt_len» = omega (arith, input-size) in
+    let prompt = all-behind text from (length text - from) all ∙ ap (λ n. drop n text) place in
+    let shown = c .before .before .displays-data .ensures in
+    (shown .0, λ l m. then-does (same-writes prompt (c .before .before .before .before .before .before .write .ensures .1 (lent (a .t) text l) m)) (shown .1 l m))
 
 pub displays-spec : {M : Type 1} → statement M
 displays-spec =
     tie.close
     (tie.spec
-    cast-size
-    array-share-prefix-prompt
-    slice-aggregate-write
+    cast-start
+    sub-start
+    sub-write
+    part-write-start
+    part-write-end
     write-requires
     displays-data-requires
     same-length

@@ -6,8 +6,9 @@ use borrow.Author.Needs.{needs}
 use Rattle.rules.specs.Screen.{echoAll}
 use Rattle.rules.proofs.Tests.{pick-true, pick-false}
 use Rattle.line.specs.ReadingParts.{displaysData}
-use Rattle.line.proofs.Works.{then-does, read-does}
-use Rattle.line.proofs.Joints.{same-writes, blank-does, here-part, read-counted, from-becomes}
+use Rattle.line.specs.With.{lent}
+use Rattle.line.proofs.Works.{then-does}
+use Rattle.line.proofs.Joints.{same-writes, blank-does, here-part, read-counted, read-does, from-same, from-count}
 use Rattle.line.proofs.Work.displays_data.Statement.{statement}
 use Rattle.line.proofs.Work.displays_data.Tie as tie
 
@@ -34,10 +35,10 @@ part-echo-all-end c = search needs
 
 echo-all-requires : tie.Need-echo-all-requires
 echo-all-requires c κs =
-    let begun = c .before .before .before .before .before .before .before .before in
-    let start = begun .before .before .before .before .before .before in
-    let next = begun .before .with-from in
-    read-counted (start .pre .0) (next .result) (from-becomes (start .pre .1) (next .ensures) .counted) (begun .with-read .ensures)
+    let start = c .before .before .before .before .before .before .before .before .before .before .before .before in
+    let r = start .args .r in
+    let next = c .before .before .before .before .before .before .with-from in
+    read-counted (start .args .self) (next .result) (c .before .before .before .before .before .with-read .ensures) (start .pre .0) (from-count r (next .ensures) (start .pre .1 .within))
 
 same-length : tie.Need-same-length
 same-length c = search needs
@@ -45,31 +46,40 @@ same-length c = search needs
 returns : tie.Need-returns
 unfolding displaysData
 returns c =
-    let begun = c .before .before .before .before .before .before .before .before .before .before .before in
-    let start = begun .before .before .before .before .before .before in
-    let next = begun .before .with-from in
-    let shown = c .before .before .before .before .before .before .before in
-    let r = start .args .r in
-    let column = start .args .self .line .terminal .screen .column in
-    let from = shown .first-shown .result in
-    let text =
-    ap (λ x. echoAll (x .line .terminal .screen .column) (take (r .count - from) (drop from (r .input)))) (begun .with-read .ensures)
-    ∙ ap (echoAll column) (shown .first-shown .ensures .text) ∙ sym (pick-true _ [] (shown .before .before .if1 .taken)) in
-    λ m. here-part refl
-    (then-does (read-does (next .result) (from-becomes (start .pre .1) (next .ensures)) (start .pre .0) (begun .with-read .ensures) _ m)
-    (same-writes text (c .before .before .echo-all .ensures m)))
+    let start = c .before .before .before .before .before .before .before .before .before .before .before .before .before .before .before in
+    let a = start .args in
+    let r = a .r in
+    let text = a .text .now in
+    let next = c .before .before .before .before .before .before .before .before .before .with-from in
+    let begun = c .before .before .before .before .before .before .before .before .with-read .ensures in
+    let from = c .before .before .before .before .before .before .first-shown .result in
+    let part = take (r .count - from) (drop from text) in
+    let echoed = c .before .before .echo-all .ensures in (
+      echoed .0,
+      λ l m.
+          let line = lent (a .t) text l in
+          let shown =
+          ap (λ x. echoAll (x .flow .terminal .screen .column) part) begun
+          ∙ ap (echoAll (a .self .flow .terminal .screen .column)) (c .before .before .before .before .before .before .first-shown .ensures .text line) ∙ sym (pick-true _ [] (c .before .before .before .before .before .before .before .if1 .taken)) in
+          here-part refl
+          (then-does (read-does (a .self) (next .result) begun line (from-same r (next .ensures) line) _ m)
+          (same-writes shown (echoed .1 line m))),
+    )
 
 returns-2 : tie.Need-returns-2
 unfolding displaysData
 returns-2 c =
-    let begun = c .before .before in
-    let start = begun .before .before .before .before .before .before in
-    let next = begun .before .with-from in
-    let becomes = from-becomes (start .pre .1) (next .ensures) in
-    let counted = read-counted (start .pre .0) (next .result) (becomes .counted) (begun .with-read .ensures) in
-    λ m. here-part refl
-    (then-does (read-does (next .result) becomes (start .pre .0) (begun .with-read .ensures) _ m)
-    (blank-does (begun .with-read .result) _ m (pick-false _ _ (c .if1 .left)) counted))
+    let start = c .before .before .before .before .before .before .before .before in
+    let a = start .args in
+    let next = c .before .before .with-from in
+    let begun = c .before .with-read .ensures in (
+      read-counted (a .self) (next .result) begun (start .pre .0) (from-count (a .r) (next .ensures) (start .pre .1 .within)),
+      λ l m.
+          let line = lent (a .t) (a .text .now) l in
+          here-part refl
+          (then-does (read-does (a .self) (next .result) begun line (from-same (a .r) (next .ensures) line) _ m)
+          (blank-does _ _ m (pick-false _ _ (c .if1 .left)))),
+    )
 
 pub displays-data-spec : {M : Type 1} → statement M
 displays-data-spec =

@@ -1,7 +1,7 @@
 use borrow.Author.Needs.{needs}
 use Rattle.rules.specs.Arrival.{drops}
 use Rattle.line.proofs.Works.{then-does, told-does}
-use Rattle.line.proofs.Arrivals.{count-does}
+use Rattle.line.proofs.Arrivals.{terminal-counted, count-does}
 use Rattle.line.proofs.Work.drops.Statement.{statement}
 use Rattle.line.proofs.Work.drops.Tie as tie
 
@@ -20,9 +20,12 @@ same-length c = search needs
 returns : tie.Need-returns
 unfolding drops
 returns c =
-    let b = c .before .before .before .before .before .before in
-    let belled = b .put .ensures in
-    λ k m. told-does _ (then-does (belled m) (count-does (b .put .result) _ (c .before .one-more .ensures) (belled m .counted) (c .with-terminal .ensures) _ m))
+    let belled = c .before .before .before .before .before .before .put in
+    let n = c .before .one-more .ensures in
+    let next = c .with-terminal .ensures in (
+      terminal-counted (belled .result) _ next (belled .ensures .0),
+      λ k l m. told-does _ (then-does (belled .ensures .1 l m) (count-does (belled .result) _ n next l _ m)),
+    )
 
 pub drops-spec : {M : Type 1} → statement M
 drops-spec =

@@ -15,13 +15,13 @@ same-length c = search needs
 
 returns : tie.Need-returns
 unfolding echoesTerminatorIf
-returns c = λ m. here-part refl (same-writes (sym (pick-true _ [] (c .before .before .before .before .if1 .taken))) (c .before .before .echo-terminator .ensures m))
+returns c =
+    let echoed = c .before .before .echo-terminator .ensures in
+    (echoed .0, λ l m. here-part refl (same-writes (sym (pick-true _ [] (c .before .before .before .before .if1 .taken))) (echoed .1 l m)))
 
 returns-2 : tie.Need-returns-2
 unfolding echoesTerminatorIf
-returns-2 c =
-    let start = c .before .before in
-    λ m. here-part refl (blank-does (start .args .self) _ m (pick-false _ [] (c .if1 .left)) (start .pre))
+returns-2 c = (c .before .before .pre, λ l m. here-part refl (blank-does _ _ m (pick-false _ [] (c .if1 .left))))
 
 pub echoes-terminator-if-spec : {M : Type 1} → statement M
 echoes-terminator-if-spec =

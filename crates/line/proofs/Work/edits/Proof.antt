@@ -1,21 +1,32 @@
 use Prim.Native.Nat.{_-_}
 use mathlib.Core.Path.{sym, ap, _∙_}
+use native.Mathlib.Omega.{arith}
 use borrow.Author.Needs.{needs}
 use borrow.Author.Tests.{eq-eqb, ne-eqb}
 use Rattle.rules.specs.State.{codes}
+use Rattle.rules.specs.Turns.{edited}
 use Rattle.rules.specs.Steps.{erases, erasesAll, showsAgain, edits}
 use Rattle.line.specs.View.{readingOf}
+use Rattle.line.specs.With.{lent}
 use Rattle.line.proofs.Appends.{input-length}
 use Rattle.line.proofs.Works.{first-does, second-does, told-does}
 use Rattle.line.proofs.Joints.{for-equal}
+use borrow.Author.Needs.{needs}
 use Rattle.line.proofs.Work.edits.Statement.{statement}
 use Rattle.line.proofs.Work.edits.Tie as tie
+use Rattle.line.proofs.Work.edits.Reads as reads
+use Rattle.line.proofs.Work.edits.Lts as lts
+use Rattle.line.proofs.Reading.left_by_127.Reads as left-by-127-reads
+use Rattle.line.proofs.Reading.left_by_23.Reads as left-by-23-reads
+use Rattle.line.proofs.Work.deletes.Reads as deletes-reads
+use Rattle.line.proofs.Work.erases.Reads as erases-reads
+use Rattle.line.proofs.Work.redisplays.Reads as redisplays-reads
 
 left-by-127-requires : tie.Need-left-by-127-requires
 left-by-127-requires c κs = search needs
 
 erases-requires : tie.Need-erases-requires
-erases-requires c κs = search needs
+erases-requires c κs = let pre = c .before .before .before .before .before .before .before .pre in (pre .0, (pre .1 .0, (pre .1 .1, omega (arith, c .before .before .before .left-by-127 .ensures))))
 
 same-length : tie.Need-same-length
 same-length c = search needs
@@ -26,16 +37,25 @@ same-length-2 c = search needs
 returns : tie.Need-returns
 unfolding edits
 returns c =
-    let start = c .before .before .before .before .before .before .before .before .before .before .before in
+    let start = c .before .before .before .before .before .before .before .before .before .before .before .before in
     let a = start .args in
-    let left = c .before .before .before .before .before .before .before .left-by-127 .ensures ∙ ap (λ n. n - 1) (sym (input-length (a .r) (start .pre .1 .counted))) in
-    first-does _ _ (eq-eqb _ 127 (c .before .before .before .before .before .before .before .before .if1 .taken)) (for-equal (λ n. erases codes n (a .c) (readingOf (a .r))) left (c .before .before .before .before .erases .ensures))
+    let text = a .text .now in
+    let left = c .before .before .before .before .before .before .before .before .left-by-127 .ensures ∙ ap (λ n. n - 1) (sym (input-length (a .r .count) text (omega (arith, start .pre .1 .0 .within, start .pre .1 .0 .full)))) in
+    let done = c .before .before .before .before .erases .ensures in (
+      done .0,
+      (
+        done .1 .0,
+        λ l.
+            first-does _ _ (eq-eqb _ 127 (c .before .before .before .before .before .before .before .before .before .if1 .taken))
+            (for-equal (λ n. erases codes n (a .c) (readingOf (lent (a .t) text l) (a .r))) left (done .1 .1 l)),
+      ),
+    )
 
 left-by-23-requires : tie.Need-left-by-23-requires
-left-by-23-requires c κs = search needs
+left-by-23-requires c κs = c .before .before .before .before .before .before .pre .1 .0
 
 erases-requires-2 : tie.Need-erases-requires-2
-erases-requires-2 c κs = search needs
+erases-requires-2 c κs = let pre = c .before .before .before .before .before .before .before .before .before .before .pre in (pre .0, (pre .1 .0, (pre .1 .1, c .before .before .before .left-by-23 .ensures .within)))
 
 same-length-3 : tie.Need-same-length-3
 same-length-3 c = search needs
@@ -46,13 +66,20 @@ same-length-4 c = search needs
 returns-2 : tie.Need-returns-2
 unfolding edits
 returns-2 c =
-    let a = c .before .before .before .before .before .before .before .before .before .before .before .before .args in
-    second-does _ _ (ne-eqb _ 127 (c .before .before .before .before .before .before .before .before .before .if1 .left))
-    (first-does _ _ (eq-eqb _ 23 (c .before .before .before .before .before .before .before .before .if2 .taken))
-    (for-equal (λ n. erases codes n (a .c) (readingOf (a .r))) (c .before .before .before .before .before .before .before .left-by-23 .ensures .left-by) (c .before .before .before .before .erases2 .ensures)))
+    let a = c .before .before .before .before .before .before .before .before .before .before .before .before .before .before .before .args in
+    let done = c .before .before .before .before .erases2 .ensures in (
+      done .0,
+      (
+        done .1 .0,
+        λ l.
+            second-does _ _ (ne-eqb _ 127 (c .before .before .before .before .before .before .before .before .before .before .before .before .if1 .left))
+            (first-does _ _ (eq-eqb _ 23 (c .before .before .before .before .before .before .before .before .before .before .before .if2 .taken))
+            (for-equal (λ n. erases codes n (a .c) (readingOf (lent (a .t) (a .text .now) l) (a .r))) (c .before .before .before .before .before .before .before .before .left-by-23 .ensures .left-by (a .t) l) (done .1 .1 l))),
+      ),
+    )
 
 deletes-requires : tie.Need-deletes-requires
-deletes-requires c κs = search needs
+deletes-requires c κs = let pre = c .before .before .before .before .before .before .before .before .pre in (pre .0, (pre .1 .0, omega arith))
 
 same-length-5 : tie.Need-same-length-5
 same-length-5 c = search needs
@@ -60,12 +87,21 @@ same-length-5 c = search needs
 returns-3 : tie.Need-returns-3
 unfolding edits erasesAll
 returns-3 c =
-    second-does _ _ (ne-eqb _ 127 (c .before .before .before .before .before .before .if1 .left))
-    (second-does _ _ (ne-eqb _ 23 (c .before .before .before .before .before .if2 .left))
-    (first-does _ _ (eq-eqb _ 21 (c .before .before .before .before .if3 .taken)) (told-does _ (c .before .before .deletes .ensures _ _))))
+    let done = c .before .before .deletes .ensures in (
+      done .0,
+      (
+        c .before .before .before .before .before .before .before .before .before .before .before .pre .1 .0 .full,
+        λ l.
+            second-does _ _ (ne-eqb _ 127 (c .before .before .before .before .before .before .before .before .if1 .left))
+            (second-does _ _ (ne-eqb _ 23 (c .before .before .before .before .before .before .before .if2 .left))
+            (first-does _ _ (eq-eqb _ 21 (c .before .before .before .before .before .before .if3 .taken)) (told-does _ (done .1 edited l _)))),
+      ),
+    )
 
 redisplays-requires : tie.Need-redisplays-requires
-redisplays-requires c κs = search needs
+redisplays-requires c κs =
+    let pre = c .before .before .before .before .before .before .before .before .pre in
+    (pre .0, (pre .1 .0, omega (arith, pre .1 .1 .prompt, pre .1 .1 .room, pre .1 .1 .largest)))
 
 same-length-6 : tie.Need-same-length-6
 same-length-6 c = search needs
@@ -73,9 +109,16 @@ same-length-6 c = search needs
 returns-4 : tie.Need-returns-4
 unfolding edits showsAgain
 returns-4 c =
-    second-does _ _ (ne-eqb _ 127 (c .before .before .before .before .before .before .if1 .left))
-    (second-does _ _ (ne-eqb _ 23 (c .before .before .before .before .before .if2 .left))
-    (second-does _ _ (ne-eqb _ 21 (c .before .before .before .before .if3 .left)) (told-does _ (c .before .before .redisplays .ensures _))))
+    let done = c .before .before .redisplays .ensures in (
+      done .0,
+      (
+        c .before .before .before .before .before .before .before .before .before .before .before .pre .1 .0 .full,
+        λ l.
+            second-does _ _ (ne-eqb _ 127 (c .before .before .before .before .before .before .before .before .if1 .left))
+            (second-does _ _ (ne-eqb _ 23 (c .before .before .before .before .before .before .before .if2 .left))
+            (second-does _ _ (ne-eqb _ 21 (c .before .before .before .before .before .before .if3 .left)) (told-does _ (done .1 l _)))),
+      ),
+    )
 
 pub edits-spec : {M : Type 1} → statement M
 edits-spec =

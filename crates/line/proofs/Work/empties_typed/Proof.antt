@@ -1,10 +1,12 @@
+use Rattle.line.proofs.Held.{emptied-counted}
+use Rattle.line.proofs.Joints.{typed-counted}
 use borrow.Author.Needs.{needs}
 use mathlib.Core.List.{[], _++_, map}
 use Rattle.rules.specs.State.{withTyped}
 use Rattle.rules.specs.Turns.{cleared, tells, changes, _then_}
 use Rattle.rules.specs.Arrival.{emptiesTyped}
 use Rattle.line.proofs.Works.{told-does, here-does}
-use Rattle.line.proofs.Arrivals.{typed-does}
+use Rattle.line.proofs.Arrivals.{emptied-does}
 use Rattle.line.proofs.Work.empties_typed.Statement.{statement}
 use Rattle.line.proofs.Work.empties_typed.Tie as tie
 
@@ -17,13 +19,17 @@ with-typed-requires c κs = search needs
 returns : tie.Need-returns
 unfolding emptiesTyped
 returns c =
-    let e = c .before .emptied in
     let start = c .before .before .before .before in
-    λ t m.
-    here-does
-    (λ s.
-    tells (map (λ k. cleared (k .char)) (s .typed .typeAhead) ++ map cleared (s .typed .token)) then changes (withTyped [] []))
-    (told-does _ (typed-does (e .result) (e .ensures) (start .pre) (c .with-typed .ensures) t m))
+    let self = start .args .self in
+    let e = c .before .emptied .ensures in
+    let next = c .with-typed .ensures in (
+      typed-counted self next (start .pre) (emptied-counted (self .flow .typed) (start .pre .typed) e),
+      λ l t m.
+          here-does
+          (λ s.
+          tells (map (λ k. cleared (k .char)) (s .typed .typeAhead) ++ map cleared (s .typed .token)) then changes (withTyped [] []))
+          (told-does _ (emptied-does self next e l t m)),
+    )
 
 pub empties-typed-spec : {M : Type 1} → statement M
 empties-typed-spec = tie.close (tie.spec emptied-requires with-typed-requires returns)

@@ -1,3 +1,5 @@
+use Rattle.line.specs.View.{readingOf}
+use Rattle.line.specs.With.{lent}
 use borrow.Author.Needs.{needs}
 use Rattle.rules.specs.State.{codes}
 use Rattle.rules.specs.Arrival.{endsOutOfBand}
@@ -15,16 +17,16 @@ same-length c = search needs
 returns : tie.Need-returns
 unfolding endsOutOfBand
 returns c =
-    let b = c .before .before in
-    let branch = b .before .before in
-    let start = branch .before .before in
-    λ t. pending-does (endsOutOfBand codes) (start .args .r) (branch .if1 .taken) (b .completes .ensures t)
+    let a = c .before .before .before .before .before .before .before .args in
+    let ended = c .before .before .completes .ensures in
+    (ended .0, λ l x. pending-does (endsOutOfBand codes) (readingOf (lent (a .t) (a .text .now) l) (a .r)) (c .before .before .before .before .if1 .taken) (ended .1 .0 (lent (a .t) (a .text .now) l) l x))
 
 returns-2 : tie.Need-returns-2
 unfolding endsOutOfBand
 returns-2 c =
-    let start = c .before .before in
-    λ t. idle-does (endsOutOfBand codes) (start .args .r) (c .if1 .left) (still-does (start .args .self) t _ (start .pre .0))
+    let start = c .before .before .before in
+    let a = start .args in
+    (start .pre .0, λ l x. idle-does (endsOutOfBand codes) (readingOf (lent (a .t) (a .text .now) l) (a .r)) (c .if1 .left) (still-does _ x _))
 
 pub ends-out-of-band-spec : {M : Type 1} → statement M
 ends-out-of-band-spec = tie.close (tie.spec completes-requires same-length returns returns-2)

@@ -22,10 +22,7 @@ with-terminal-requires : tie.Need-with-terminal-requires
 with-terminal-requires c κs = search needs
 
 sends-plain-requires : tie.Need-sends-plain-requires
-sends-plain-requires c κs =
-    let w = c .before in
-    let start = w .before .before .before .before .before .before .before in
-    terminal-counted (start .args .self) _ (start .pre) (w .with-terminal .ensures)
+sends-plain-requires c κs = let start = c .before .before .before .before .before .before .before .before in terminal-counted (start .args .self) _ (c .before .with-terminal .ensures) (start .pre)
 
 same-length : tie.Need-same-length
 same-length c = search needs
@@ -33,16 +30,17 @@ same-length c = search needs
 returns : tie.Need-returns
 unfolding flipsDiscard heldIn partsOf inside
 returns c =
-    let b = c .before .before in
-    let w = b .before .before in
-    let flipped = w .with-terminal .ensures in
-    let start = w .before .before .before .before .before .before .before in
-    let kept = w .before .bit-of .ensures ∙ ap (λ v. bit (not (v .line .terminal .discarding))) (sym flipped) in
-    λ k t.
-    told-does _
-    (then-does (terminal-does _ (λ x. withDiscarding (not (x .discarding)) x) refl (start .pre) flipped t _)
-    (here-does (λ s. sends (plain discardState (bit (not (s .terminal .discarding)) ∷ [])))
-    (b .sends-plain .ensures _ _ (λ s. ap (λ n. codec.message (plain discardState (n ∷ []))) kept) refl t)))
+    let flipped = c .before .before .before .before .with-terminal .ensures in
+    let self = c .before .before .before .before .before .before .before .before .before .before .before .args .self in
+    let kept = c .before .before .before .before .before .bit-of .ensures ∙ ap (λ v. bit (not (v .flow .terminal .discarding))) (sym flipped) in
+    let sent = c .before .before .sends-plain .ensures in (
+      sent .0,
+      λ k l t.
+          told-does _
+          (then-does (terminal-does self _ flipped (λ x. withDiscarding (not (x .discarding)) x) refl l t _)
+          (here-does (λ s. sends (plain discardState (bit (not (s .terminal .discarding)) ∷ [])))
+          (sent .1 _ _ (λ s. ap (λ n. codec.message (plain discardState (n ∷ []))) kept) refl l t))),
+    )
 
 pub flips-discard-spec : {M : Type 1} → statement M
 flips-discard-spec =

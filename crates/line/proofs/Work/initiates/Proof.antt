@@ -1,16 +1,11 @@
+use Rattle.line.proofs.Sends.{sent-does, sent-counted}
 use borrow.Author.Needs.{needs}
-use mathlib.Core.Path.{refl}
-use mathlib.Core.Bool.{true}
-use Rattle.rules.specs.State.{withBegun}
-use Rattle.rules.specs.Host.{initiates}
-use Rattle.line.proofs.Works.{then-does}
-use Rattle.line.proofs.Sends.{sent-does}
-use Rattle.line.proofs.Obeys.{host-does}
 use Rattle.line.proofs.Work.initiates.Statement.{statement}
 use Rattle.line.proofs.Work.initiates.Tie as tie
-
-with-host-requires : tie.Need-with-host-requires
-with-host-requires c κs = search needs
+use Rattle.line.proofs.Work.initiates.Reads as reads
+use Rattle.line.proofs.Work.initiates.Lts as lts
+use Rattle.line.proofs.Work.sent_up_to.Reads as sent-up-to-reads
+use Rattle.line.proofs.initiating.put_initiate.Reads as put-initiate-reads
 
 put-initiate-requires : tie.Need-put-initiate-requires
 put-initiate-requires c κs = search needs
@@ -22,15 +17,10 @@ same-length : tie.Need-same-length
 same-length c = search needs
 
 returns : tie.Need-returns
-unfolding initiates
 returns c =
-    let put = c .before .before .before in
-    let begun = put .before .before in
-    let start = begun .before .before .before .before in
-    λ t.
-    let first = host-does _ (withBegun true) refl (start .pre) (record { table = start .pre .table; set = start .pre .set }) (begun .with-host .ensures) t _ in
-    then-does first (sent-does _ (first .counted) (put .put-initiate .ensures) (c .sent-up-to .ensures) t)
+    let start = c .before .before .before .before .before .before in
+    let e = c .sent-up-to .ensures in
+    (sent-counted (start .args .self) e (start .pre), λ l t. sent-does _ (c .before .before .before .put-initiate .ensures) e l t)
 
 pub initiates-spec : {M : Type 1} → statement M
-initiates-spec =
-    tie.close (tie.spec with-host-requires put-initiate-requires sent-up-to-requires same-length returns)
+initiates-spec = tie.close (tie.spec put-initiate-requires sent-up-to-requires same-length returns)

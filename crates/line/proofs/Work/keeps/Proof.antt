@@ -1,16 +1,19 @@
-use borrow.Author.Needs.{needs}
-use Rattle.line.proofs.Arrivals.{keeps-does}
+use native.Mathlib.Omega.{arith}
+use Rattle.line.proofs.Sizes.{waiting-byte}
+use Rattle.line.proofs.Arrivals.{kept-counted, keeps-does}
 use Rattle.line.proofs.Work.keeps.Statement.{statement}
 use Rattle.line.proofs.Work.keeps.Tie as tie
+use Rattle.line.proofs.Work.keeps.Reads as reads
+use Rattle.line.proofs.Work.keeps.Lts as lts
 
-store-requires : tie.Need-store-requires
-store-requires c κs = search needs
+add-typed : tie.Need-add-typed
+add-typed c = omega (arith, waiting-byte)
 
 returns : tie.Need-returns
 returns c =
-    let b = c .before in
-    let start = b .before .before .before in
-    keeps-does (start .args .self) (start .args .c) (start .args .quoted) (b .store .result) (start .pre .0) (b .store .ensures)
+    let start = c .before .before .before .before in
+    let self = start .args .self in
+    (kept-counted self (start .pre .0) (start .pre .1), keeps-does self (start .pre .0) (start .pre .1))
 
 pub keeps-spec : {M : Type 1} → statement M
-keeps-spec = tie.close (tie.spec store-requires returns)
+keeps-spec = tie.close (tie.spec add-typed returns)

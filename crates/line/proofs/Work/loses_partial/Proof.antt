@@ -2,7 +2,8 @@ use mathlib.Core.Path.{refl, sym, _∙_}
 use borrow.Author.Needs.{needs}
 use Rattle.rules.specs.ReadData.{losesPartial}
 use Rattle.line.proofs.Works.{told-does}
-use Rattle.line.proofs.Joints.{here-only, here-not, cleared-does}
+use Rattle.line.proofs.Held.{untokened-counted}
+use Rattle.line.proofs.Joints.{here-only, here-not, typed-counted, cleared-does}
 use Rattle.line.proofs.Work.loses_partial.Statement.{statement}
 use Rattle.line.proofs.Work.loses_partial.Tie as tie
 
@@ -21,14 +22,19 @@ returns c =
     let test = c .before .before in
     let start = c .before .before .before .before .before .before in
     let partial = sym (test .before .is-partial .ensures) ∙ test .if1 .taken in
-    λ t m. here-only _ refl partial (told-does _ (cleared-does (start .pre) (c .before .without-token .ensures) (c .with-typed .ensures) t m))
+    let self = start .args .self in
+    let next = c .before .without-token .ensures in
+    let typed = c .with-typed .ensures in (
+      typed-counted self typed (start .pre) (untokened-counted (start .args .self .flow .typed) (start .pre .typed) next),
+      λ l t m. here-only _ refl partial (told-does _ (cleared-does self typed next l t m)),
+    )
 
 returns-2 : tie.Need-returns-2
 unfolding losesPartial
 returns-2 c =
     let start = c .before .before .before .before in
     let whole = sym (c .before .is-partial .ensures) ∙ c .if1 .left in
-    λ t m. here-not _ t m refl whole (start .pre)
+    (start .pre, λ l t m. here-not _ t m refl whole)
 
 pub loses-partial-spec : {M : Type 1} → statement M
 loses-partial-spec =

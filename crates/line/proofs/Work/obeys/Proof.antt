@@ -1,14 +1,20 @@
 use mathlib.Core.Path.{sym, subst}
-use Rattle.rules.specs.Choice.{pick}
-use Rattle.rules.specs.Host.{obeys}
-use Rattle.message.specs.Found.{heldIn, startReadIn}
-use Rattle.characteristics.proofs.Held.{held-settings, held-questions}
-use Rattle.line.specs.Obeyed.{Accepted, obeysHeld}
-use Rattle.line.proofs.Joints.{for-equal}
-use Rattle.line.proofs.Accepts.{start-known, questions-known, obeys-as, other-types}
+use Rattle.message.specs.Found.{startReadIn}
+use Rattle.line.specs.HostMessages.{Startables}
+use Rattle.line.specs.With.{lent}
+use Rattle.line.proofs.Works.{still-does}
+use Rattle.line.proofs.Accepts.{obeys-as}
 use borrow.Author.Needs.{needs}
 use Rattle.line.proofs.Work.obeys.Statement.{statement}
 use Rattle.line.proofs.Work.obeys.Tie as tie
+use Rattle.line.proofs.Work.obeys.Reads as reads
+use Rattle.line.proofs.Work.obeys.Lts as lts
+use Rattle.line.proofs.Work.begins.Reads as begins-reads
+use Rattle.line.proofs.Work.checks_input.Reads as checks-input-reads
+use Rattle.line.proofs.Work.clears.Reads as clears-reads
+use Rattle.line.proofs.Work.initiates.Reads as initiates-reads
+use Rattle.line.proofs.Work.unreads.Reads as unreads-reads
+use Rattle.line.proofs.Work.writes_out.Reads as writes-out-reads
 
 enum-told : tie.Need-enum-told
 enum-told c = search needs
@@ -19,10 +25,11 @@ initiates-requires c κs = search needs
 enum-known-m : tie.Need-enum-known-m
 enum-known-m c = search needs
 
-starts-read-requires : tie.Need-starts-read-requires
-starts-read-requires c κs =
-    let start = c .before .before .before .before .before .before .before .before in
-    (start .pre .0, start-known _ _ _ (subst (Accepted (start .args .self .line) (start .args .s .now)) (c .before .before .before .m .given .1) (start .pre .1)))
+begins-requires : tie.Need-begins-requires
+begins-requires c κs =
+    let start = c .before .before .before .before .before .before .before .before .before in
+    let pre = start .pre in
+    (pre .0, (pre .1 .0, (pre .1 .1 .0, subst (Startables (start .args .s .now)) (c .before .before .before .m .given .1) (pre .1 .1 .1))))
 
 enum-known-m-2 : tie.Need-enum-known-m-2
 enum-known-m-2 c = search needs
@@ -42,19 +49,14 @@ enum-known-m-3 c = search needs
 writes-out-requires : tie.Need-writes-out-requires
 writes-out-requires c κs = search needs
 
-enum-known-m-4 : tie.Need-enum-known-m-4
-enum-known-m-4 c = search needs
+enum-told-3 : tie.Need-enum-told-3
+enum-told-3 c = search needs
 
-reports-requires : tie.Need-reports-requires
-reports-requires c κs =
-    let start = c .before .before .before .before .before .before .before in
-    (start .pre .0, questions-known _ _ _ (subst (Accepted (start .args .self .line) (start .args .s .now)) (c .before .before .m4 .given .1) (start .pre .1)))
+enum-told-4 : tie.Need-enum-told-4
+enum-told-4 c = search needs
 
-enum-known-m-5 : tie.Need-enum-known-m-5
-enum-known-m-5 c = search needs
-
-sets-characteristics-requires : tie.Need-sets-characteristics-requires
-sets-characteristics-requires c κs = search needs
+enum-told-5 : tie.Need-enum-told-5
+enum-told-5 c = search needs
 
 checks-input-requires : tie.Need-checks-input-requires
 checks-input-requires c κs = search needs
@@ -63,8 +65,10 @@ same-length : tie.Need-same-length
 same-length c = search needs
 
 returns : tie.Need-returns
-unfolding obeysHeld heldIn obeys pick
-returns c = obeys-as _ (c .before .before .before .before .enum-told .given .1) (c .before .before .initiates .ensures _)
+returns c =
+    let a = c .before .before .before .before .before .before .before .before .before .before .args in
+    let done = c .before .before .initiates .ensures in
+    (done .0, λ l p. obeys-as _ _ (a .t) l (c .before .before .before .before .enum-told .given .1) p (λ q. done .1 (lent (a .t) (a .text .now) l) _))
 
 same-length-2 : tie.Need-same-length-2
 same-length-2 c = search needs
@@ -73,22 +77,28 @@ same-length-3 : tie.Need-same-length-3
 same-length-3 c = search needs
 
 returns-2 : tie.Need-returns-2
-unfolding obeysHeld heldIn startReadIn obeys pick
-returns-2 c = obeys-as _ (c .before .before .before .before .before .before .before .before .m .given .1) (c .before .before .before .before .starts-read .ensures)
+returns-2 c =
+    let a = c .before .before .before .before .before .before .before .before .before .before .before .before .before .before .args in
+    let done = c .before .before .before .before .begins .ensures in
+    (done .0, λ l p. obeys-as _ _ (a .t) l (c .before .before .before .before .before .before .before .before .m .given .1) p (λ q. done .1 l q))
 
 same-length-4 : tie.Need-same-length-4
 same-length-4 c = search needs
 
 returns-3 : tie.Need-returns-3
-unfolding obeysHeld heldIn obeys pick
-returns-3 c = obeys-as _ (c .before .before .before .before .before .m2 .given .1) (c .before .before .unreads .ensures _)
+returns-3 c =
+    let a = c .before .before .before .before .before .before .before .before .before .before .before .args in
+    let done = c .before .before .unreads .ensures in
+    (done .0, λ l p. obeys-as _ _ (a .t) l (c .before .before .before .before .before .m2 .given .1) p (λ q. done .1 l _))
 
 same-length-5 : tie.Need-same-length-5
 same-length-5 c = search needs
 
 returns-4 : tie.Need-returns-4
-unfolding obeysHeld heldIn obeys pick
-returns-4 c = obeys-as _ (c .before .before .before .before .enum-told2 .given .1) (c .before .before .clears .ensures _)
+returns-4 c =
+    let a = c .before .before .before .before .before .before .before .before .before .before .args in
+    let done = c .before .before .clears .ensures in
+    (done .0, λ l p. obeys-as _ _ (a .t) l (c .before .before .before .before .enum-told2 .given .1) p (λ q. done .1 l _))
 
 same-length-6 : tie.Need-same-length-6
 same-length-6 c = search needs
@@ -97,25 +107,25 @@ same-length-7 : tie.Need-same-length-7
 same-length-7 c = search needs
 
 returns-5 : tie.Need-returns-5
-unfolding obeysHeld heldIn obeys pick
-returns-5 c = obeys-as _ (c .before .before .before .before .before .before .before .before .m3 .given .1) (c .before .before .before .before .writes-out .ensures)
+returns-5 c =
+    let a = c .before .before .before .before .before .before .before .before .before .before .before .before .before .before .args in
+    let done = c .before .before .before .before .writes-out .ensures in
+    (done .0, λ l p. obeys-as _ _ (a .t) l (c .before .before .before .before .before .before .before .before .m3 .given .1) p (λ q. done .1 (lent (a .t) (a .text .now) l)))
+
+returns-6 : tie.Need-returns-6
+returns-6 c = let a = c .before .before .before .before .before .before .args in (c .before .before .before .before .before .before .pre .0, λ l p. obeys-as _ _ (a .t) l (c .enum-told3 .given .1) p (λ q. still-does _ _ _))
+
+returns-7 : tie.Need-returns-7
+returns-7 c = let a = c .before .before .before .before .before .before .args in (c .before .before .before .before .before .before .pre .0, λ l p. obeys-as _ _ (a .t) l (c .enum-told4 .given .1) p (λ q. still-does _ _ _))
 
 same-length-8 : tie.Need-same-length-8
 same-length-8 c = search needs
 
-returns-6 : tie.Need-returns-6
-unfolding obeysHeld obeys pick
-returns-6 c = obeys-as _ (c .before .before .before .before .before .m4 .given .1) (for-equal obeysHeld (sym (held-questions _ _)) (c .before .before .reports .ensures _))
-
-returns-7 : tie.Need-returns-7
-unfolding obeysHeld obeys pick
-returns-7 c = obeys-as _ (c .before .before .m5 .given .1) (for-equal obeysHeld (sym (held-settings _ _)) (c .sets-characteristics .ensures _ _))
-
-same-length-9 : tie.Need-same-length-9
-same-length-9 c = search needs
-
 returns-8 : tie.Need-returns-8
-returns-8 c = for-equal (λ p. p) (sym (other-types _ _ (c .before .before .before .before .match .keys8))) (c .before .before .checks-input .ensures _)
+returns-8 c =
+    let a = c .before .before .before .before .before .before .before .before .before .before .args in
+    let done = c .before .before .checks-input .ensures in
+    (done .0, λ l p. obeys-as _ _ (a .t) l (c .before .before .before .before .enum-told5 .given .1) p (λ q. done .1 (lent (a .t) (a .text .now) l) _))
 
 pub obeys-spec : {M : Type 1} → statement M
 obeys-spec =
@@ -124,17 +134,16 @@ obeys-spec =
     enum-told
     initiates-requires
     enum-known-m
-    starts-read-requires
+    begins-requires
     enum-known-m-2
     unreads-requires
     enum-told-2
     clears-requires
     enum-known-m-3
     writes-out-requires
-    enum-known-m-4
-    reports-requires
-    enum-known-m-5
-    sets-characteristics-requires
+    enum-told-3
+    enum-told-4
+    enum-told-5
     checks-input-requires
     same-length
     returns
@@ -148,8 +157,7 @@ obeys-spec =
     same-length-6
     same-length-7
     returns-5
-    same-length-8
     returns-6
     returns-7
-    same-length-9
+    same-length-8
     returns-8)

@@ -10,12 +10,12 @@ same-length : tie.Need-same-length
 same-length c = search needs
 
 returns : tie.Need-returns
-returns c = λ m. only-does _ (c .before .before .before .before .if1 .taken) (c .before .before .put .ensures m)
+returns c =
+    let done = c .before .before .put .ensures in
+    (done .0, λ l m. only-does _ (c .before .before .before .before .if1 .taken) (done .1 l m))
 
 returns-2 : tie.Need-returns-2
-returns-2 c =
-    let start = c .before .before in
-    λ m. not-does _ (c .if1 .left) (still-does (start .args .self) _ m (start .pre))
+returns-2 c = (c .before .before .pre, λ l m. not-does _ (c .if1 .left) (still-does _ _ m))
 
 pub puts-if-spec : {M : Type 1} → statement M
 puts-if-spec = tie.close (tie.spec put-requires same-length returns returns-2)

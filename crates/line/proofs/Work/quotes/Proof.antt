@@ -4,7 +4,7 @@ use mathlib.Core.Bool.{true}
 use Rattle.rules.specs.State.{withQuoting}
 use Rattle.rules.specs.Arrival.{quotes}
 use Rattle.line.proofs.Works.{told-does}
-use Rattle.line.proofs.Arrivals.{terminal-does}
+use Rattle.line.proofs.Arrivals.{terminal-counted, terminal-does}
 use Rattle.line.proofs.Work.quotes.Statement.{statement}
 use Rattle.line.proofs.Work.quotes.Tie as tie
 
@@ -15,7 +15,9 @@ returns : tie.Need-returns
 unfolding quotes
 returns c =
     let start = c .before .before .before in
-    λ k t m. told-does _ (terminal-does _ (withQuoting true) refl (start .pre) (c .with-terminal .ensures) t m)
+    let self = start .args .self in
+    let next = c .with-terminal .ensures in
+    (terminal-counted self _ next (start .pre), λ k l t m. told-does _ (terminal-does self _ next (withQuoting true) refl l t m))
 
 pub quotes-spec : {M : Type 1} → statement M
 quotes-spec = tie.close (tie.spec with-terminal-requires returns)

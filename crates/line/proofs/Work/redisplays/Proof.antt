@@ -1,4 +1,4 @@
-use mathlib.Core.List.{[]}
+use Rattle.line.specs.With.{lent}
 use borrow.Author.Needs.{needs}
 use Rattle.rules.specs.Editing.{redisplays}
 use Rattle.line.proofs.Works.{then-does}
@@ -12,14 +12,17 @@ write-requires : tie.Need-write-requires
 write-requires c κs = search needs
 
 displays-requires : tie.Need-displays-requires
-displays-requires c κs = (c .before .before .before .write .ensures [] .counted, c .before .before .before .before .before .before .before .pre .1)
+displays-requires c κs = (c .before .before .before .write .ensures .0, c .before .before .before .before .before .before .before .before .pre .1)
 
 same-length : tie.Need-same-length
 same-length c = search needs
 
 returns : tie.Need-returns
 unfolding redisplays
-returns c = λ m. then-does (c .before .before .before .before .before .before .write .ensures m) (c .before .before .displays .ensures m)
+returns c =
+    let a = c .before .before .before .before .before .before .before .before .before .before .before .args in
+    let shown = c .before .before .displays .ensures in
+    (shown .0, λ l m. then-does (c .before .before .before .before .before .before .write .ensures .1 (lent (a .t) (a .text .now) l) m) (shown .1 l m))
 
 pub redisplays-spec : {M : Type 1} → statement M
 redisplays-spec =

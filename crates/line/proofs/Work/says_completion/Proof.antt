@@ -45,25 +45,23 @@ same-length c = search needs
 returns : tie.Need-returns
 unfolding completion heldIn partsOf inside
 returns c =
-    let b = c .before .before in
-    let vertical = b .before .before in
-    let horizontal = vertical .before .before .before in
-    let bits = horizontal .before in
-    let branch = bits .before .before .before .before .before in
-    let start = branch .before .before in
-    let now = start .args .self .line .terminal in
-    λ x b₀ some before t.
-    let lost = bits .bit-of .ensures ∙ ap (λ f. bit (now .discarding && f)) some in
-    let across = horizontal .change .ensures ∙ ap (λ s. change (now .screen .column) (s .column)) before in
-    let down = vertical .change2 .ensures ∙ ap (λ s. change (now .screen .line) (s .line)) before in
-    only-does _ (eq-eqb (start .args .wants) 1 (branch .if1 .taken))
-    (here-does (λ s. sends (completion x b₀ s))
-    (b .sends-plain .ensures _ _ (λ s i. codec.message (plain writeCompletion (lost i ∷ across i ∷ down i ∷ []))) refl t))
+    let start = c .before .before .before .before .before .before .before .before .before .before .before .before .before .before .before in
+    let now = start .args .self .flow .terminal in
+    let sent = c .before .before .sends-plain .ensures in (
+      sent .0,
+      λ x b some before l t.
+          let lost = c .before .before .before .before .before .before .before .before .bit-of .ensures ∙ ap (λ f. bit (now .discarding && f)) some in
+          let across = c .before .before .before .before .before .before .before .change .ensures ∙ ap (λ s. change (now .screen .column) (s .column)) before in
+          let down = c .before .before .before .before .change2 .ensures ∙ ap (λ s. change (now .screen .line) (s .line)) before in
+          only-does _ (eq-eqb (start .args .wants) 1 (c .before .before .before .before .before .before .before .before .before .before .before .before .before .if1 .taken))
+          (here-does (λ s. sends (completion x b s))
+          (sent .1 _ _ (λ s i. codec.message (plain writeCompletion (lost i ∷ across i ∷ down i ∷ []))) refl l t)),
+    )
 
 returns-2 : tie.Need-returns-2
 returns-2 c =
     let start = c .before .before in
-    λ x b some before t. not-does _ (ne-eqb (start .args .wants) 1 (c .if1 .left)) (still-does (start .args .self) t _ (start .pre))
+    (start .pre, λ x b some before l t. not-does _ (ne-eqb (start .args .wants) 1 (c .if1 .left)) (still-does _ t _))
 
 pub says-completion-spec : {M : Type 1} → statement M
 says-completion-spec =

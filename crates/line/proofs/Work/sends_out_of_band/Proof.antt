@@ -15,7 +15,9 @@ same-length c = search needs
 
 returns : tie.Need-returns
 unfolding sendsOutOfBand heldIn partsOf inside
-returns c = λ t. told-does _ (c .before .before .sends-plain .ensures _ _ (λ s. refl) refl t)
+returns c =
+    let sent = c .before .before .sends-plain .ensures in
+    (sent .0, λ l t. told-does _ (sent .1 _ _ (λ s. refl) refl l t))
 
 pub sends-out-of-band-spec : {M : Type 1} → statement M
 sends-out-of-band-spec = tie.close (tie.spec sends-plain-requires same-length returns)

@@ -18,8 +18,9 @@ same-length : tie.Need-same-length
 same-length c = search needs
 
 returns : tie.Need-returns
-returns c = λ kind numbers h i t.
-    c .before .before .send .ensures (plain kind numbers) (record { held = h _; listless = refl; set = omega arith }) i t
+returns c =
+    let sent = c .before .before .send .ensures in
+    (sent .0, λ kind numbers h i. sent .1 (plain kind numbers) (record { held = h _; listless = refl; set = omega arith }) i)
 
 pub sends-plain-spec : {M : Type 1} → statement M
 sends-plain-spec =

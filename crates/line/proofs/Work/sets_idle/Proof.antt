@@ -1,6 +1,6 @@
 use borrow.Author.Needs.{needs}
-use Rattle.line.proofs.Works.{read-does}
-use Rattle.line.proofs.Joints.{idle-becomes}
+use Rattle.line.proofs.Joints.{read-counted, read-does}
+use Rattle.line.proofs.Joints.{idle-same, idle-count}
 use Rattle.line.proofs.Work.sets_idle.Statement.{statement}
 use Rattle.line.proofs.Work.sets_idle.Tie as tie
 
@@ -13,8 +13,13 @@ with-read-requires c κs = search needs
 returns : tie.Need-returns
 returns c =
     let start = c .before .before .before .before in
+    let self = start .args .self in
+    let r = self .flow .reading in
     let next = c .before .with-idle in
-    read-does (next .result) (idle-becomes (start .pre .reading) (next .ensures)) (start .pre) (c .with-read .ensures)
+    let read = c .with-read .ensures in (
+      read-counted self (next .result) read (start .pre) (idle-count r (next .ensures) (start .pre .within)),
+      λ l x m. read-does self (next .result) read l (idle-same r (next .ensures) l) x m,
+    )
 
 pub sets-idle-spec : {M : Type 1} → statement M
 sets-idle-spec = tie.close (tie.spec with-idle-requires with-read-requires returns)

@@ -1,5 +1,7 @@
+use Rattle.line.proofs.Arrivals.{dropped-key}
 use borrow.Author.Needs.{needs}
-use Prim.Native.Nat.{ℕ}
+use Prim.Native.Nat.{ℕ, _≤_}
+use Rattle.line.specs.View.{keyOf}
 use native.Mathlib.Omega.{arith}
 use mathlib.Core.Bool.{Bool}
 use lib.Dec.{ltb}
@@ -11,7 +13,7 @@ use Rattle.rules.specs.Turns.{Part}
 use Rattle.rules.specs.Arrival.{keeps, drops, stores}
 use Rattle.line.proofs.Works.{here-does, first-does, second-does}
 use Rattle.line.proofs.Sizes.{type-ahead-size}
-use Rattle.line.proofs.Keys.{has-room, no-room}
+use Rattle.line.proofs.KeyArrays.{has-room, no-room}
 use Rattle.line.proofs.Work.stores.Statement.{statement}
 use Rattle.line.proofs.Work.stores.Tie as tie
 
@@ -29,10 +31,13 @@ returns : tie.Need-returns
 unfolding stores
 returns c =
     let start = c .before .before .before .before .before .before in
-    let x = start .args in
-    λ m.
-    here-does (byRoom (x .quoted) (x .c))
-    (first-does _ _ (has-room (x .self .line .typed) (start .pre .typed) (omega (arith, c .before .if1 .taken, type-ahead-size))) (c .keeps .ensures _ m))
+    let waiting = start .args .self .flow .typed .waiting in
+    let kept = c .keeps .ensures in (
+      kept .0,
+      λ k l size m.
+          here-does (byRoom (keyOf k .quoted) (keyOf k .char))
+          (first-does _ _ (has-room waiting typeAheadSize (l .keys) (omega (arith, c .before .if1 .taken, type-ahead-size))) (kept .1 k l size _ m)),
+    )
 
 drops-requires : tie.Need-drops-requires
 drops-requires c κs = search needs
@@ -43,12 +48,16 @@ same-length c = search needs
 returns-2 : tie.Need-returns-2
 unfolding stores
 returns-2 c =
-    let b = c .before .before in
-    let start = b .before .before .before .before .before .before .before in
-    let x = start .args in
-    λ m.
-    here-does (byRoom (x .quoted) (x .c))
-    (second-does _ _ (no-room (x .self .line .typed) (start .pre .typed) (omega (arith, b .before .before .if1 .left, type-ahead-size))) (b .drops .ensures _ m))
+    let self = c .before .before .before .before .before .before .before .before .before .args .self in
+    let waiting = self .flow .typed .waiting in
+    let full : typeAheadSize ≤ waiting = omega (arith, c .before .before .before .before .if1 .left, type-ahead-size) in
+    let dropped = c .before .before .drops in (
+      dropped .ensures .0,
+      λ k l size m.
+          here-does (byRoom (keyOf k .quoted) (keyOf k .char))
+          (second-does _ _ (no-room waiting typeAheadSize (l .keys) full)
+          (dropped-key (self .flow) (dropped .result) k l (omega arith) (dropped .ensures .1 (keyOf k .char) l m))),
+    )
 
 pub stores-spec : {M : Type 1} → statement M
 stores-spec =

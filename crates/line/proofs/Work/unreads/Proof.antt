@@ -1,3 +1,5 @@
+use Rattle.line.specs.With.{onFlow, lent}
+use Rattle.line.specs.Bounded.{CountedReading}
 use mathlib.Core.Path.{refl, sym, ap, _∙_}
 use mathlib.Core.Bool.{_||_}
 use mathlib.Core.List.{[], _∷_}
@@ -18,11 +20,16 @@ use Rattle.line.proofs.Work.unreads.Tie as tie
 returns : tie.Need-returns
 unfolding unreads unreadsWhile
 returns c =
-    let start = c .before .before .before .before in
-    let l = start .args .self .line in
-    let message = plain unread (start .args .condition ∷ []) in
-    λ t. here-part (ap (λ p. unreadsWhile codes (pendingOf p (l .reading)) message (view l)) (not-true (l .pending) (c .if1 .taken)))
-    (still-does (start .args .self) t _ (start .pre))
+    let start = c .before .before .before .before .before in
+    let a = start .args in
+    let f = a .self .flow in
+    let message = plain unread (a .condition ∷ []) in (
+      start .pre .0,
+      λ l x.
+          let line = onFlow f (lent (a .t) (a .text .now) l) in
+          here-part (ap (λ p. unreadsWhile codes (pendingOf p (readingOf line (f .reading))) message (view line)) (not-true (f .pending) (c .if1 .taken)))
+          (still-does _ x _),
+    )
 
 completes-requires : tie.Need-completes-requires
 completes-requires c κs = search needs
@@ -33,28 +40,39 @@ same-length c = search needs
 returns-2 : tie.Need-returns-2
 unfolding unreads unreadsWhile
 returns-2 c =
-    let b = c .before .before in
-    let branch = b .before .before in
-    let first = branch .before .before .before .before .before .before in
-    let start = first .before .before .before .before in
-    let l = start .args .self .line in
-    let message = plain unread (start .args .condition ∷ []) in
-    let now = ap (λ p. unreadsWhile codes (pendingOf p (l .reading)) message (view l)) (not-false (l .pending) (first .if1 .left)) in
-    let test = ap (λ n. eqb (start .args .condition) 0 || n) (nothing-typed l (start .pre)) in
-    λ t. here-part {f = unreadsWhile codes (some (readingOf (l .reading))) message} now
-    (here-only _ refl (sym test ∙ branch .if2 .taken) (b .completes .ensures t))
+    let start = c .before .before .before .before .before .before .before .before .before .before .before .before .before .before .before in
+    let a = start .args in
+    let f = a .self .flow in
+    let text = a .text .now in
+    let message = plain unread (a .condition ∷ []) in
+    let full : CountedReading (f .reading) text = record { within = start .pre .0 .within; full = start .pre .1 } in
+    let done = c .before .before .completes .ensures in (
+      done .0,
+      λ l x.
+          let line = onFlow f (lent (a .t) text l) in
+          let now = ap (λ p. unreadsWhile codes (pendingOf p (readingOf line (f .reading))) message (view line)) (not-false (f .pending) (c .before .before .before .before .before .before .before .before .before .before .if1 .left)) in
+          let test = ap (λ n. eqb (a .condition) 0 || n) (nothing-typed (l .keys) text f (start .pre .0) full) in
+          here-part {f = unreadsWhile codes (some (readingOf line (f .reading))) message} now
+          (here-only _ refl (sym test ∙ c .before .before .before .before .if2 .taken) (done .1 .0 (lent (a .t) text l) l x)),
+    )
 
 returns-3 : tie.Need-returns-3
 unfolding unreads unreadsWhile
 returns-3 c =
-    let first = c .before .before .before .before .before .before in
-    let start = first .before .before .before .before in
-    let l = start .args .self .line in
-    let message = plain unread (start .args .condition ∷ []) in
-    let now = ap (λ p. unreadsWhile codes (pendingOf p (l .reading)) message (view l)) (not-false (l .pending) (first .if1 .left)) in
-    let test = ap (λ n. eqb (start .args .condition) 0 || n) (nothing-typed l (start .pre)) in
-    λ t. here-part {f = unreadsWhile codes (some (readingOf (l .reading))) message} now
-    (here-not (completes codes byUnread 0 (readingOf (l .reading))) t _ refl (sym test ∙ c .if2 .left) (start .pre))
+    let start = c .before .before .before .before .before .before .before .before .before .before .before in
+    let a = start .args in
+    let f = a .self .flow in
+    let text = a .text .now in
+    let message = plain unread (a .condition ∷ []) in
+    let full : CountedReading (f .reading) text = record { within = start .pre .0 .within; full = start .pre .1 } in (
+      start .pre .0,
+      λ l x.
+          let line = onFlow f (lent (a .t) text l) in
+          let now = ap (λ p. unreadsWhile codes (pendingOf p (readingOf line (f .reading))) message (view line)) (not-false (f .pending) (c .before .before .before .before .before .before .if1 .left)) in
+          let test = ap (λ n. eqb (a .condition) 0 || n) (nothing-typed (l .keys) text f (start .pre .0) full) in
+          here-part {f = unreadsWhile codes (some (readingOf line (f .reading))) message} now
+          (here-not (completes codes byUnread 0 (readingOf line (f .reading))) x _ refl (sym test ∙ c .if2 .left)),
+    )
 
 pub unreads-spec : {M : Type 1} → statement M
 unreads-spec = tie.close (tie.spec returns completes-requires same-length returns-2 returns-3)

@@ -6,7 +6,7 @@ use Rattle.line.proofs.Work.writes_kept.Statement.{statement}
 use Rattle.line.proofs.Work.writes_kept.Tie as tie
 
 returns : tie.Need-returns
-returns c = λ m. here-not _ _ m refl (ap not (c .if1 .taken)) (c .before .before .before .before .before .pre)
+returns c = (c .before .before .before .before .before .pre, λ l m. here-not _ _ m refl (ap not (c .if1 .taken)))
 
 write-requires : tie.Need-write-requires
 write-requires c κs = search needs
@@ -15,7 +15,9 @@ same-length : tie.Need-same-length
 same-length c = search needs
 
 returns-2 : tie.Need-returns-2
-returns-2 c = λ m. here-only _ refl (ap not (c .before .before .before .before .if1 .left)) (c .before .before .write .ensures m)
+returns-2 c =
+    let written = c .before .before .write .ensures in
+    (written .0, λ l m. here-only _ refl (ap not (c .before .before .before .before .if1 .left)) (written .1 l m))
 
 pub writes-kept-spec : {M : Type 1} → statement M
 writes-kept-spec = tie.close (tie.spec returns write-requires same-length returns-2)

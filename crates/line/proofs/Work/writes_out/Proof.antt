@@ -17,10 +17,10 @@ keeps-output-requires : tie.Need-keeps-output-requires
 keeps-output-requires c κs = search needs
 
 writes-kept-requires : tie.Need-writes-kept-requires
-writes-kept-requires c κs = c .before .keeps-output .ensures [] [] .counted
+writes-kept-requires c κs = c .before .keeps-output .ensures .0
 
 says-completion-requires : tie.Need-says-completion-requires
-says-completion-requires c κs = c .before .before .before .writes-kept .ensures [] .counted
+says-completion-requires c κs = c .before .before .before .writes-kept .ensures .0
 
 same-length : tie.Need-same-length
 same-length c = search needs
@@ -30,14 +30,15 @@ same-length-2 c = search needs
 
 returns : tie.Need-returns
 returns c =
-    let said = c .before .before in
-    let written = said .before .before .before .before in
-    let kept = written .before .before in
-    let text = kept .before .bytes-of .ensures in
-    let start = kept .before .before .before .before .before .before .before .before in
-    writes-out-does (writeIn (start .args .s .now) (start .args .f)) (kept .keeps-output .ensures _ _)
-    (for-equal (λ bs s. only (not (s .terminal .discarding)) (writes bs) s) text (written .writes-kept .ensures _))
-    (said .says-completion .ensures _ _ (some-text _ ∙ ap (λ bs. not (isEmpty bs)) text) refl _)
+    let text = c .before .before .before .before .before .before .before .before .before .bytes-of .ensures in
+    let start = c .before .before .before .before .before .before .before .before .before .before .before .before .before .before .before .before in
+    let said = c .before .before .says-completion .ensures in (
+      said .0,
+      λ l.
+          writes-out-does (writeIn (start .args .s .now) (start .args .f)) (c .before .before .before .before .before .before .before .before .keeps-output .ensures .1 l _ _)
+          (for-equal (λ bs s. only (not (s .terminal .discarding)) (writes bs) s) text (c .before .before .before .before .before .before .writes-kept .ensures .1 l _))
+          (said .1 _ _ (some-text _ ∙ ap (λ bs. not (isEmpty bs)) text) refl l _),
+    )
 
 pub writes-out-spec : {M : Type 1} → statement M
 writes-out-spec =

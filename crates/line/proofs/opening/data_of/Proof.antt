@@ -1,7 +1,16 @@
+use mathlib.Core.Path.{ap, _∙_}
+use Prim.Native.Nat.{_+_, _-_, _≤_}
+use native.Mathlib.Omega.{arith}
+use lib.ListN.{length, drop}
+use Rattle.message.proofs.Pieces.{all-behind}
+use Rattle.line.specs.Starts.{dataIn}
+use Rattle.line.proofs.Opened.{prompt-within}
 use borrow.Author.Needs.{needs}
-use Rattle.line.proofs.Opened.{prompt-within, data-piece}
 use Rattle.line.proofs.opening.data_of.Statement.{statement}
 use Rattle.line.proofs.opening.data_of.Tie as tie
+use Rattle.line.proofs.opening.data_of.Reads as reads
+use Rattle.line.proofs.opening.data_of.Lts as lts
+use Rattle.message.proofs.bytes_of.Reads as bytes-of-reads
 
 bytes-of-requires : tie.Need-bytes-of-requires
 bytes-of-requires c κs = search needs
@@ -19,7 +28,14 @@ part-result-end : tie.Need-part-result-end
 part-result-end c = search needs
 
 returns : tie.Need-returns
-returns c = data-piece (c .before .before .before .before .before .pre) (c .before .before .bytes-of .ensures)
+unfolding dataIn
+returns c =
+    let start = c .before .before .before .before .before in
+    let text = c .before .before .bytes-of .result .now in
+    let from = start .args .f .«end_of_prompt» in
+    let short = prompt-within (start .pre) (c .before .before .bytes-of .ensures) in
+    let all : length text ≤ from + (length text - from) = omega arith in
+    all-behind text from (length text - from) all ∙ ap (drop from) (c .before .before .bytes-of .ensures)
 
 pub data-of-spec : {M : Type 1} → statement M
 data-of-spec =

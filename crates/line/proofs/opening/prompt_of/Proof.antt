@@ -1,7 +1,16 @@
+use mathlib.Core.Path.{ap₂, _∙_}
+use lib.ListN.{take, drop}
+use Rattle.rules.specs.Choice.{bit}
+use Rattle.line.specs.Starts.{promptIn}
+use Rattle.line.proofs.Opened.{prompt-within}
 use borrow.Author.Needs.{needs}
-use Rattle.line.proofs.Opened.{prompt-within, prompt-piece}
 use Rattle.line.proofs.opening.prompt_of.Statement.{statement}
 use Rattle.line.proofs.opening.prompt_of.Tie as tie
+use Rattle.line.proofs.opening.prompt_of.Reads as reads
+use Rattle.line.proofs.opening.prompt_of.Lts as lts
+use Rattle.line.proofs.opening.front_of.Reads as front-of-reads
+use Rattle.line.proofs.opening.hides_lf.Reads as hides-lf-reads
+use Rattle.message.proofs.bytes_of.Reads as bytes-of-reads
 
 hides-lf-requires : tie.Need-hides-lf-requires
 hides-lf-requires c κs = search needs
@@ -16,10 +25,12 @@ front-of-requires : tie.Need-front-of-requires
 front-of-requires c κs = prompt-within (c .before .before .before .before .before .pre) (c .before .bytes-of .ensures)
 
 returns : tie.Need-returns
+unfolding promptIn
 returns c =
-    let start = c .before .before .before .before .before .before in
-    prompt-piece (start .pre) (c .before .before .bytes-of .ensures) (c .before .before .before .before .hides-lf .ensures) (c .front-of .ensures)
+    let end = c .before .before .before .before .before .before .args .f .«end_of_prompt» in
+    c .front-of .ensures ∙ ap₂ (λ hidden text. drop (bit hidden) (take end text)) (c .before .before .before .before .hides-lf .ensures) (c .before .before .bytes-of .ensures)
 
 pub prompt-of-spec : {M : Type 1} → statement M
 prompt-of-spec =
-    tie.close (tie.spec hides-lf-requires bytes-of-requires cast-front-of front-of-requires returns)
+    tie.close
+    (tie.spec hides-lf-requires bytes-of-requires cast-front-of front-of-requires returns)

@@ -1,0 +1,84 @@
+use mathlib.Core.Path.{sym, ap, _∙_}
+use Rattle.line.specs.declared.acts.Act.the-variants.{Obeys}
+use Rattle.line.proofs.Evented.{key-host, tick-host, step-host, event-same}
+use Rattle.line.specs.Events.{eventPart}
+use Rattle.line.specs.With.{onFlow, lent}
+use Rattle.line.proofs.Meeting.{met, event-meets}
+use borrow.Author.Needs.{needs}
+use Rattle.line.proofs.Flow.act_of.Statement.{statement}
+use Rattle.line.proofs.Flow.act_of.Tie as tie
+use Rattle.line.proofs.Flow.act_of.Reads as reads
+use Rattle.line.proofs.Flow.act_of.Lts as lts
+use Rattle.line.proofs.Flow.act_of_key.Reads as act-of-key-reads
+use Rattle.line.proofs.Flow.act_of_step.Reads as act-of-step-reads
+use Rattle.line.proofs.Flow.act_of_tick.Reads as act-of-tick-reads
+
+enum-known-e : tie.Need-enum-known-e
+enum-known-e c = search needs
+
+act-of-key-requires : tie.Need-act-of-key-requires
+act-of-key-requires c κs = search needs
+
+enum-told : tie.Need-enum-told
+enum-told c = search needs
+
+act-of-tick-requires : tie.Need-act-of-tick-requires
+act-of-tick-requires c κs = search needs
+
+enum-told-2 : tie.Need-enum-told-2
+enum-told-2 c = search needs
+
+act-of-step-requires : tie.Need-act-of-step-requires
+act-of-step-requires c κs = search needs
+
+enum-known-e-2 : tie.Need-enum-known-e-2
+enum-known-e-2 c = search needs
+
+returns : tie.Need-returns
+unfolding eventPart
+returns c =
+    let a = c .before .before .before .before .args in (
+      λ s l h. event-meets s (onFlow (a .self) (lent (a .t) (l .text) l)) (a .seen) (c .before .before .e .given .1) h (λ k. c .act-of-key .ensures s l (k .0) (k .1)),
+      λ m e. absurd (key-host (sym (c .before .before .e .given .1) ∙ e)),
+    )
+
+returns-2 : tie.Need-returns-2
+unfolding eventPart
+returns-2 c =
+    let a = c .before .before .before .args in (
+      λ s l h. event-meets s (onFlow (a .self) (lent (a .t) (l .text) l)) (a .seen) (c .before .enum-told .given .1) h (λ k. c .act-of-tick .ensures s l),
+      λ m e. absurd (tick-host (sym (c .before .enum-told .given .1) ∙ e)),
+    )
+
+returns-3 : tie.Need-returns-3
+unfolding eventPart
+returns-3 c =
+    let a = c .before .before .before .args in (
+      λ s l h. event-meets s (onFlow (a .self) (lent (a .t) (l .text) l)) (a .seen) (c .before .enum-told2 .given .1) h
+          (λ k. c .act-of-step .ensures s l (k .bounded) (k .first) (k .ends)),
+      λ m e. absurd (step-host (sym (c .before .enum-told2 .given .1) ∙ e)),
+    )
+
+returns-4 : tie.Need-returns-4
+unfolding eventPart
+returns-4 c =
+    let a = c .before .before .before .args in (
+      λ s l h. event-meets s (onFlow (a .self) (lent (a .t) (l .text) l)) (a .seen) (c .before .e2 .given .1) h (λ k. met k),
+      λ m e. ap Obeys (event-same (sym (c .before .e2 .given .1) ∙ e)),
+    )
+
+pub act-of-spec : {M : Type 1} → statement M
+act-of-spec =
+    tie.close
+    (tie.spec
+    enum-known-e
+    act-of-key-requires
+    enum-told
+    act-of-tick-requires
+    enum-told-2
+    act-of-step-requires
+    enum-known-e-2
+    returns
+    returns-2
+    returns-3
+    returns-4)

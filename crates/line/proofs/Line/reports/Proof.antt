@@ -1,0 +1,49 @@
+use mathlib.Core.Path.{ap, ap₂, _∙_}
+use Rattle.characteristics.specs.View as host
+use Rattle.characteristics.specs.Lists.{reportBytes}
+use Rattle.writing.proofs.Putting.{equals}
+use Rattle.line.proofs.Accepts.{reported-as, nothing-reported}
+use borrow.Author.Needs.{needs}
+use Rattle.line.proofs.Line.reports.Statement.{statement}
+use Rattle.line.proofs.Line.reports.Tie as tie
+use Rattle.line.proofs.Line.reports.Reads as reads
+use Rattle.line.proofs.Line.reports.Lts as lts
+use Rattle.characteristics.proofs.Host.put_report.Reads as put-report-reads
+use Rattle.line.proofs.Line.characteristics.Reads as characteristics-reads
+use Rattle.message.proofs.bytes_of.Reads as bytes-of-reads
+
+enum-known-m : tie.Need-enum-known-m
+enum-known-m c = search needs
+
+characteristics-requires : tie.Need-characteristics-requires
+characteristics-requires c κs = search needs
+
+bytes-of-requires : tie.Need-bytes-of-requires
+bytes-of-requires c κs = search needs
+
+put-report-requires : tie.Need-put-report-requires
+put-report-requires c κs = search needs
+
+same-length : tie.Need-same-length
+same-length c = search needs
+
+returns : tie.Need-returns
+returns c =
+    let a = c .before .before .before .before .before .before .before .before .before .before .before .args in
+    let bytes = ap₂ (λ h bs. reportBytes (host.hostOf h) bs) (c .before .before .before .before .before .characteristics .ensures) (c .before .before .before .before .bytes-of .ensures) in
+    reported-as (a .s .now) (a .self) (a .messages .now) _ _ (c .before .before .before .before .before .before .before .m .given .1) (equals bytes (c .before .before .put-report .ensures))
+
+returns-2 : tie.Need-returns-2
+returns-2 c = let a = c .before .before .before .args in nothing-reported (a .s .now) (a .self) (a .m) (a .messages .now) (c .match .keys2)
+
+pub reports-spec : {M : Type 1} → statement M
+reports-spec =
+    tie.close
+    (tie.spec
+    enum-known-m
+    characteristics-requires
+    bytes-of-requires
+    put-report-requires
+    same-length
+    returns
+    returns-2)

@@ -1,0 +1,52 @@
+use mathlib.Core.Path.{ap, _∙_}
+use Rattle.rules.specs.Characteristics.{withParameters}
+use Rattle.message.specs.Lists.{parametersFrom}
+use Rattle.characteristics.specs.View as host
+use Rattle.line.specs.View.{hostOf}
+use borrow.Author.Needs.{needs}
+use Rattle.line.proofs.Line.with_characteristics.Statement.{statement}
+use Rattle.line.proofs.Line.with_characteristics.Tie as tie
+use Rattle.line.proofs.Line.with_characteristics.Reads as reads
+use Rattle.line.proofs.Line.with_characteristics.Lts as lts
+use Rattle.characteristics.proofs.Host.with_settings.Reads as with-settings-reads
+use Rattle.line.proofs.Line.characteristics.Reads as characteristics-reads
+use Rattle.line.proofs.Line.with_host.Reads as with-host-reads
+use Rattle.message.proofs.bytes_of.Reads as bytes-of-reads
+
+characteristics-requires : tie.Need-characteristics-requires
+characteristics-requires c κs = search needs
+
+bytes-of-requires : tie.Need-bytes-of-requires
+bytes-of-requires c κs = search needs
+
+with-settings-requires : tie.Need-with-settings-requires
+with-settings-requires c κs =
+    let counted = c .before .before .before .pre in
+    rw (c .before .characteristics .ensures) (record { table = counted .table; set = counted .lastSet })
+
+with-host-requires : tie.Need-with-host-requires
+with-host-requires c κs = search needs
+
+returns : tie.Need-returns
+returns c =
+    let a = c .before .before .before .before .before .args in
+    let set = c .before .with-settings in
+    record {
+      host = set .result;
+      same = c .with-host .ensures;
+      settings =
+          set .ensures .0
+          ∙ ap (λ h. withParameters (parametersFrom 11 0 (c .before .before .bytes-of .result .now)) (host.hostOf h)) (c .before .before .before .characteristics .ensures)
+          ∙ ap (λ bs. withParameters (parametersFrom 11 0 bs) (hostOf (a .self))) (c .before .before .bytes-of .ensures);
+      counted = set .ensures .1;
+    }
+
+pub with-characteristics-spec : {M : Type 1} → statement M
+with-characteristics-spec =
+    tie.close
+    (tie.spec
+    characteristics-requires
+    bytes-of-requires
+    with-settings-requires
+    with-host-requires
+    returns)

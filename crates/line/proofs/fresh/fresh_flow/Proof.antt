@@ -1,0 +1,25 @@
+use mathlib.Core.Path.{refl, sym}
+use native.Mathlib.Omega.{arith}
+use Rattle.rules.specs.State.{freshTerminal}
+use Rattle.line.proofs.Sizes.{token-size}
+use Rattle.line.proofs.fresh.fresh_flow.Statement.{statement}
+use Rattle.line.proofs.fresh.fresh_flow.Tie as tie
+use Rattle.line.proofs.fresh.fresh_flow.Reads as reads
+use Rattle.line.proofs.fresh.fresh_flow.Lts as lts
+
+returns : tie.Need-returns
+unfolding freshTerminal
+returns c =
+    record {
+      terminal = refl;
+      waiting = refl;
+      token = refl;
+      pending = refl;
+      counted = record {
+        typed = record { waiting = omega arith; token = sym token-size; begun = omega arith };
+        within = omega arith;
+      };
+    }
+
+pub fresh-flow-spec : {M : Type 1} → statement M
+fresh-flow-spec = tie.close (tie.spec returns)
