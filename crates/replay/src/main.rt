@@ -1,6 +1,10 @@
 // Reads a script of calls from standard input and prints what each answered.
+ghost use Prim.Native.Nat.{_≤_};
+ghost use mathlib.Core.Path.{_≡_};
+ghost use mathlib.Core.Bool.{true};
+ghost use Rattle.rules.specs.Messages.Codec.{allBytes};
 ghost use Rattle.replay.specs.Areas.{Areas};
-ghost use Rattle.line.specs.Bounded.{Bounded};
+ghost use Rattle.replay.specs.Played.{Played, IsCount};
 use crate::answers::Told;
 use crate::output::front;
 use crate::run::Run;
@@ -21,41 +25,62 @@ const KEPT: usize = rules::MESSAGE + 1;
 // The longest area.
 const AREA: usize = 65_535;
 
+// A length that a line of the script can ask for.
+fn size(length: u16) -> usize
+    ensures { λ r. ⌜ r ≤ 65535 ⌝ }
+{
+    length as usize
+}
+
+// A host message's bytes.
+fn message(kept: &[u8], count: usize) -> &[u8]
+    ensures { λ r. ⌜ allBytes (now r) ≡ true ⌝ }
+{
+    front(kept, count)
+}
+
+// Keys dropped so far.
+fn dropped(line: Line) -> u16
+    ensures { λ r. ⌜ IsCount line r ⌝ }
+{
+    line.dropped()
+}
+
 // From a fresh line to the line at the script's end. It stays a local of the loop: to hand it on is to copy it.
 fn replay(input: &mut [u8], terminal: &mut [u8], messages: &mut [u8], buffer: &mut [u8]) -> Line
     requires { ⌜ Areas (now terminal) (now messages) ⌝ }
-    ensures { λ r. ⌜ Bounded r ⌝ }
+    ensures { λ r. ⌜ Played r ⌝ }
 {
     let mut kept = [0u8; KEPT];
     let mut line = Line::fresh();
     let mut run = Run::begun();
     while 0 < run.turns {
         run = run.next(input, &mut kept, terminal, messages, buffer);
-        let t = run.terminal as usize;
-        let m = run.messages as usize;
+        let t = &mut terminal[0..size(run.terminal)];
+        let m = &mut messages[0..size(run.messages)];
         match run.call() {
             Call::Key(code) => {
-                let a = line.key(code, &mut terminal[0..t], &mut messages[0..m]);
+                let a = line.key(code, t, m);
                 line = a.line;
                 run = run.telling(Told::Answer(a.number, a.terminal, a.messages));
             }
             Call::Step => {
-                let a = line.step(&mut terminal[0..t], &mut messages[0..m]);
+                let a = line.step(t, m);
                 line = a.line;
                 run = run.telling(Told::Answer(a.number, a.terminal, a.messages));
             }
             Call::Tick => {
-                let a = line.tick(&mut terminal[0..t], &mut messages[0..m]);
+                let a = line.tick(t, m);
                 line = a.line;
                 run = run.telling(Told::Answer(a.number, a.terminal, a.messages));
             }
             Call::Host(n) => {
-                let a = line.host(front(&kept, n), &mut terminal[0..t], &mut messages[0..m]);
+                let a = line.host(message(&kept, n), t, m);
                 line = a.line;
                 run = run.telling(Told::Answer(a.number, a.terminal, a.messages));
             }
             Call::Fresh => line = Line::fresh(),
-            Call::Dropped => run = run.telling(Told::Count(line.dropped())),
+            Call::Dropped => run = run.telling(Told::Count(dropped(line))),
             Call::Nothing => {}
         }
     }

@@ -4,18 +4,18 @@ ghost use Prim.Native.Nat.{_≤_, _<_};
 use crate::answers::Told;
 use crate::output::flush;
 use crate::script::Script;
-use crate::script::Taken;
 use crate::text::Call;
 use crate::text::Order;
+use crate::text::Text;
 
 // The lengths of a fresh line's areas.
-const FIRST_TERMINAL: u16 = rules::TERMINAL_AREA as u16;
+const TERMINAL: u16 = rules::TERMINAL_AREA as u16;
 
-const FIRST_MESSAGES: u16 = rules::MESSAGE_AREA as u16;
+const MESSAGES: u16 = rules::MESSAGE_AREA as u16;
 
 pub struct Run {
     script: Script,
-    // what the script has come to
+    // what is asked of the line, and what is still to be printed
     call: Call,
     told: Told,
     // the lengths at which the line is lent its areas
@@ -29,13 +29,19 @@ pub struct Run {
 
 impl Run {
     pub(crate) fn begun() -> Run {
-        let script = Script::begun();
+        let script = Script {
+            text: Text::Nothing,
+            from: 0,
+            to: 0,
+            ended: false,
+            order: Order::More,
+        };
         Run {
             script,
             call: Call::Nothing,
             told: Told::Nothing,
-            terminal: FIRST_TERMINAL,
-            messages: FIRST_MESSAGES,
+            terminal: TERMINAL,
+            messages: MESSAGES,
             at: 0,
             turns: u64::MAX,
         }
@@ -66,14 +72,6 @@ impl Run {
         self.with(Call::Nothing, told)
     }
 
-    fn with_lengths(mut self, terminal: u16, messages: u16) -> Run
-        ensures { λ r. ⌜ r .turns ≡ self .turns ⌝ }
-    {
-        self.terminal = terminal;
-        self.messages = messages;
-        self
-    }
-
     // Once the piece is used up, what waits is written and the next piece is read.
     fn filled(mut self, input: &mut [u8], buffer: &[u8]) -> Run
         ensures { λ r. ⌜ r .turns ≤ self .turns ⌝ }
@@ -93,19 +91,24 @@ impl Run {
         self
     }
 
-    // With what a line of the script says.
-    fn ordered(mut self, taken: Taken) -> Run
+    // With what the script says next.
+    fn ordered(mut self, script: Script) -> Run
         ensures { λ r. ⌜ r .turns ≡ self .turns ⌝ }
     {
-        let script = taken.script;
         self.script = script;
-        let order = taken.order;
+        let order = script.order;
         match order {
             Order::Call(call) => self.with(call, Told::Nothing),
-            Order::Fresh => self.with_lengths(FIRST_TERMINAL, FIRST_MESSAGES)
-                .with(Call::Fresh, Told::Nothing),
-            Order::Lengths(terminal, messages) => self.with_lengths(terminal, messages)
-                .telling(Told::Nothing),
+            Order::Fresh => {
+                self.terminal = TERMINAL;
+                self.messages = MESSAGES;
+                self.with(Call::Fresh, Told::Nothing)
+            }
+            Order::Lengths(terminal, messages) => {
+                self.terminal = terminal;
+                self.messages = messages;
+                self.telling(Told::Nothing)
+            }
             Order::Read(count) => self.telling(Told::Copy(count)),
             Order::Unknown => self.telling(Told::Unknown),
             Order::More => self.telling(Told::Nothing),
@@ -129,6 +132,6 @@ impl Run {
         self.at = told.put(self.at, kept, terminal, messages, buffer);
         let r = self.filled(input, buffer);
         let script = r.script;
-        r.ordered(script.takes(input, kept))
+        r.ordered(script.next(input, kept))
     }
 }

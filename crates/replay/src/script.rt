@@ -7,18 +7,14 @@ use libc::STDERR_FILENO;
 use libc::STDIN_FILENO;
 
 pub struct Script {
-    // the line of it that has begun
-    text: Text,
+    // the line that has begun
+    pub text: Text,
     // the next byte of the piece, and the piece's length
     pub from: usize,
     pub to: usize,
     // no piece follows
     pub ended: bool,
-}
-
-// A line of the script, taken.
-pub struct Taken {
-    pub script: Script,
+    // what the line before says
     pub order: Order,
 }
 
@@ -33,15 +29,6 @@ fn count(got: isize, input: &[u8]) -> usize
 }
 
 impl Script {
-    pub(crate) fn begun() -> Script {
-        Script {
-            text: Text::Nothing,
-            from: 0,
-            to: 0,
-            ended: false,
-        }
-    }
-
     // The next piece.
     pub(crate) fn read(self, input: &mut [u8]) -> Script {
         let text = self.text;
@@ -51,44 +38,23 @@ impl Script {
             from: 0,
             to,
             ended: to == 0,
+            order: Order::More,
         }
     }
 
-    // Behind a line.
-    fn behind(self, from: usize) -> Script {
+    // Behind a line that says this.
+    fn behind(self, from: usize, order: Order) -> Script {
         Script {
             text: Text::Nothing,
             from,
             to: self.to,
             ended: self.ended,
+            order,
         }
     }
 
-    fn with_text(self, text: Text) -> Script {
-        Script {
-            text,
-            from: self.to,
-            to: self.to,
-            ended: self.ended,
-        }
-    }
-
-    // The rest of the piece has no newline. The last line may lack it.
-    fn takes_rest(self, text: Text, kept: &[u8]) -> Taken {
-        if self.ended & text.is_begun() {
-            return Taken {
-                script: self.behind(self.to),
-                order: text.order(kept),
-            };
-        }
-        Taken {
-            script: self.with_text(text),
-            order: Order::More,
-        }
-    }
-
-    // The next line, if the piece has its end.
-    pub(crate) fn takes(self, input: &[u8], kept: &mut [u8]) -> Taken {
+    // One line on, or to the end of the piece. The last line may lack its newline.
+    pub(crate) fn next(self, input: &[u8], kept: &mut [u8]) -> Script {
         let piece = front(input, self.to);
         let mut text = self.text;
         let mut i = self.from;
@@ -96,13 +62,19 @@ impl Script {
             let byte = piece[i];
             i += 1;
             if byte == b'\n' {
-                return Taken {
-                    script: self.behind(i),
-                    order: text.order(kept),
-                };
+                return self.behind(i, text.order(kept));
             }
             text = text.with(byte, kept);
         }
-        self.takes_rest(text, kept)
+        if self.ended & text.is_begun() {
+            return self.behind(i, text.order(kept));
+        }
+        Script {
+            text,
+            from: i,
+            to: self.to,
+            ended: self.ended,
+            order: Order::More,
+        }
     }
 }

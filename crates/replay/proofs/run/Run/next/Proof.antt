@@ -12,8 +12,8 @@ put-requires c κs = search needs
 filled-requires : tie.Need-filled-requires
 filled-requires c κs = search needs
 
-takes-requires : tie.Need-takes-requires
-takes-requires c κs = search needs
+next-requires : tie.Need-next-requires
+next-requires c κs = search needs
 
 ordered-requires : tie.Need-ordered-requires
 ordered-requires c κs = search needs
@@ -39,7 +39,7 @@ next-spec =
     sub-self
     put-requires
     filled-requires
-    takes-requires
+    next-requires
     ordered-requires
     same-length
     same-length-2

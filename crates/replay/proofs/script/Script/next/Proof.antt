@@ -2,8 +2,8 @@ use Prim.Native.Nat.{_-_}
 use mathlib.Core.Path.{_≡_}
 use lib.ListN.{length}
 use borrow.Author.Needs.{needs}
-use Rattle.replay.proofs.script.Script.takes.Statement.{statement}
-use Rattle.replay.proofs.script.Script.takes.Tie as tie
+use Rattle.replay.proofs.script.Script.next.Statement.{statement}
+use Rattle.replay.proofs.script.Script.next.Tie as tie
 
 abbrev Inv-loop : tie.InvT-loop
 Inv-loop self input kept₀ piece text₀ i₀ kept text i = length kept ≡ length kept₀
@@ -23,11 +23,11 @@ shared-slice-read-byte c = search needs
 add-i : tie.Need-add-i Inv-loop μ-loop
 add-i c = search needs
 
-behind-requires : tie.Need-behind-requires Inv-loop μ-loop
-behind-requires c κs = search needs
-
 order-requires : tie.Need-order-requires Inv-loop μ-loop
 order-requires c κs = search needs
+
+behind-requires : tie.Need-behind-requires Inv-loop μ-loop
+behind-requires c κs = search needs
 
 same-length : tie.Need-same-length Inv-loop μ-loop
 same-length c = search needs
@@ -44,8 +44,14 @@ loop-less c = search needs
 loop-again : tie.Need-loop-again Inv-loop μ-loop
 loop-again c = search needs
 
-takes-rest-requires : tie.Need-takes-rest-requires Inv-loop μ-loop
-takes-rest-requires c κs = search needs
+is-begun-requires : tie.Need-is-begun-requires Inv-loop μ-loop
+is-begun-requires c κs = search needs
+
+order-requires-2 : tie.Need-order-requires-2 Inv-loop μ-loop
+order-requires-2 c κs = search needs
+
+behind-requires-2 : tie.Need-behind-requires-2 Inv-loop μ-loop
+behind-requires-2 c κs = search needs
 
 same-length-2 : tie.Need-same-length-2 Inv-loop μ-loop
 same-length-2 c = search needs
@@ -53,8 +59,14 @@ same-length-2 c = search needs
 returns-2 : tie.Need-returns-2 Inv-loop μ-loop
 returns-2 c = search needs
 
-pub takes-spec : {M : Type 1} → statement M
-takes-spec =
+same-length-3 : tie.Need-same-length-3 Inv-loop μ-loop
+same-length-3 c = search needs
+
+returns-3 : tie.Need-returns-3 Inv-loop μ-loop
+returns-3 c = search needs
+
+pub next-spec : {M : Type 1} → statement M
+next-spec =
     tie.close
     (tie.spec
     Inv-loop
@@ -63,13 +75,17 @@ takes-spec =
     loop-holds
     shared-slice-read-byte
     add-i
-    behind-requires
     order-requires
+    behind-requires
     same-length
     returns
     with-requires
     loop-less
     loop-again
-    takes-rest-requires
+    is-begun-requires
+    order-requires-2
+    behind-requires-2
     same-length-2
-    returns-2)
+    returns-2
+    same-length-3
+    returns-3)
