@@ -1,18 +1,22 @@
 // Reads a script of calls from standard input and prints what each answered.
+ghost use Prim.Native.Nat.{_≤_};
+ghost use mathlib.Core.Path.{_≡_};
+ghost use mathlib.Core.Bool.{true};
+ghost use Rattle.rules.specs.Messages.Codec.{allBytes};
 ghost use Rattle.replay.specs.Areas.{Areas};
-ghost use Rattle.io.specs.Counts.{Counts};
-ghost use Rattle.line.specs.Bounded.{Bounded};
-use crate::calls::Run;
-use crate::output::flush;
-use crate::text::Text;
-use libc::STDERR_FILENO;
-use libc::STDIN_FILENO;
+ghost use Rattle.replay.specs.Played.{Played, IsCount};
+use crate::answers::Told;
+use crate::output::front;
+use crate::run::Run;
+use crate::text::Call;
+use line::Line;
 
 mod answers;
-mod calls;
 mod hex;
 mod number;
 mod output;
+mod run;
+mod script;
 mod text;
 
 // Of a longer message one byte more than the longest is kept: it is refused all the same.
@@ -21,145 +25,72 @@ const KEPT: usize = rules::MESSAGE + 1;
 // The longest area.
 const AREA: usize = 65_535;
 
-// Between two reads of the script: the line of it that has begun, and the run so far.
-struct Script {
-    text: Text,
-    run: Run,
-    ended: bool,
+// A length that a line of the script can ask for.
+fn size(length: u16) -> usize
+    ensures { λ r. ⌜ r ≤ 65535 ⌝ }
+{
+    length as usize
 }
 
-// The bytes that one read gave. The answers to them are written before the next read.
-fn plays(
-    s: Script,
-    bytes: &[u8],
-    kept: &mut [u8],
-    terminal: &mut [u8],
-    messages: &mut [u8],
-    buffer: &mut [u8],
-) -> Script
-    requires { ⌜ Bounded (s .run .line) ⌝ }
-    requires { ⌜ Areas (now terminal) (now messages) ⌝ }
-    ensures { λ r. ⌜ Bounded (r .run .line) ⌝ }
+// A host message's bytes.
+fn message(kept: &[u8], count: usize) -> &[u8]
+    ensures { λ r. ⌜ allBytes (now r) ≡ true ⌝ }
 {
-    let mut text = s.text;
-    let mut run = s.run;
-    let mut i = 0;
-    while i < bytes.len() {
-        let byte = bytes[i];
-        i += 1;
-        if byte == b'\n' {
-            run = run.does(text.order(kept), kept, terminal, messages, buffer);
-            text = Text::Nothing;
-        } else {
-            text = text.with(byte, kept);
+    front(kept, count)
+}
+
+// Keys dropped so far.
+fn dropped(line: Line) -> u16
+    ensures { λ r. ⌜ IsCount line r ⌝ }
+{
+    line.dropped()
+}
+
+// From a fresh line to the line at the script's end. It stays a local of the loop: to hand it on is to copy it.
+fn replay(input: &mut [u8], terminal: &mut [u8], messages: &mut [u8], buffer: &mut [u8]) -> Line
+    requires { ⌜ Areas (now terminal) (now messages) ⌝ }
+    ensures { λ r. ⌜ Played r ⌝ }
+{
+    let mut kept = [0u8; KEPT];
+    let mut line = Line::fresh();
+    let mut run = Run::begun();
+    while 0 < run.turns {
+        run = run.next(input, &mut kept, terminal, messages, buffer);
+        let t = &mut terminal[0..size(run.terminal)];
+        let m = &mut messages[0..size(run.messages)];
+        match run.call() {
+            Call::Key(code) => {
+                let a = line.key(code, t, m);
+                line = a.line;
+                run = run.telling(Told::Answer(a.number, a.terminal, a.messages));
+            }
+            Call::Step => {
+                let a = line.step(t, m);
+                line = a.line;
+                run = run.telling(Told::Answer(a.number, a.terminal, a.messages));
+            }
+            Call::Tick => {
+                let a = line.tick(t, m);
+                line = a.line;
+                run = run.telling(Told::Answer(a.number, a.terminal, a.messages));
+            }
+            Call::Host(n) => {
+                let a = line.host(message(&kept, n), t, m);
+                line = a.line;
+                run = run.telling(Told::Answer(a.number, a.terminal, a.messages));
+            }
+            Call::Fresh => line = Line::fresh(),
+            Call::Dropped => run = run.telling(Told::Count(dropped(line))),
+            Call::Nothing => {}
         }
     }
-    let at = flush(run.at, buffer);
-    Script {
-        text,
-        run: run.with_place(at),
-        ended: 0 < at,
-    }
-}
-
-impl Script {
-    // At its end.
-    fn closed(mut self) -> Script
-        requires { ⌜ Bounded (self .run .line) ⌝ }
-        ensures { λ r. ⌜ Bounded (r .run .line) ⌝ }
-    {
-        self.ended = true;
-        self
-    }
-}
-
-// The end of the script: its last line may lack the newline.
-fn ends(
-    s: Script,
-    kept: &mut [u8],
-    terminal: &mut [u8],
-    messages: &mut [u8],
-    buffer: &mut [u8],
-) -> Script
-    requires { ⌜ Bounded (s .run .line) ⌝ }
-    requires { ⌜ Areas (now terminal) (now messages) ⌝ }
-    ensures { λ r. ⌜ Bounded (r .run .line) ⌝ }
-{
-    let text = s.text;
-    if text.is_begun() {
-        let last = plays(s, b"\n", kept, terminal, messages, buffer);
-        return last.closed();
-    }
-    s.closed()
-}
-
-// How many bytes a read gave.
-fn count(got: isize, input: &[u8]) -> usize
-    ensures { λ n. ⌜ Counts n (now (input .entry)) ⌝ }
-{
-    if got < 0 {
-        io::write_all(STDERR_FILENO, b"replay: the script cannot be read\n");
-    }
-    io::count(got, input)
-}
-
-// Reads once, and answers what came.
-fn turn(
-    s: Script,
-    input: &mut [u8],
-    kept: &mut [u8],
-    terminal: &mut [u8],
-    messages: &mut [u8],
-    buffer: &mut [u8],
-) -> Script
-    requires { ⌜ Bounded (s .run .line) ⌝ }
-    requires { ⌜ Areas (now terminal) (now messages) ⌝ }
-    ensures { λ r. ⌜ Bounded (r .run .line) ⌝ }
-{
-    let n = count(libc::read(STDIN_FILENO, input), input);
-    if n == 0 {
-        return ends(s, kept, terminal, messages, buffer);
-    }
-    plays(s, &input[..n], kept, terminal, messages, buffer)
-}
-
-// A proved loop has to end: it counts its turns down, from a number that no run uses up.
-fn replay(
-    input: &mut [u8],
-    kept: &mut [u8],
-    terminal: &mut [u8],
-    messages: &mut [u8],
-    buffer: &mut [u8],
-)
-    requires { ⌜ Areas (now terminal) (now messages) ⌝ }
-{
-    let run = Run::begun(0);
-    let mut s = Script {
-        text: Text::Nothing,
-        run,
-        ended: false,
-    };
-    let mut turns = u64::MAX;
-    while turns > 0 {
-        if s.ended {
-            return;
-        }
-        s = turn(s, input, kept, terminal, messages, buffer);
-        turns -= 1;
-    }
+    line
 }
 
 fn main() {
     let mut input = io::large_buffer();
-    let mut kept = [0u8; KEPT];
     let mut terminal = [0u8; AREA];
     let mut messages = [0u8; AREA];
     let mut buffer = io::large_buffer();
-    replay(
-        &mut input,
-        &mut kept,
-        &mut terminal,
-        &mut messages,
-        &mut buffer,
-    );
+    replay(&mut input, &mut terminal, &mut messages, &mut buffer);
 }

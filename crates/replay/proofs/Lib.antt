@@ -1,0 +1,2 @@
+-- Laws of what was played.
+mod Playing
