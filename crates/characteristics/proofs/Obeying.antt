@@ -12,6 +12,8 @@ use Rattle.rules.proofs.Tests.{pick-true, pick-false}
 use Rattle.message.specs.declared.Parameter.{Parameter}
 use Rattle.message.specs.Lists.{ParameterIs, parametersFrom, usedAt}
 use Rattle.message.proofs.Shapes.{parameters-end}
+use Rattle.characteristics.specs.declared.Host as declared
+use Rattle.characteristics.specs.View.{Kept}
 
 module _ {at : ℕ} {s : List ℕ} {p : Parameter} (is : ParameterIs 11 at s p) (h : Host) where
   abbrev here : List ℕ
@@ -44,3 +46,6 @@ module _ {at : ℕ} {s : List ℕ} {p : Parameter} (is : ParameterIs 11 at s p) 
 pub obeys-none : (at : ℕ) (s : List ℕ) (h : Host) → length s ≤ at → withParameters (parametersFrom 11 at s) h ≡ h
 unfolding withParameters
 obeys-none at s h l = ap (λ ps. withParameters ps h) (parameters-end 11 at s l)
+
+pub kept-then : {a b c : declared.Host} → Kept a b → Kept b c → Kept a c
+kept-then f g = record { begun = g .begun ∙ f .begun; set = g .set ∙ f .set; counted = λ k. g .counted (f .counted k) }

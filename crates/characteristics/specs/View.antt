@@ -1,5 +1,5 @@
--- What the host has set, as the rules have it; and what is asked of the struct: its arrays' lengths, which their types say, and
--- the set's count within its array.
+-- What the host has set, as the rules have it; and what a line keeps of the struct: its arrays' lengths, which their types say,
+-- and the set's count within its array.
 use Prim.Native.Nat.{ℕ, _≤_}
 use mathlib.Core.Path.{_≡_}
 use mathlib.Core.List.{List}
@@ -27,3 +27,9 @@ pub record CountedSet (s : Set) : Type 0 where
 pub record CountedHost (h : Host) : Type 0 where
   pub table : length (h .attributes) ≡ 256
   pub set : CountedSet (h .«last_set»)
+
+-- what settings leave as it is
+pub record Kept (h r : Host) : Type 0 where
+  pub begun : r .begun ≡ h .begun
+  pub set : r .«last_set» ≡ h .«last_set»
+  pub counted : CountedHost h → CountedHost r

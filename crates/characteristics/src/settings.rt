@@ -6,7 +6,7 @@ ghost use Rattle.rules.specs.Choice.{pick, all};
 ghost use Rattle.rules.specs.Messages.Parameters.{selector};
 ghost use Rattle.rules.specs.Characteristics.{isCarried, withSwitch, withParameter, withParameters, carriesSettings};
 ghost use Rattle.message.specs.Lists.{ParameterIs, parametersFrom, usedAt};
-ghost use Rattle.characteristics.specs.View.{switchesOf, hostOf, CountedHost};
+ghost use Rattle.characteristics.specs.View.{switchesOf, hostOf, Kept};
 ghost use Rattle.characteristics.specs.Lists.{settingsIn};
 use crate::Host;
 use crate::Switches;
@@ -76,9 +76,8 @@ impl Switches {
 impl Host {
     // One parameter of a Characteristics message, wherever it stood.
     fn with_setting(self, p: Parameter) -> Host
-        requires { ⌜ CountedHost self ⌝ }
         ensures same { λ r. ⌜ ((at : ℕ) (s : List ℕ) → ParameterIs 11 at s p → hostOf r ≡ withParameter (usedAt 11 at s) (hostOf self)) ⌝ }
-        ensures counted { λ r. ⌜ CountedHost r ⌝ }
+        ensures kept { λ r. ⌜ Kept self r ⌝ }
     {
         let mut next = self;
         if p.selector == selectors::CHARACTER_ATTRIBUTES {
@@ -95,8 +94,7 @@ impl Host {
 
     // All parameters of a Characteristics message, in order.
     pub fn with_settings(self, list: &[u8]) -> Host
-        requires { ⌜ CountedHost self ⌝ }
-        ensures { λ r. ⌜ (hostOf r ≡ withParameters (parametersFrom 11 0 (now (list .entry))) (hostOf self)) × CountedHost r ⌝ }
+        ensures { λ r. ⌜ (hostOf r ≡ withParameters (parametersFrom 11 0 (now (list .entry))) (hostOf self)) × Kept self r ⌝ }
     {
         let mut host = self;
         let mut at = 0;
@@ -110,7 +108,6 @@ impl Host {
 
     // All are of the five, and no character is left deferred-clear.
     pub fn carries_settings(self, list: &[u8]) -> bool
-        requires { ⌜ CountedHost self ⌝ }
         ensures { λ r. ⌜ r ≡ carriesSettings (hostOf self) (settingsIn (now (list .entry))) ⌝ }
     {
         if !all_carried(11, list) {

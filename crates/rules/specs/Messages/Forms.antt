@@ -1,5 +1,5 @@
 -- The fourteen messages: their fields, and how these stand in bytes (000, 4.16.2 to 4.16.15).
-use Prim.Native.Nat.{ℕ, _-_}
+use Prim.Native.Nat.{ℕ}
 use mathlib.Core.List.{List, [], _∷_}
 use lib.ListN.{getD, replicate}
 use Rattle.rules.specs.Messages.Layout.{Group, flags, byte, word}
@@ -70,8 +70,12 @@ forms =
     -- Input State: count change
     form (flags 1 (1 ∷ []) ∷ []) nothing ∷ []
 
+-- of a type that is not 1 to 14: nothing behind the type byte
+abbrev pub noForm : Form
+noForm = form [] nothing
+
 unfoldable pub formOf : ℕ → Form
-formOf kind = getD forms (kind - 1) (form [] nothing)
+formOf kind = getD (noForm ∷ forms) kind noForm
 
 -- the types by name
 abbrev pub initiate : ℕ

@@ -1,5 +1,6 @@
 use mathlib.Core.Path.{sym, ap, _∙_}
 use mathlib.Core.Bool.{not}
+use borrow.Author.Needs.{needs}
 use borrow.Author.Tests.{not-true, not-false}
 use Rattle.rules.specs.Choice.{any}
 use Rattle.rules.specs.Characteristics.{isDeferredClear, carriesSettings}
@@ -15,10 +16,10 @@ unfolding carriesSettings
 returns c = sym (pick-false _ _ (sym (c .before .all-carried .ensures) ∙ not-true _ (c .if1 .taken)))
 
 with-settings-requires : tie.Need-with-settings-requires
-with-settings-requires c κs = c .before .before .before .pre
+with-settings-requires c κs = tt
 
 slice-aggregate-any-deferred-clear : tie.Need-slice-aggregate-any-deferred-clear
-slice-aggregate-any-deferred-clear c = sym (c .before .before .with-settings .ensures .1 .table)
+slice-aggregate-any-deferred-clear c = search needs
 
 any-deferred-clear-requires : tie.Need-any-deferred-clear-requires
 any-deferred-clear-requires c κs = tt

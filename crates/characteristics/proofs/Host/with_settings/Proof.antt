@@ -4,26 +4,26 @@ use native.Mathlib.Omega.{arith}
 use lib.ListN.{length}
 use Rattle.rules.specs.Characteristics.{withParameters}
 use Rattle.message.specs.Lists.{parametersFrom}
-use Rattle.characteristics.specs.View.{hostOf, CountedHost}
-use Rattle.characteristics.proofs.Obeying.{obeys-first, obeys-none}
+use Rattle.characteristics.specs.View.{hostOf, Kept}
+use Rattle.characteristics.proofs.Obeying.{obeys-first, obeys-none, kept-then}
 use Rattle.characteristics.proofs.Host.with_settings.Statement.{statement}
 use Rattle.characteristics.proofs.Host.with_settings.Tie as tie
 
 abbrev Inv-loop : tie.InvT-loop
 Inv-loop list host₀ at₀ host at =
-    (withParameters (parametersFrom 11 at list) (hostOf host) ≡ withParameters (parametersFrom 11 0 list) (hostOf host₀)) × CountedHost host
+    (withParameters (parametersFrom 11 at list) (hostOf host) ≡ withParameters (parametersFrom 11 0 list) (hostOf host₀)) × Kept host₀ host
 
 abbrev μ-loop : tie.MeasureT-loop
 μ-loop list host₀ at₀ host at = length list - at
 
 loop-holds : tie.Need-loop-holds Inv-loop μ-loop
-loop-holds c = (refl, c .before .pre)
+loop-holds c = (refl, record { begun = refl; set = refl; counted = λ k. k })
 
 parameter-at-requires : tie.Need-parameter-at-requires Inv-loop μ-loop
 parameter-at-requires c κs = tt
 
 with-setting-requires : tie.Need-with-setting-requires Inv-loop μ-loop
-with-setting-requires c κs = c .before .before .loop .inv .1
+with-setting-requires c κs = tt
 
 loop-less : tie.Need-loop-less Inv-loop μ-loop
 loop-less c = let b = c .before in omega (arith, b .parameter-at .ensures .further (b .before .loop-test .taken))
@@ -32,7 +32,7 @@ loop-again : tie.Need-loop-again Inv-loop μ-loop
 loop-again c =
     let is = c .before .parameter-at .ensures in
     let a = c .before .before .before in
-    (obeys-first is (hostOf (a .loop .host)) (c .before .before .loop-test .taken) (c .with-setting .ensures .0 _ _ is) ∙ a .loop .inv .0, c .with-setting .ensures .1)
+    (obeys-first is (hostOf (a .loop .host)) (c .before .before .loop-test .taken) (c .with-setting .ensures .0 _ _ is) ∙ a .loop .inv .0, kept-then (a .loop .inv .1) (c .with-setting .ensures .1))
 
 returns : tie.Need-returns Inv-loop μ-loop
 returns c =
