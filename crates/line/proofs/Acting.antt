@@ -3,11 +3,14 @@ use mathlib.Core.Path.{_≡_, refl, sym, ap, _∙_, subst}
 use Prim.Native.Nat.{ℕ, _≤_}
 use mathlib.Core.List.{List, []}
 use lib.ListN.{length}
-use mathlib.Core.Bool.{true, false}
-use Rattle.rules.specs.Choice.{within}
+use mathlib.Core.Bool.{Bool, true, false}
+use Rattle.rules.specs.Choice.{pick, within, joined}
+use Rattle.rules.specs.Turns.{still}
+use Rattle.rules.specs.Area.{puts}
 use Rattle.rules.specs.Numbers.{inputSize, typeAheadSize}
 use Rattle.rules.specs.Messages.Codec.{soundLength}
-use Rattle.rules.specs.Calls.{considered}
+use Rattle.rules.specs.Calls as rules
+use Rattle.rules.specs.Calls.{considered, messageBytes}
 use Rattle.rules.proofs.Tests.{pick-false}
 use Rattle.rules.proofs.Outcomes.{refused-sound}
 use Rattle.line.specs.declared.Line.{Line}
@@ -19,16 +22,17 @@ use Rattle.line.specs.declared.acts.Act.the-variants.{TakesToken, Takes,
 use Rattle.line.specs.declared.events.HostMessage.{HostMessage}
 use Rattle.line.specs.declared.events.Event.{Event}
 use Rattle.line.specs.Events.{Admitted, eventPart, eventOf}
-use Rattle.line.specs.Rows.{areRoomy}
-use Rattle.line.specs.Answers.{Answers, doneAnswer}
+use Rattle.line.specs.Rows.{areRoomy, rowOf}
+use Rattle.line.specs.Answers.{Answers, refusal}
+use Rattle.line.specs.declared.Answer.{Answer}
 use Rattle.line.specs.Bounded.{Counted, CountedFlow, Bounded}
 use Rattle.line.specs.With.{onFlow, onKeys, lent}
 use Rattle.line.specs.KeyParts.{keysAfter}
 use Rattle.line.specs.HostMessages.{Accepted}
-use Rattle.line.specs.Promise.{on, Does}
+use Rattle.line.specs.Promise.{Progress, on, Does}
 use Rattle.line.specs.Acts.{actPart, Ready, Fits, Done, Meets}
 use Rattle.line.proofs.KeyArrays.{after-length}
-use Rattle.line.proofs.Answering.{begun}
+use Rattle.line.proofs.Answering.{begun, begunWork, refused, cramped}
 use Rattle.line.proofs.Accepts.{startables}
 use Rattle.line.proofs.Meeting.{act-answers}
 
@@ -53,6 +57,11 @@ fits s l TimesOut r = tt
 fits s l (Idles idle) r = tt
 fits s l (Obeys m) r = startables l s m r
 
+-- nothing done leaves the areas
+still-areas : {w r : Progress} {t t′ m m′ : List ℕ} → Does still w t m r t′ m′ → (t′ ≡ t) × (m′ ≡ m)
+unfolding still messageBytes joined puts
+still-areas d = (ap (λ x. x .area) (d .shows), ap (λ x. x .area) (d .sends))
+
 -- no message of no bytes is accepted
 none-accepted : (l : Line) (m : HostMessage) → Accepted l [] m → ⊥
 unfolding considered soundLength within
@@ -60,7 +69,7 @@ none-accepted l m a = let short : soundLength 0 ≡ false = refl in refused-soun
 
 -- without a message, what an act does to the flow is all that it does but for the keys
 pub keyed-does : (l : Line) (a : Act) → Ready [] l a → length (l .keys) ≡ typeAheadSize → {t m : List ℕ} {r : Work} {text′ t′ m′ : List ℕ} →
-    Done [] a (l .terms) l (record { flow = l .flow; at = 0; sent = 0 }) (l .text) t m r text′ t′ m′ →
+    Done [] a (l .terms) l (begunWork l 0) (l .text) t m r text′ t′ m′ →
     Does (actPart [] l a) (begun l) t m (on (lent (l .terms) text′ (onKeys (keysAfter a (l .flow .typed .waiting) (l .keys)) l)) r) t′ m′
 keyed-does l Nothing k size d = d size tt
 keyed-does l (Stores c) k size d = d size tt
@@ -90,15 +99,45 @@ done-counted l a text r c size f =
       flow = f;
     }
 
--- The answer to an event that brings no message: the act is done, and the keys are moved beside.
-module _ (e : Event) (l : Line) (b : Bounded l) (t m : List ℕ) (admitted : Admitted l [] e) (room : areRoomy (length t) (length m) ≡ true)
-    {a : Act} (h : Meets (eventPart [] e) [] l a) where
-  pub keyed-answers : (r : Work) (keys′ text′ t′ m′ : List ℕ) → keys′ ≡ keysAfter a (l .flow .typed .waiting) (l .keys) → CountedFlow (r .flow) →
-      length text′ ≡ inputSize → Done [] a (l .terms) l (record { flow = l .flow; at = 0; sent = 0 }) (l .text) t m r text′ t′ m′ →
-      Answers (eventOf [] e) l t m (doneAnswer (on (lent (l .terms) text′ (onKeys keys′ l)) r)) t′ m′
-  keyed-answers r keys′ text′ t′ m′ k f size d =
-      subst (λ x. Answers (eventOf [] e) l t m (doneAnswer (on (lent (l .terms) text′ (onKeys x l)) r)) t′ m′) (sym k)
-      (act-answers e [] t m l b admitted room h _ t′ m′ (keyed-does l a (h .ready) (b .counted .keys) d) (done-counted l a text′ r (b .counted) size f))
+-- an answer with its number by another name
+pub numbered : {e : rules.Event ℕ} {l : Line} {t m : List ℕ} {r : Line} {n k at sent : ℕ} {t′ m′ : List ℕ} → n ≡ k →
+    Answers e l t m (record { line = r; number = k; terminal = at; messages = sent }) t′ m′ →
+    Answers e l t m (record { line = r; number = n; terminal = at; messages = sent }) t′ m′
+numbered e h = rw e h
+
+-- The answer to an event that brings no message: the act is done, and the keys are moved beside. In areas that are too small there is no act.
+module _ (e : Event) (l : Line) (b : Bounded l) (t m : List ℕ) (admitted : Admitted l [] e) {roomy : Bool} (size : roomy ≡ areRoomy (length t) (length m))
+    {a : Act} (h : roomy ≡ true → Meets (eventPart [] e) [] l a) (none : roomy ≡ false → a ≡ Nothing) where
+  asks : (x : Bool) → roomy ≡ x → Fits [] (l .flow) (l .terms) a
+  asks true k = fits [] l a (h k .ready)
+  asks false k = subst (Fits [] (l .flow) (l .terms)) (sym (none k)) tt
 
   pub keyed-fits : CountedFlow (l .flow) × ((length (l .text) ≡ inputSize) × ((l .terms .«prompt_len» ≤ inputSize) × Fits [] (l .flow) (l .terms) a))
-  keyed-fits = (b .counted .flow, (b .counted .text, (b .counted .shown, fits [] l a (h .ready))))
+  keyed-fits = (b .counted .flow, (b .counted .text, (b .counted .shown, asks roomy refl)))
+
+  module _ (r : Work) (keys′ text′ t′ m′ : List ℕ) (k : keys′ ≡ keysAfter a (l .flow .typed .waiting) (l .keys)) (f : CountedFlow (r .flow))
+      (full : length text′ ≡ inputSize) (d : Done [] a (l .terms) l (begunWork l 0) (l .text) t m r text′ t′ m′)
+      (same : a ≡ Nothing → (r ≡ begunWork l 0) × (text′ ≡ l .text)) where
+    -- the call's answer
+    abbrev told : List ℕ → List ℕ → Work → ℕ → Answer
+    told keys text w n =
+        record { line = on (lent (l .terms) text (onKeys keys l)) w .line; number = n; terminal = w .at; messages = w .sent }
+
+    acted : (x : Bool) → roomy ≡ x → Answers (eventOf [] e) l t m (told keys′ text′ r (rowOf x)) t′ m′
+    unfolding rowOf pick
+    acted true y =
+        subst (λ z. Answers (eventOf [] e) l t m (told z text′ r 0) t′ m′) (sym k)
+        (act-answers e [] t m l b admitted (sym size ∙ y) (h y) _ t′ m′ (keyed-does l a (h y .ready) (b .counted .keys) d) (done-counted l a text′ r (b .counted) full f))
+    acted false y =
+        let n = none y in
+        let still : Does still (begun l) t m (on (lent (l .terms) text′ (onKeys (keysAfter Nothing (l .flow .typed .waiting) (l .keys)) l)) r) t′ m′ =
+        subst (λ z. Done [] z (l .terms) l (begunWork l 0) (l .text) t m r text′ t′ m′) n d (b .counted .keys) tt in
+        let keys : keys′ ≡ l .keys = k ∙ ap (λ z. keysAfter z (l .flow .typed .waiting) (l .keys)) n in
+        let areas = still-areas still in
+        let answer : told keys′ text′ r 1 ≡ refusal 1 l = λ i. told (keys i) (same n .1 i) (same n .0 i) 1 in
+        subst (λ z. Answers (eventOf [] e) l t m (told keys′ text′ r 1) z m′) (sym (areas .0))
+        (subst (λ z. Answers (eventOf [] e) l t m (told keys′ text′ r 1) t z) (sym (areas .1))
+        (refused (eventOf [] e) l t m 1 b (cramped (eventOf [] e) l t m (sym size ∙ y)) answer))
+
+    pub keyed-answers : Answers (eventOf [] e) l t m (told keys′ text′ r (rowOf roomy)) t′ m′
+    keyed-answers = acted roomy refl

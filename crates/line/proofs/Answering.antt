@@ -19,6 +19,7 @@ use Rattle.rules.proofs.Areas.{puts-front}
 use Rattle.rules.proofs.Bounds.Calls.{call-within}
 use borrow.Author.Tests.{leb-true}
 use Rattle.line.specs.declared.Line.{Line}
+use Rattle.line.specs.declared.Work.{Work}
 use Rattle.line.specs.declared.Answer.{Answer}
 use Rattle.line.specs.View.{view}
 use Rattle.line.specs.Bounded.{Counted, Bounded}
@@ -29,6 +30,10 @@ use Rattle.line.specs.Answers.{Answers, ruled, refusal, doneAnswer}
 -- a call at its beginning
 abbrev pub begun : Line → Progress
 begun l = record { line = l; at = 0; sent = 0 }
+
+-- and its work, behind a report
+abbrev pub begunWork : Line → ℕ → Work
+begunWork l place = record { flow = l .flow; at = 0; sent = place }
 
 -- areas, as the puts of a call's bytes leave them
 at-front : (bs t t′ : List ℕ) (n : ℕ) → length bs ≤ length t → spot t′ n ≡ puts bs (spot t 0) → spot t′ n ≡ spot (areaAfter bs t) (length bs)

@@ -57,7 +57,7 @@ use Rattle.line.specs.Promise.{Progress, on, Does}
 use Rattle.line.proofs.Works.{then-does, here-does, changes-does, only-does, not-does, still-does}
 use Rattle.line.proofs.Joints.{for-equal}
 use Rattle.line.proofs.Sends.{sent-does}
-use Rattle.line.proofs.Answering.{begun, answered}
+use Rattle.line.proofs.Answering.{begun, begunWork, answered}
 use Rattle.line.proofs.Evented.{event-answers, event-bytes}
 use Rattle.line.proofs.Considered.{true-false}
 use Rattle.line.proofs.Accepts.{questions-known}
@@ -94,10 +94,6 @@ still-same {w} {r} {t} {m} e at sent =
 abbrev held-kind : Held → ℕ
 held-kind (codec.message x) = x .kind
 held-kind (codec.other kind body) = kind
-
--- a call's work at its beginning, behind a report
-abbrev pub begunWork : Line → ℕ → Work
-begunWork l place = record { flow = l .flow; at = 0; sent = place }
 
 -- what a message sets keeps the counts
 pub set-counted : (s : List ℕ) (l next : Line) (m : HostMessage) → Counted l → SetBy s m l next → Counted next

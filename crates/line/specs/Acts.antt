@@ -127,6 +127,22 @@ Fits s f t TimesOut = Unit {0}
 Fits s f t (Idles idle) = Unit {0}
 Fits s f t (Obeys m) = Startables s m
 
+-- it is an act other than none
+abbrev pub Moves : Act → Type 0
+Moves Nothing = ⊥
+Moves (Stores c) = Unit {0}
+Moves (StoresQuoted c) = Unit {0}
+Moves (SendsOutOfBand c) = Unit {0}
+Moves (ClearsAtOnce c) = Unit {0}
+Moves Quotes = Unit {0}
+Moves Clears = Unit {0}
+Moves FlipsDiscard = Unit {0}
+Moves TakesToken = Unit {0}
+Moves (Takes k) = Unit {0}
+Moves TimesOut = Unit {0}
+Moves (Idles idle) = Unit {0}
+Moves (Obeys m) = Unit {0}
+
 -- the part of the rules that an act does to the flow and the text
 abbrev pub flowAct : List ℕ → Line → Act → Part ℕ
 flowAct s l Nothing = actPart s l Nothing

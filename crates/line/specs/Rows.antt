@@ -14,6 +14,10 @@ use Rattle.rules.specs.Calls.{isServers, isTimely}
 abbrev pub areRoomy : ℕ → ℕ → Bool
 areRoomy terminal messages = leb terminalArea terminal && leb messageArea messages
 
+-- row 1, or 0 where it does not apply
+unfoldable pub rowOf : Bool → ℕ
+rowOf roomy = pick roomy accepted smallArea
+
 -- a type that a host sends
 unfoldable pub isHosts : ℕ → Bool
 isHosts kind = definedKind kind && not (isServers kind)

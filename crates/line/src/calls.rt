@@ -20,6 +20,7 @@ use crate::keys::move_keys;
 use crate::refusals;
 use crate::refusals::are_roomy;
 use crate::refusals::early_row;
+use crate::refusals::row_of;
 use message::Found;
 
 // Where an event looks at none of the arrays.
@@ -36,9 +37,7 @@ impl Line {
         requires { ⌜ Bounded self ⌝ }
         ensures { λ r. ⌜ Answers (rules.key code) self (now (terminal .entry)) (now (messages .entry)) r (now (terminal .exit)) (now (messages .exit)) ⌝ }
     {
-        if !are_roomy(terminal.len(), messages.len()) {
-            return self.refuse(refusals::SMALL_AREA);
-        }
+        let roomy = are_roomy(terminal.len(), messages.len());
         let mut next = self;
         let flow = next.flow;
         let typed = flow.typed;
@@ -51,7 +50,7 @@ impl Line {
             first: 0,
             ends: false,
         };
-        let act = flow.act_of(Event::Key(code), seen, terms);
+        let act = flow.act_if(roomy, Event::Key(code), seen, terms);
         move_keys(&mut next.keys, typed.waiting as usize, act);
         let w = Work {
             flow,
@@ -63,7 +62,7 @@ impl Line {
         next.flow = after;
         Answer {
             line: next,
-            number: 0,
+            number: row_of(roomy),
             terminal: done.at,
             messages: done.sent,
         }
@@ -73,9 +72,7 @@ impl Line {
         requires { ⌜ Bounded self ⌝ }
         ensures { λ r. ⌜ Answers rules.step self (now (terminal .entry)) (now (messages .entry)) r (now (terminal .exit)) (now (messages .exit)) ⌝ }
     {
-        if !are_roomy(terminal.len(), messages.len()) {
-            return self.refuse(refusals::SMALL_AREA);
-        }
+        let roomy = are_roomy(terminal.len(), messages.len());
         let mut next = self;
         let flow = next.flow;
         let typed = flow.typed;
@@ -89,7 +86,7 @@ impl Line {
             first,
             ends: set.has(raised),
         };
-        let act = flow.act_of(Event::Step, seen, terms);
+        let act = flow.act_if(roomy, Event::Step, seen, terms);
         move_keys(&mut next.keys, typed.waiting as usize, act);
         let w = Work {
             flow,
@@ -101,7 +98,7 @@ impl Line {
         next.flow = after;
         Answer {
             line: next,
-            number: 0,
+            number: row_of(roomy),
             terminal: done.at,
             messages: done.sent,
         }
@@ -112,14 +109,12 @@ impl Line {
         requires { ⌜ Bounded self ⌝ }
         ensures { λ r. ⌜ Answers rules.tick self (now (terminal .entry)) (now (messages .entry)) r (now (terminal .exit)) (now (messages .exit)) ⌝ }
     {
-        if !are_roomy(terminal.len(), messages.len()) {
-            return self.refuse(refusals::SMALL_AREA);
-        }
+        let roomy = are_roomy(terminal.len(), messages.len());
         let mut next = self;
         let flow = next.flow;
         let typed = flow.typed;
         let terms = next.terms;
-        let act = flow.act_of(Event::Tick, NOTHING_SEEN, terms);
+        let act = flow.act_if(roomy, Event::Tick, NOTHING_SEEN, terms);
         move_keys(&mut next.keys, typed.waiting as usize, act);
         let w = Work {
             flow,
@@ -131,7 +126,7 @@ impl Line {
         next.flow = after;
         Answer {
             line: next,
-            number: 0,
+            number: row_of(roomy),
             terminal: done.at,
             messages: done.sent,
         }

@@ -1,6 +1,7 @@
 // An incoming event, and the act that it meets.
 ghost use Prim.Native.Nat.{ℕ};
 ghost use mathlib.Core.Path.{_≡_};
+ghost use mathlib.Core.Bool.{true, false};
 ghost use mathlib.Core.List.{List};
 ghost use Rattle.line.specs.declared.Line.{Line};
 ghost use Rattle.line.specs.Bounded.{CountedTyped};
@@ -8,7 +9,7 @@ ghost use Rattle.line.specs.With.{onFlow, lent};
 ghost use Rattle.line.specs.HostMessages.{senderOf};
 ghost use Rattle.line.specs.Events.{Sees, eventPart};
 ghost use Rattle.line.specs.Acts.{Meets};
-ghost use Rattle.line.specs.declared.acts.Act.the-variants.{Obeys};
+ghost use Rattle.line.specs.declared.acts.Act.the-variants.{Nothing, Obeys};
 ghost use Rattle.line.specs.declared.events.Event.the-variants.{Host};
 ghost use Rattle.line.specs.declared.events.HostMessage as hosts;
 use crate::Flow;
@@ -88,5 +89,17 @@ impl Flow {
             Event::Step => self.act_of_step(seen.first, seen.ends, t),
             Event::Host(m) => Act::Obeys(m),
         }
+    }
+
+    // In areas that are too small it meets none.
+    pub(crate) fn act_if(self, roomy: bool, e: Event, seen: Seen, t: Terms) -> Act
+        requires { ⌜ CountedTyped (self .typed) ⌝ }
+        ensures rule { λ a. ⌜ ((s : List ℕ) (l : Line) → roomy ≡ true → Sees s (onFlow self (lent t (l .text) l)) seen e → Meets (eventPart s e) s (onFlow self (lent t (l .text) l)) a) ⌝ }
+        ensures none { λ a. ⌜ (roomy ≡ false → a ≡ Nothing) ⌝ }
+    {
+        if roomy {
+            return self.act_of(e, seen, t);
+        }
+        Act::Nothing
     }
 }

@@ -13,7 +13,7 @@ ghost use Rattle.line.specs.View.{view};
 ghost use Rattle.line.specs.Bounded.{Counted};
 ghost use Rattle.line.specs.HostMessages.{messageOf};
 ghost use Rattle.line.specs.Answers.{refusal};
-ghost use Rattle.line.specs.Rows.{areRoomy, isHosts, firstRow, earlyRow};
+ghost use Rattle.line.specs.Rows.{areRoomy, rowOf, isHosts, firstRow, earlyRow};
 use crate::Answer;
 use crate::Line;
 use crate::events::HostMessage;
@@ -21,7 +21,7 @@ use message::StartReadFields;
 use message::WriteFields;
 
 // The rows of the table.
-pub(crate) const SMALL_AREA: u8 = 1;
+const SMALL_AREA: u8 = 1;
 
 const WRONG_LENGTH: u8 = 2;
 
@@ -41,6 +41,16 @@ pub(crate) fn are_roomy(terminal: usize, messages: usize) -> bool
     ensures { λ r. ⌜ r ≡ areRoomy terminal messages ⌝ }
 {
     (rules::TERMINAL_AREA <= terminal) & (rules::MESSAGE_AREA <= messages)
+}
+
+// Row 1, or 0 where it does not apply.
+pub(crate) fn row_of(roomy: bool) -> u8
+    ensures { λ r. ⌜ r ≡ rowOf roomy ⌝ }
+{
+    if roomy {
+        return 0;
+    }
+    SMALL_AREA
 }
 
 // A message has a length that can be.

@@ -55,9 +55,7 @@ bytes-of-requires-2 : tie.Need-bytes-of-requires-2
 bytes-of-requires-2 c κs = search needs
 
 carries-settings-requires : tie.Need-carries-settings-requires
-carries-settings-requires c κs =
-    let counted = c .before .before .before .before .before .before .pre in
-    rw (c .before .characteristics2 .ensures) (record { table = counted .table; set = counted .lastSet })
+carries-settings-requires c κs = tt
 
 returns : tie.Need-returns
 unfolding heldIn startReadIn isCarriedBy pick

@@ -58,7 +58,7 @@ returns c =
     let done = c .before .before .before .before .before .acts in
     host-answers s (a .terminal .now) (a .messages .now) _ _ _ _ (a .self) next place (done .result) (a .m) (start .pre .0) (start .pre .1 .0) (start .pre .1 .1)
     (c .before .before .before .before .before .before .before .before .before .before .before .before .before .before .before .before .set-by .ensures) (c .before .before .before .before .before .before .before .before .before .before .before .reports .ensures)
-    act (c .before .before .before .before .before .acts .ensures .1 .1)
+    act (c .before .before .before .before .before .acts .ensures .1 .1 .0)
     (done .ensures .0) (done .ensures .1 .0)
 
 pub obeys-spec : {M : Type 1} → statement M

@@ -20,9 +20,7 @@ bytes-of-requires : tie.Need-bytes-of-requires
 bytes-of-requires c κs = search needs
 
 with-settings-requires : tie.Need-with-settings-requires
-with-settings-requires c κs =
-    let counted = c .before .before .before .pre in
-    rw (c .before .characteristics .ensures) (record { table = counted .table; set = counted .lastSet })
+with-settings-requires c κs = tt
 
 with-host-requires : tie.Need-with-host-requires
 with-host-requires c κs = search needs
@@ -38,7 +36,7 @@ returns c =
           set .ensures .0
           ∙ ap (λ h. withParameters (parametersFrom 11 0 (c .before .before .bytes-of .result .now)) (host.hostOf h)) (c .before .before .before .characteristics .ensures)
           ∙ ap (λ bs. withParameters (parametersFrom 11 0 bs) (hostOf (a .self))) (c .before .before .bytes-of .ensures);
-      counted = set .ensures .1;
+      counted = set .ensures .1 .counted (rw (c .before .before .before .characteristics .ensures) (record { table = c .before .before .before .before .before .pre .table; set = c .before .before .before .before .before .pre .lastSet }));
     }
 
 pub with-characteristics-spec : {M : Type 1} → statement M

@@ -1,9 +1,9 @@
 use native.Mathlib.Omega.{arith}
-use mathlib.Core.Path.{subst}
+use mathlib.Core.Path.{refl, sym, _∙_, subst}
 use Rattle.line.specs.With.{lent}
 use Rattle.rules.specs.Numbers.{typeAheadSize}
 use Rattle.rules.specs.Arrival.{stores}
-use Rattle.line.specs.Acts.{Fits}
+use Rattle.line.specs.Acts.{Fits, Moves}
 use Rattle.line.proofs.Works.{still-does}
 use Rattle.line.proofs.Arrivals.{plain-key}
 use Rattle.line.proofs.Acting.{done-as}
@@ -116,7 +116,7 @@ returns : tie.Need-returns
 returns c =
     let start = c .before .before .before .before .before .before .before in
     let a = start .args in
-    (start .pre .0, (start .pre .1 .0, λ l. done-as (a .s .now) (a .t) l (a .self) (c .enum-told .given .1) (λ size p. still-does _ _ _)))
+    (start .pre .0, (start .pre .1 .0, (λ l. done-as (a .s .now) (a .t) l (a .self) (c .enum-told .given .1) (λ size p. still-does _ _ _), λ e. (refl, refl))))
 
 same-length : tie.Need-same-length
 same-length c = search needs
@@ -126,7 +126,7 @@ returns-2 c =
     let start = c .before .before .before .before .before .before .before .before .before .before .before in
     let a = start .args in
     let done = c .before .before .stores .ensures in
-    (done .0, (start .pre .1 .0, λ l. done-as (a .s .now) (a .t) l (a .self) (c .before .before .before .before .enum-told2 .given .1) (λ size p. plain-key _ (subst (Fits (a .s .now) (a .self .flow) (a .t)) (c .before .before .before .before .enum-told2 .given .1) (start .pre .1 .1 .1)) (stores typeAheadSize) (done .1 _ (lent (a .t) (a .text .now) l) size _))))
+    (done .0, (start .pre .1 .0, (λ l. done-as (a .s .now) (a .t) l (a .self) (c .before .before .before .before .enum-told2 .given .1) (λ size p. plain-key _ (subst (Fits (a .s .now) (a .self .flow) (a .t)) (c .before .before .before .before .enum-told2 .given .1) (start .pre .1 .1 .1)) (stores typeAheadSize) (done .1 _ (lent (a .t) (a .text .now) l) size _)), λ e. absurd (subst Moves (sym (c .before .before .before .before .enum-told2 .given .1) ∙ e) tt))))
 
 same-length-2 : tie.Need-same-length-2
 same-length-2 c = search needs
@@ -136,7 +136,7 @@ returns-3 c =
     let start = c .before .before .before .before .before .before .before .before .before .before .before in
     let a = start .args in
     let done = c .before .before .stores-quoted .ensures in
-    (done .0, (start .pre .1 .0, λ l. done-as (a .s .now) (a .t) l (a .self) (c .before .before .before .before .enum-told3 .given .1) (λ size p. done .1 _ (subst (Fits (a .s .now) (a .self .flow) (a .t)) (c .before .before .before .before .enum-told3 .given .1) (start .pre .1 .1 .1)) (lent (a .t) (a .text .now) l) size _)))
+    (done .0, (start .pre .1 .0, (λ l. done-as (a .s .now) (a .t) l (a .self) (c .before .before .before .before .enum-told3 .given .1) (λ size p. done .1 _ (subst (Fits (a .s .now) (a .self .flow) (a .t)) (c .before .before .before .before .enum-told3 .given .1) (start .pre .1 .1 .1)) (lent (a .t) (a .text .now) l) size _), λ e. absurd (subst Moves (sym (c .before .before .before .before .enum-told3 .given .1) ∙ e) tt))))
 
 same-length-3 : tie.Need-same-length-3
 same-length-3 c = search needs
@@ -146,7 +146,7 @@ returns-4 c =
     let start = c .before .before .before .before .before .before .before .before .before .before .before .before in
     let a = start .args in
     let done = c .before .before .sends-out-of-band .ensures in
-    (done .0, (start .pre .1 .0, λ l. done-as (a .s .now) (a .t) l (a .self) (c .before .before .before .before .before .act .given .1) (λ size p. done .1 (lent (a .t) (a .text .now) l) _)))
+    (done .0, (start .pre .1 .0, (λ l. done-as (a .s .now) (a .t) l (a .self) (c .before .before .before .before .before .act .given .1) (λ size p. done .1 (lent (a .t) (a .text .now) l) _), λ e. absurd (subst Moves (sym (c .before .before .before .before .before .act .given .1) ∙ e) tt))))
 
 same-length-4 : tie.Need-same-length-4
 same-length-4 c = search needs
@@ -156,14 +156,14 @@ returns-5 c =
     let start = c .before .before .before .before .before .before .before .before .before .before .before .before .before .before in
     let a = start .args in
     let done = c .before .before .clears-at-once .ensures in
-    (done .0, (start .pre .1 .0, λ l. done-as (a .s .now) (a .t) l (a .self) (c .before .before .before .before .before .before .before .act2 .given .1) (λ size p. done .1 l _)))
+    (done .0, (start .pre .1 .0, (λ l. done-as (a .s .now) (a .t) l (a .self) (c .before .before .before .before .before .before .before .act2 .given .1) (λ size p. done .1 l _), λ e. absurd (subst Moves (sym (c .before .before .before .before .before .before .before .act2 .given .1) ∙ e) tt))))
 
 returns-6 : tie.Need-returns-6
 returns-6 c =
     let start = c .before .before .before .before .before .before .before .before in
     let a = start .args in
     let done = c .quotes .ensures in
-    (done .0, (start .pre .1 .0, λ l. done-as (a .s .now) (a .t) l (a .self) (c .before .enum-told4 .given .1) (λ size p. done .1 22 (lent (a .t) (a .text .now) l) _ _)))
+    (done .0, (start .pre .1 .0, (λ l. done-as (a .s .now) (a .t) l (a .self) (c .before .enum-told4 .given .1) (λ size p. done .1 22 (lent (a .t) (a .text .now) l) _ _), λ e. absurd (subst Moves (sym (c .before .enum-told4 .given .1) ∙ e) tt))))
 
 same-length-5 : tie.Need-same-length-5
 same-length-5 c = search needs
@@ -173,7 +173,7 @@ returns-7 c =
     let start = c .before .before .before .before .before .before .before .before .before .before .before .before .before in
     let a = start .args in
     let done = c .before .before .clears .ensures in
-    (done .0, (start .pre .1 .0, λ l. done-as (a .s .now) (a .t) l (a .self) (c .before .before .before .before .before .before .enum-told5 .given .1) (λ size p. done .1 l _)))
+    (done .0, (start .pre .1 .0, (λ l. done-as (a .s .now) (a .t) l (a .self) (c .before .before .before .before .before .before .enum-told5 .given .1) (λ size p. done .1 l _), λ e. absurd (subst Moves (sym (c .before .before .before .before .before .before .enum-told5 .given .1) ∙ e) tt))))
 
 same-length-6 : tie.Need-same-length-6
 same-length-6 c = search needs
@@ -183,7 +183,7 @@ returns-8 c =
     let start = c .before .before .before .before .before .before .before .before .before .before .before in
     let a = start .args in
     let done = c .before .before .flips-discard .ensures in
-    (done .0, (start .pre .1 .0, λ l. done-as (a .s .now) (a .t) l (a .self) (c .before .before .before .before .enum-told6 .given .1) (λ size p. done .1 15 (lent (a .t) (a .text .now) l) _)))
+    (done .0, (start .pre .1 .0, (λ l. done-as (a .s .now) (a .t) l (a .self) (c .before .before .before .before .enum-told6 .given .1) (λ size p. done .1 15 (lent (a .t) (a .text .now) l) _), λ e. absurd (subst Moves (sym (c .before .before .before .before .enum-told6 .given .1) ∙ e) tt))))
 
 same-length-7 : tie.Need-same-length-7
 same-length-7 c = search needs
@@ -193,7 +193,7 @@ returns-9 c =
     let start = c .before .before .before .before .before .before .before .before .before .before .before .before in
     let a = start .args in
     let done = c .before .before .takes-token .ensures in
-    (done .0, (done .1 .0, λ l. done-as (a .s .now) (a .t) l (a .self) (c .before .before .before .before .before .enum-told7 .given .1) (λ size p. done .1 .1 l _)))
+    (done .0, (done .1 .0, (λ l. done-as (a .s .now) (a .t) l (a .self) (c .before .before .before .before .before .enum-told7 .given .1) (λ size p. done .1 .1 l _), λ e. absurd (subst Moves (sym (c .before .before .before .before .before .enum-told7 .given .1) ∙ e) tt))))
 
 same-length-8 : tie.Need-same-length-8
 same-length-8 c = search needs
@@ -206,7 +206,7 @@ returns-10 c =
     let start = c .before .before .before .before .before .before .before .before .before .before .before .before .before .before .before .before in
     let a = start .args in
     let done = c .before .before .before .before .takes .ensures in
-    (done .0, (done .1 .0, λ l. done-as (a .s .now) (a .t) l (a .self) (c .before .before .before .before .before .before .before .before .before .act3 .given .1) (λ size p. done .1 .1 l size)))
+    (done .0, (done .1 .0, (λ l. done-as (a .s .now) (a .t) l (a .self) (c .before .before .before .before .before .before .before .before .before .act3 .given .1) (λ size p. done .1 .1 l size), λ e. absurd (subst Moves (sym (c .before .before .before .before .before .before .before .before .before .act3 .given .1) ∙ e) tt))))
 
 same-length-10 : tie.Need-same-length-10
 same-length-10 c = search needs
@@ -216,14 +216,14 @@ returns-11 c =
     let start = c .before .before .before .before .before .before .before .before .before .before .before .before .before in
     let a = start .args in
     let done = c .before .before .completes .ensures in
-    (done .0, (start .pre .1 .0, λ l. done-as (a .s .now) (a .t) l (a .self) (c .before .before .before .before .before .before .enum-told8 .given .1) (λ size p. done .1 .0 (lent (a .t) (a .text .now) l) l _)))
+    (done .0, (start .pre .1 .0, (λ l. done-as (a .s .now) (a .t) l (a .self) (c .before .before .before .before .before .before .enum-told8 .given .1) (λ size p. done .1 .0 (lent (a .t) (a .text .now) l) l _), λ e. absurd (subst Moves (sym (c .before .before .before .before .before .before .enum-told8 .given .1) ∙ e) tt))))
 
 returns-12 : tie.Need-returns-12
 returns-12 c =
     let start = c .before .before .before .before .before .before .before .before .before in
     let a = start .args in
     let done = c .sets-idle .ensures in
-    (done .0, (start .pre .1 .0, λ l. done-as (a .s .now) (a .t) l (a .self) (c .before .before .act4 .given .1) (λ size p. done .1 (lent (a .t) (a .text .now) l) _ _)))
+    (done .0, (start .pre .1 .0, (λ l. done-as (a .s .now) (a .t) l (a .self) (c .before .before .act4 .given .1) (λ size p. done .1 (lent (a .t) (a .text .now) l) _ _), λ e. absurd (subst Moves (sym (c .before .before .act4 .given .1) ∙ e) tt))))
 
 same-length-11 : tie.Need-same-length-11
 same-length-11 c = search needs
@@ -236,7 +236,7 @@ returns-13 c =
     let start = c .before .before .before .before .before .before .before .before .before .before .before .before .before .before .before .before .before in
     let a = start .args in
     let done = c .before .before .before .before .obeys .ensures in
-    (done .0, (start .pre .1 .0, λ l. done-as (a .s .now) (a .t) l (a .self) (c .before .before .before .before .before .before .before .before .before .before .act5 .given .1) (λ size p. done .1 l p)))
+    (done .0, (start .pre .1 .0, (λ l. done-as (a .s .now) (a .t) l (a .self) (c .before .before .before .before .before .before .before .before .before .before .act5 .given .1) (λ size p. done .1 l p), λ e. absurd (subst Moves (sym (c .before .before .before .before .before .before .before .before .before .before .act5 .given .1) ∙ e) tt))))
 
 pub acts-spec : {M : Type 1} → statement M
 acts-spec =

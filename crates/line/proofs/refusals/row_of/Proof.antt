@@ -1,0 +1,18 @@
+use mathlib.Core.Path.{sym}
+use Rattle.rules.proofs.Tests.{pick-true, pick-false}
+use Rattle.line.specs.Rows.{rowOf}
+use Rattle.line.proofs.refusals.row_of.Statement.{statement}
+use Rattle.line.proofs.refusals.row_of.Tie as tie
+use Rattle.line.proofs.refusals.row_of.Reads as reads
+use Rattle.line.proofs.refusals.row_of.Lts as lts
+
+returns : tie.Need-returns
+unfolding rowOf
+returns c = sym (pick-true _ _ (c .if1 .taken))
+
+returns-2 : tie.Need-returns-2
+unfolding rowOf
+returns-2 c = sym (pick-false _ _ (c .if1 .left))
+
+pub row-of-spec : {M : Type 1} → statement M
+row-of-spec = tie.close (tie.spec returns returns-2)
