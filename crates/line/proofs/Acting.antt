@@ -26,7 +26,7 @@ use Rattle.line.specs.Rows.{areRoomy, rowOf}
 use Rattle.line.specs.Answers.{Answers, refusal}
 use Rattle.line.specs.declared.Answer.{Answer}
 use Rattle.line.specs.Bounded.{Counted, CountedFlow, Bounded}
-use Rattle.line.specs.With.{onFlow, onKeys, lent}
+use Rattle.line.specs.With.{onKeys, lent}
 use Rattle.line.specs.KeyParts.{keysAfter}
 use Rattle.line.specs.HostMessages.{Accepted}
 use Rattle.line.specs.Promise.{Progress, on, Does}

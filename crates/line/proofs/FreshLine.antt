@@ -1,9 +1,9 @@
 -- A line made of fresh parts is fresh, and within bounds.
 use mathlib.Core.Path.{_≡_, refl, sym, subst}
-use Prim.Native.Nat.{ℕ, _≤_}
+use Prim.Native.Nat.{ℕ}
 use native.Mathlib.Omega.{arith}
 use mathlib.Core.Bool.{true, false}
-use mathlib.Core.List.{List, []}
+use mathlib.Core.List.{List}
 use lib.ListN.{length, take, replicate}
 use Rattle.rules.specs.Numbers.{inputSize, typeAheadSize}
 use Rattle.rules.specs.StartRead.{universal}

@@ -1,19 +1,16 @@
 -- A host message that is accepted: what it sets, what it reports and what it does to the flow are what the rules do.
 use mathlib.Core.Path.{_≡_, refl, sym, ap, _∙_, subst}
 use Prim.Native.Nat.{ℕ}
-use native.Mathlib.Omega.{arith}
 use mathlib.Core.Bool.{Bool, true, false, not, _&&_}
-use mathlib.Core.List.{List, [], _∷_, map-id}
-use mathlib.Core.Option.{none, some}
+use mathlib.Core.List.{List, map-id}
+use mathlib.Core.Option.{none}
 use lib.Dec.{eqb}
 use lib.ListN.{length}
-use borrow.Author.Tests.{not-true}
 use Rattle.rules.specs.Choice.{pick, joined}
 use Rattle.rules.specs.Numbers.{inputSize, typeAheadSize}
 use Rattle.rules.specs.State.{Reading, codes, withHost, withRead, withBegun, withLastSet}
 use Rattle.rules.specs.Messages.Forms as forms
-use Rattle.rules.specs.Messages.Codec.{sound}
-use Rattle.rules.specs.Turns.{Part, still, sends, changes, _then_, only}
+use Rattle.rules.specs.Turns.{Part, still, sends, _then_}
 use Rattle.rules.specs.StartRead.Acceptance as rules
 use Rattle.rules.specs.Characteristics.{withParameters, report}
 use Rattle.rules.specs.Host.{ourInitiate, initiates, reports, setsCharacteristics, obeys}
@@ -28,7 +25,7 @@ use Rattle.rules.proofs.Tests.{pick-true, pick-false, pick-first}
 use Rattle.message.specs.declared.Part as Part
 use Rattle.message.specs.Lists.{parametersFrom}
 use Rattle.message.specs.declared.StartReadFields.{StartReadFields}
-use Rattle.message.specs.Found.{partOf, startReadIn, writeIn, heldIn}
+use Rattle.message.specs.Found.{partOf, startReadIn, heldIn}
 use Rattle.writing.specs.Puts.{Puts}
 use Rattle.writing.proofs.Putting.{equals}
 use Rattle.characteristics.specs.declared.Set.{Set}
@@ -36,11 +33,10 @@ use Rattle.line.specs.declared.Terms.{Terms}
 use Rattle.characteristics.specs.Lists.{answerTo, reportBytes, questionsIn, settingsIn}
 use Rattle.characteristics.proofs.Held.{held-questions, held-settings, report-carried}
 use Rattle.line.specs.declared.Line.{Line}
-use Rattle.line.specs.declared.Flow.{Flow}
 use Rattle.line.specs.declared.Work.{Work}
 use Rattle.line.specs.declared.events.HostMessage.{HostMessage}
 use Rattle.line.specs.declared.events.HostMessage.the-variants.{Initiate, StartRead, Unread, ClearInput, Write, ReadCharacteristics, Characteristics, CheckInput}
-use Rattle.line.specs.View.{view, hostOf, inputOf, pendingOf, readingOf}
+use Rattle.line.specs.View.{view, hostOf, pendingOf, readingOf}
 use Rattle.line.specs.declared.events.Event.the-variants.{Host}
 use Rattle.line.specs.Events.{eventPart, eventOf}
 use Rattle.line.specs.declared.acts.Act.{Act}
@@ -50,11 +46,11 @@ use Rattle.line.specs.Rows.{areRoomy}
 use Rattle.line.specs.Answers.{Answers, doneAnswer}
 use Rattle.rules.specs.Calls as calls
 use Rattle.line.specs.Bounded.{Counted, CountedFlow, Bounded}
-use Rattle.line.specs.With.{onFlow, onKeys, lent, afterSent}
+use Rattle.line.specs.With.{onFlow, lent}
 use Rattle.line.specs.Starts.{dataIn, readingAt, onOpened, Opens}
 use Rattle.line.specs.HostMessages.{messageOf, Accepted, obeysHeld, flowPart, Prompts, onInitiated, Sets, SetBy, Idle, Reported}
 use Rattle.line.specs.Promise.{Progress, on, Does}
-use Rattle.line.proofs.Works.{then-does, here-does, changes-does, only-does, not-does, still-does}
+use Rattle.line.proofs.Works.{then-does, here-does, changes-does, only-does, not-does}
 use Rattle.line.proofs.Joints.{for-equal}
 use Rattle.line.proofs.Sends.{sent-does}
 use Rattle.line.proofs.Answering.{begun, begunWork, answered}
@@ -109,17 +105,6 @@ set-counted s l next (Characteristics p) c e =
     subst Counted (sym (e .same))
     (record { table = e .counted .table; keys = c .keys; text = c .text; set = c .set; lastSet = e .counted .set; shown = c .shown; flow = c .flow })
 set-counted s l next CheckInput c e = subst Counted (sym e) c
-
--- a Start Read's terms have the characteristic
-pub set-prompts : (s : List ℕ) (l next : Line) (m : HostMessage) → SetBy s m l next → Prompts (next .terms) next m
-set-prompts s l next (Initiate f) e = tt
-set-prompts s l next (StartRead f) o = o .prompting ∙ ap (λ x. x .switches .prompting) (sym (o .same))
-set-prompts s l next (Unread condition) e = tt
-set-prompts s l next ClearInput e = tt
-set-prompts s l next (Write f) e = tt
-set-prompts s l next (ReadCharacteristics p) e = tt
-set-prompts s l next (Characteristics p) e = tt
-set-prompts s l next CheckInput e = tt
 
 -- A Start Read comes with no read pending.
 module _ (l : Line) (s : List ℕ) (f : StartReadFields) (a : Accepted l s (StartRead f)) where

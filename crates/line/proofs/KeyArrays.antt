@@ -11,7 +11,6 @@ use lib.Dec.{eqb, ltb}
 use lib.ListN.{length, getD, drop, set, length-set}
 use borrow.Author.Tests.{ne-eqb, lt-ltb, le-ltb}
 use Rattle.rules.specs.Choice.{isEmpty}
-use Rattle.rules.specs.State as rules
 use Rattle.line.specs.declared.acts.Act.{Act}
 use Rattle.line.specs.declared.acts.Act.the-variants.{Nothing, Stores, StoresQuoted, SendsOutOfBand, ClearsAtOnce, Quotes, Clears, FlipsDiscard}
 use Rattle.line.specs.declared.acts.Act.the-variants.{TakesToken, Takes, TimesOut, Idles, Obeys}

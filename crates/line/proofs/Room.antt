@@ -1,12 +1,12 @@
 -- What a step knows of a pending read, and the key that it takes.
-use mathlib.Core.Path.{_≡_, refl, sym, ap, _∙_, subst}
-use Prim.Native.Nat.{ℕ, _+_, _-_, _≤_, _<_}
+use mathlib.Core.Path.{_≡_, refl, sym, ap, subst}
+use Prim.Native.Nat.{ℕ, _-_, _≤_, _<_}
 use native.Mathlib.Omega.{arith}
 use mathlib.Core.Bool.{true}
 use mathlib.Core.List.{List}
 use mathlib.Core.Option.{some}
 use lib.ListN.{length, length-drop}
-use Rattle.rules.specs.Numbers.{inputSize, typeAheadSize, tokenSize}
+use Rattle.rules.specs.Numbers.{inputSize, typeAheadSize}
 use Rattle.rules.specs.State.{withTyped, withRead}
 use Rattle.rules.specs.Turns.{_then_}
 use Rattle.line.specs.declared.Line.{Line}
@@ -21,7 +21,7 @@ use Rattle.line.specs.With.{goesOn, onFlow, lent}
 use Rattle.line.specs.KeyParts.{shifted}
 use Rattle.line.specs.ReadingParts.{HasRoom, idling}
 use Rattle.line.specs.Promise.{Progress, on, Does}
-use Rattle.line.specs.Acts.{idleAtZero, keyTaken, takesKey, takenPart, CanTakeKey, HasTakenKey}
+use Rattle.line.specs.Acts.{idleAtZero, keyTaken, takesKey, takenPart, HasTakenKey}
 use Rattle.line.proofs.KeyArrays.{first-gone}
 use Rattle.line.proofs.Appends.{end-is}
 use Rattle.line.proofs.Works.{changes-does, then-does}

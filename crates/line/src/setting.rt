@@ -1,5 +1,4 @@
 // What an accepted host message sets of the line, and the report of what is set.
-ghost use Prim.Native.Nat.{ℕ};
 ghost use mathlib.Core.Path.{_≡_};
 ghost use Rattle.message.specs.Found.{partOf};
 ghost use Rattle.line.specs.Bounded.{Counted};

@@ -16,7 +16,7 @@ ghost use Rattle.line.specs.View.{keyOf, readingOf};
 ghost use Rattle.line.specs.Bounded.{CountedTyped, CountedFlow, Bounded};
 ghost use Rattle.line.specs.With.{onFlow, lent};
 ghost use Rattle.line.specs.KeyParts.{shifted};
-ghost use Rattle.line.specs.Promise.{on, Does, DoesAcross, DoesOn};
+ghost use Rattle.line.specs.Promise.{DoesAcross, DoesOn};
 ghost use Rattle.line.specs.Acts.{CanTakeKey, idleAtZero, takesKey, takenPart, HasTakenKey, Meets};
 use crate::Flow;
 use crate::Terms;

@@ -1,7 +1,6 @@
 use native.Mathlib.Omega.{arith}
 use mathlib.Core.Path.{refl}
 use mathlib.Core.List.{[]}
-use Rattle.rules.specs.Calls as rules
 use Rattle.line.specs.declared.events.Event.the-variants.{Key}
 use Rattle.line.specs.Events.{eventOf}
 use Rattle.line.proofs.Acting.{keyed-answers, keyed-fits, numbered}

@@ -1,4 +1,4 @@
-use mathlib.Core.Path.{ap, ap₂, _∙_}
+use mathlib.Core.Path.{ap₂}
 use Rattle.characteristics.specs.View as host
 use Rattle.characteristics.specs.Lists.{reportBytes}
 use Rattle.writing.proofs.Putting.{equals}

@@ -3,7 +3,6 @@ use mathlib.Core.List.{[]}
 use Rattle.rules.specs.State.{codes}
 use Rattle.rules.specs.StartRead.{inSet}
 use Rattle.rules.specs.Steps.{raisedBy}
-use Rattle.rules.specs.Calls as rules
 use Rattle.characteristics.specs.View.{setOf}
 use Rattle.line.specs.declared.events.Event.the-variants.{Step}
 use Rattle.line.specs.View.{readingOf}

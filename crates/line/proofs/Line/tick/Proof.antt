@@ -1,5 +1,4 @@
 use mathlib.Core.List.{[]}
-use Rattle.rules.specs.Calls as rules
 use Rattle.line.specs.declared.events.Event.the-variants.{Tick}
 use Rattle.line.specs.Events.{eventOf}
 use Rattle.line.proofs.Acting.{keyed-answers, keyed-fits, numbered}

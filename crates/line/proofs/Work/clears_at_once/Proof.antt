@@ -1,6 +1,5 @@
 use Rattle.line.specs.With.{lent}
 use borrow.Author.Needs.{needs}
-use mathlib.Core.List.{[]}
 use Rattle.rules.specs.State.{codes}
 use Rattle.rules.specs.Arrival.{clearsUnseen, endsOutOfBand, clearsAtOnce}
 use Rattle.line.proofs.Works.{then-does, here-does}

@@ -1,5 +1,4 @@
-use mathlib.Core.Path.{sym, subst}
-use Rattle.message.specs.Found.{startReadIn}
+use mathlib.Core.Path.{subst}
 use Rattle.line.specs.HostMessages.{Startables}
 use Rattle.line.specs.With.{lent}
 use Rattle.line.proofs.Works.{still-does}

@@ -1,5 +1,4 @@
 use native.Mathlib.Omega.{arith}
-use mathlib.Core.Path.{_∙_}
 use Rattle.line.specs.KeyParts.{shifted}
 use Rattle.line.proofs.Room.{key-room, key-text, key-then}
 use borrow.Author.Needs.{needs}

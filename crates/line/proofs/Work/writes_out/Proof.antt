@@ -1,6 +1,5 @@
 use mathlib.Core.Path.{refl, ap, _∙_}
 use mathlib.Core.Bool.{not}
-use mathlib.Core.List.{[]}
 use borrow.Author.Needs.{needs}
 use Rattle.rules.specs.Choice.{isEmpty}
 use Rattle.rules.specs.Turns.{writes, only}
