@@ -48,7 +48,7 @@ use Rattle.rules.specs.Calls as calls
 use Rattle.line.specs.Bounded.{Counted, CountedFlow, Bounded}
 use Rattle.line.specs.With.{onFlow, lent}
 use Rattle.line.specs.Starts.{dataIn, readingAt, onOpened, Opens}
-use Rattle.line.specs.HostMessages.{messageOf, Accepted, obeysHeld, flowPart, Prompts, onInitiated, Sets, SetBy, Idle, Reported}
+use Rattle.line.specs.HostMessages.{messageOf, Accepted, obeysHeld, flowPart, Prompts, onInitiated, Sets, SetBy, NoReport, Reported}
 use Rattle.line.specs.Promise.{Progress, on, Does}
 use Rattle.line.proofs.Works.{then-does, here-does, changes-does, only-does, not-does}
 use Rattle.line.proofs.Joints.{for-equal}
@@ -184,7 +184,7 @@ module _ (s : List ℕ) (l : Line) (f : StartReadFields) (a : Accepted l s (Star
         here-does (λ z. rules.begins codes x (rules.readingOf codes x z) then rules.remembersSet codes x) (then-does (begins-does d) remembers-does)
 
 -- nothing was set or reported before the call's work
-begun-as : {p : Part ℕ} {r : Progress} {t t′ m′ before mid : List ℕ} (l next : Line) (place : ℕ) → next ≡ l → Idle before place mid →
+begun-as : {p : Part ℕ} {r : Progress} {t t′ m′ before mid : List ℕ} (l next : Line) (place : ℕ) → next ≡ l → NoReport before place mid →
     Does p (on next (begunWork next place)) t mid r t′ m′ → Does p (begun l) t before r t′ m′
 begun-as {p} {r} {t} {t′} {m′} {before} {mid} l next place e i d =
     subst (λ z. Does p (begun z) t before r t′ m′) e
@@ -200,7 +200,7 @@ module _ (s t before mid t′ m′ text′ : List ℕ) (l next : Line) (place : 
       Does (flowPart s (onFlow (n .flow) (lent (n .terms) (n .text) k)) m) (on (lent (n .terms) (n .text) k) (begunWork n place)) t mid
       (on (lent (n .terms) text′ k) r) t′ m′
 
-  start-turns : (f : StartReadFields) → Accepted l s (StartRead f) → length (l .keys) ≡ typeAheadSize → Opens s f l next → Idle before place mid →
+  start-turns : (f : StartReadFields) → Accepted l s (StartRead f) → length (l .keys) ≡ typeAheadSize → Opens s f l next → NoReport before place mid →
       Works (StartRead f) next → Does (rules.startsRead codes (startReadIn s f)) (begun l) t before (on (lent (next .terms) text′ next) r) t′ m′
   start-turns f a size o i d =
       let T = next .terms in
@@ -215,7 +215,7 @@ module _ (s t before mid t′ m′ text′ : List ℕ) (l next : Line) (place : 
       (begun-as (opened s l f a T S X Z p) (opened s l f a T S X Z p) place refl i (w (opened s l f a T S X Z p) size (p .prompting))))
       o d
 
-  initiate-turns : next ≡ onInitiated l → Idle before place mid →
+  initiate-turns : next ≡ onInitiated l → NoReport before place mid →
       Does (sends ourInitiate) (on next (begunWork next place)) t mid (on (lent (next .terms) text′ next) r) t′ m′ →
       Does initiates (begun l) t before (on (lent (next .terms) text′ next) r) t′ m′
   unfolding initiates
@@ -234,7 +234,7 @@ module _ (s t before mid t′ m′ text′ : List ℕ) (l next : Line) (place : 
       (here-does (λ z. sends (report (z .host) (questionsIn (partOf s p))))
       (still-behind (sent-does {w = begunWork next 0} {v = begunWork next place} _ (equals bytes puts) refl next t) d))
 
-  settings-turns : (p : Part.Part) → Sets (partOf s p) l next → Idle before place mid →
+  settings-turns : (p : Part.Part) → Sets (partOf s p) l next → NoReport before place mid →
       Does still (on next (begunWork next place)) t mid (on (lent (next .terms) text′ next) r) t′ m′ →
       Does (obeys codes (settingsIn (partOf s p))) (begun l) t before (on (lent (next .terms) text′ next) r) t′ m′
   unfolding obeys pick setsCharacteristics

@@ -73,7 +73,7 @@ pub record CanTakeKey (f : Flow) (t : Terms) : Type 0 where
   pub waits : 0 < f .typed .waiting
   pub short : f .typed .«token_len» < tokenSize
 
--- what an act asks of the line
+-- what is known of the line once an act is chosen
 abbrev pub Ready : List ℕ → Line → Act → Type 0
 Ready s l Nothing = Unit {0}
 Ready s l (Stores c) = c < 256
@@ -111,7 +111,7 @@ pub record HasTakenKey (w v : Work) : Type 0 where
   pub reading : v .flow .reading ≡ idling 0 (w .flow .reading)
   pub token : v .flow .typed .«token_len» ≡ w .flow .typed .«token_len»
 
--- what an act asks of the flow and the terms
+-- what `Work::acts` asks: `Ready`, of a message only the Start Read test
 abbrev pub Fits : List ℕ → Flow → Terms → Act → Type 0
 Fits s f t Nothing = Unit {0}
 Fits s f t (Stores c) = c < 256
@@ -143,7 +143,7 @@ Moves TimesOut = Unit {0}
 Moves (Idles idle) = Unit {0}
 Moves (Obeys m) = Unit {0}
 
--- the part of the rules that an act does to the flow and the text
+-- the act's part, but of a host message without what it sets and reports
 abbrev pub flowAct : List ℕ → Line → Act → Part ℕ
 flowAct s l Nothing = actPart s l Nothing
 flowAct s l (Stores c) = actPart s l (Stores c)
@@ -159,6 +159,7 @@ flowAct s l TimesOut = actPart s l TimesOut
 flowAct s l (Idles idle) = actPart s l (Idles idle)
 flowAct s l (Obeys m) = flowPart s l m
 
+-- `Prompts` of the message that an act obeys
 abbrev pub PromptsBy : Terms → Line → Act → Type 0
 PromptsBy t l Nothing = Unit {0}
 PromptsBy t l (Stores c) = Unit {0}
@@ -174,7 +175,7 @@ PromptsBy t l TimesOut = Unit {0}
 PromptsBy t l (Idles idle) = Unit {0}
 PromptsBy t l (Obeys m) = Prompts t l m
 
--- the act is done: from the line with these terms and this text to the one with its keys moved and its text changed
+-- What `Work::acts` promises on a line: `flowAct`, from the line with these terms and this text to the one with its keys moved and its text changed.
 abbrev pub Done : List ℕ → Act → Terms → Line → Work → List ℕ → List ℕ → List ℕ → Work → List ℕ → List ℕ → List ℕ → Type 0
 Done s act t l w text terminal messages r text′ terminal′ messages′ =
     length (l .keys) ≡ typeAheadSize → PromptsBy t l act →

@@ -43,7 +43,7 @@ messageOf (ReadCharacteristics p) = message.ReadCharacteristics p
 messageOf (Characteristics p) = message.Characteristics p
 messageOf CheckInput = message.CheckInput
 
--- who sends a message
+-- who sends a message; a type that nobody sends counts as a server's
 abbrev pub senderOf : Message → Sender
 senderOf (message.Initiate f) = sender.Host (Initiate f)
 senderOf (message.StartRead f) = sender.Host (StartRead f)
@@ -68,12 +68,12 @@ pub record Accepted (l : Line) (s : List ℕ) (m : HostMessage) : Type 0 where
   pub taken : considered (view l) s ≡ sound fields
   pub bytes : allBytes s ≡ true
 
--- what is held of another type is never accepted, and does as any type does that obeying does not name
+-- a message held as a bare type and body is never accepted; `obeys` takes a type that it does not name as Check Input, and so does this
 unfoldable pub obeysHeld : Held → Part ℕ
 obeysHeld (codec.message x) = obeys codes x
 obeysHeld (codec.other kind body) = checksInput
 
--- what it does to the flow; what it sets, and a report of that, stand beside
+-- what it does to the flow; what it sets is `SetBy`, what it reports `Reported`
 abbrev pub flowPart : List ℕ → Line → HostMessage → Part ℕ
 flowPart s l (Initiate f) = sends ourInitiate
 flowPart s l (StartRead f) =
@@ -85,7 +85,7 @@ flowPart s l (ReadCharacteristics p) = still
 flowPart s l (Characteristics p) = still
 flowPart s l CheckInput = checksInput
 
--- what is known of a Start Read: its test, and that its terms have the characteristic auto prompt
+-- what a message must be for its rule to be safe: a Start Read has passed its test
 abbrev pub Startables : List ℕ → HostMessage → Type 0
 Startables s (Initiate f) = Unit {0}
 Startables s (StartRead f) = Startable s f
@@ -96,6 +96,7 @@ Startables s (ReadCharacteristics p) = Unit {0}
 Startables s (Characteristics p) = Unit {0}
 Startables s CheckInput = Unit {0}
 
+-- the terms' auto prompt is the line's characteristic, which a rule that sees no line cannot look up
 abbrev pub Prompts : Terms → Line → HostMessage → Type 0
 Prompts t l (Initiate f) = Unit {0}
 Prompts t l (StartRead f) = t .«auto_prompt» ≡ l .switches .prompting
@@ -153,20 +154,20 @@ SetBy s (Characteristics p) l next = Sets (partOf s p) l next
 SetBy s CheckInput l next = next ≡ l
 
 -- A report goes into the message area, up to a place; any other message leaves it alone.
-pub record Idle (before : List ℕ) (place : ℕ) (after : List ℕ) : Type 0 where
+pub record NoReport (before : List ℕ) (place : ℕ) (after : List ℕ) : Type 0 where
   pub front : place ≡ 0
   pub area : after ≡ before
 
 abbrev pub Reported : List ℕ → HostMessage → Line → List ℕ → ℕ → List ℕ → Type 0
-Reported s (Initiate f) l before place after = Idle before place after
-Reported s (StartRead f) l before place after = Idle before place after
-Reported s (Unread condition) l before place after = Idle before place after
-Reported s ClearInput l before place after = Idle before place after
-Reported s (Write f) l before place after = Idle before place after
+Reported s (Initiate f) l before place after = NoReport before place after
+Reported s (StartRead f) l before place after = NoReport before place after
+Reported s (Unread condition) l before place after = NoReport before place after
+Reported s ClearInput l before place after = NoReport before place after
+Reported s (Write f) l before place after = NoReport before place after
 Reported s (ReadCharacteristics p) l before place after =
     Puts (reportBytes (hostOf l) (partOf s p)) before 0 place after
-Reported s (Characteristics p) l before place after = Idle before place after
-Reported s CheckInput l before place after = Idle before place after
+Reported s (Characteristics p) l before place after = NoReport before place after
+Reported s CheckInput l before place after = NoReport before place after
 
 -- what the host has set, as the characteristics look at it
 abbrev pub hostStruct : Line → Host

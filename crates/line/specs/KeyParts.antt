@@ -16,7 +16,7 @@ shift (suc n) [] = []
 shift (suc n) (k ∷ []) = k ∷ []
 shift (suc n) (k ∷ next ∷ keys) = next ∷ shift n (next ∷ keys)
 
--- so many keys waited
+-- the array after an act, where so many keys waited before it
 abbrev pub keysAfter : Act → ℕ → List ℕ → List ℕ
 keysAfter Nothing waiting keys = keys
 keysAfter (Stores c) waiting keys = set keys waiting c

@@ -18,7 +18,7 @@ pub record Progress : Type 0 where
   pub at : ℕ
   pub sent : ℕ
 
--- a call's work on the flow of this line
+-- a call's work taken as work on this line: the line with the work's flow
 abbrev pub on : Line → Work → Progress
 on l w = record { line = onFlow (w .flow) l; at = w .at; sent = w .sent }
 
@@ -29,12 +29,12 @@ pub record Does (part : Part ℕ) (w : Progress) (terminal messages : List ℕ) 
   pub terminalLength : length terminal′ ≡ length terminal
   pub messagesLength : length messages′ ≡ length messages
 
--- a part that looks at the line which the call works on
+-- `Does` for a part that depends on the line, whose arrays it leaves alone
 abbrev pub DoesOn : (Line → Part ℕ) → Line → Work → List ℕ → List ℕ → Work → List ℕ → List ℕ → Type 0
 DoesOn part l w terminal messages r terminal′ messages′ =
     Does (part l) (on l w) terminal messages (on l r) terminal′ messages′
 
--- and one that changes the line's arrays too
+-- the same, where keys or text change: one line before, another after
 abbrev pub DoesAcross : (Line → Part ℕ) → Line → Work → List ℕ → List ℕ → Line → Work → List ℕ → List ℕ → Type 0
 DoesAcross part l w terminal messages l′ r terminal′ messages′ =
     Does (part l) (on l w) terminal messages (on l′ r) terminal′ messages′

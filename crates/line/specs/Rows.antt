@@ -1,4 +1,4 @@
--- The rows of the refusal table that a host message's call decides before it reads the message.
+-- Row 1, which every call decides, and the rows that a host message's call decides before it reads the message.
 use Prim.Native.Nat.{ℕ}
 use mathlib.Core.Bool.{Bool, not, _&&_}
 use mathlib.Core.List.{List}

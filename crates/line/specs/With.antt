@@ -68,7 +68,7 @@ onKeys keys l =
       flow = l .flow;
     }
 
--- with the terms and the text that a rule is lent
+-- the line as a rule sees it: the terms and the text that it was lent in place of the line's own
 abbrev pub lent : Terms → List ℕ → Line → Line
 lent t text l =
     record {

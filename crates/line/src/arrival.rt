@@ -51,7 +51,7 @@ fn one_more(n: u16) -> u16
 }
 
 impl Work {
-    // One key more waits; idle is 0. The key itself goes into the array beside.
+    // One key more waits; idle is 0. `move_keys` puts the key itself into the array.
     fn keeps(self) -> Work
         requires { ⌜ CountedFlow (self .flow) ⌝ }
         requires { ⌜ self .flow .typed .waiting < typeAheadSize ⌝ }

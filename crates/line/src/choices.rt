@@ -9,6 +9,12 @@ ghost use Rattle.line.specs.declared.Reading.{Reading};
 ghost use Rattle.line.specs.View.{readingOf};
 ghost use Rattle.line.specs.With.{lent};
 use crate::Terms;
+use crate::steps::DELETE_CHARACTER;
+use crate::steps::DELETE_LINE;
+use crate::steps::DELETE_WORD;
+use crate::steps::REDISPLAY;
+use crate::tokens::CSI;
+use crate::tokens::ESC;
 
 // 97 to 122 less 32.
 fn raised(c: u8) -> u8
@@ -21,17 +27,19 @@ fn raised(c: u8) -> u8
 }
 
 impl Terms {
+    // DDD: from 1 on 21 and 18 do not edit, from 2 on nothing does.
     pub(crate) fn edits_by(self, c: u8) -> bool
         ensures { λ b. ⌜ ((text : List ℕ) (l : Line) (r : Reading) → b ≡ editsBy c (readingOf (lent self text l) r)) ⌝ }
     {
         let disables = self.disables;
-        ((c == 127) | (c == 23)) & (disables <= 1) | ((c == 21) | (c == 18)) & (disables == 0)
+        ((c == DELETE_CHARACTER) | (c == DELETE_WORD)) & (disables <= 1)
+            | ((c == DELETE_LINE) | (c == REDISPLAY)) & (disables == 0)
     }
 
     pub(crate) fn begins_token(self, c: u8) -> bool
         ensures { λ b. ⌜ ((text : List ℕ) (l : Line) (r : Reading) → b ≡ beginsToken c (readingOf (lent self text l) r)) ⌝ }
     {
-        ((c == 27) | (c == 155)) & self.recognises
+        ((c == ESC) | (c == CSI)) & self.recognises
     }
 
     pub(crate) fn raised_by(self, c: u8) -> u8

@@ -40,7 +40,7 @@ pub(crate) enum Event {
     Host(HostMessage),
 }
 
-// Who sends a message.
+// Who sends a message; Server also for a type that nobody sends.
 pub(crate) enum Sender {
     Host(HostMessage),
     Server,

@@ -51,7 +51,7 @@ pub struct Terms {
     recognises: bool,
     echoes: bool,
     terminator_echo: bool,
-    // code 1 came before the prompt
+    // code 1 is to be written before the prompt: the characteristic, for a rule that sees no line
     auto_prompt: bool,
     timed: bool,
     timeout: u16,
@@ -80,11 +80,12 @@ pub struct Reading {
 pub struct Flow {
     terminal: Terminal,
     typed: Typed,
-    // `reading` is a pending read
+    // a read is pending; if not, `reading` stands for nothing
     pending: bool,
     reading: Reading,
 }
 
+// The line between calls. What lies behind a count is left over.
 pub struct Line {
     attributes: [u8; 256],
     // keys that wait, each its code, and QUOTED more if it is quoted

@@ -1,4 +1,4 @@
-// What an accepted host message does to the flow. What it sets, and a report of that, stand beside.
+// What an accepted host message does to the flow. What it sets, and the report, are in setting.rt.
 ghost use Prim.Native.Nat.{ℕ, _≤_};
 ghost use mathlib.Core.Path.{_≡_};
 ghost use mathlib.Core.List.{List, [], _∷_};

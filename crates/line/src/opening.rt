@@ -16,6 +16,7 @@ use crate::Line;
 use crate::Reading;
 use crate::Terms;
 use crate::fresh::universal;
+use crate::starting::LINE_FEED;
 use characteristics::Set;
 use characteristics::Switches;
 use message::StartReadFields;
@@ -85,7 +86,7 @@ fn hides_lf(f: StartReadFields, s: &[u8]) -> bool
     let part = f.text;
     let text = message::bytes_of(s, part);
     let first = message::byte_at(text, 0);
-    (f.formats == 1) & (first == 10)
+    (f.formats == 1) & (first == LINE_FEED)
 }
 
 // The first bytes of a text, without its very first where that is hidden.

@@ -1,4 +1,4 @@
-// The table of refusals, for a host message.
+// The table of refusals: row 1 for every call, the others for a host message.
 ghost use Prim.Native.Nat.{ℕ};
 ghost use mathlib.Core.Path.{_≡_};
 ghost use mathlib.Core.List.{List};

@@ -23,7 +23,7 @@ use crate::ending;
 use crate::opening::reading_at;
 use message::StartReadFields;
 
-const LINE_FEED: u8 = 10;
+pub(crate) const LINE_FEED: u8 = 10;
 
 // What auto prompt writes before the prompt.
 const AUTO_PROMPT: u8 = 1;

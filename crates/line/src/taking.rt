@@ -123,7 +123,7 @@ impl Flow {
 }
 
 impl Work {
-    // The first key no longer waits, and the read is no longer idle. The others are moved beside.
+    // The first key no longer waits, and the read is no longer idle. `move_keys` moves the others.
     fn takes_key(self) -> Work
         requires { ⌜ CountedFlow (self .flow) ⌝ }
         requires { ⌜ 0 < self .flow .typed .waiting ⌝ }

@@ -4,7 +4,14 @@ ghost use Rattle.rules.specs.Choice.{pick, within};
 ghost use Rattle.rules.specs.Token as rules;
 ghost use Rattle.line.specs.TokenParts.{placeOf};
 
+// What begins a token.
+pub(crate) const ESC: u8 = 27;
+
+pub(crate) const CSI: u8 = 155;
+
 // The places of the grammar, in its order.
+const EMPTY: u8 = 0;
+
 const ESCAPE: u8 = 1;
 
 const MIDDLE: u8 = 2;
@@ -21,10 +28,10 @@ const INVALID: u8 = 6;
 fn begun(n: u8) -> u8
     ensures { λ r. ⌜ placeOf r ≡ rules.next rules.empty n ⌝ }
 {
-    if n == 27 {
+    if n == ESC {
         return ESCAPE;
     }
-    if n == 155 {
+    if n == CSI {
         return PARAMETERS;
     }
     INVALID
@@ -47,7 +54,7 @@ fn ended(again: u8, low: u8, n: u8) -> u8
 fn next_place(place: u8, n: u8) -> u8
     ensures { λ r. ⌜ placeOf r ≡ rules.next (placeOf place) n ⌝ }
 {
-    if place == 0 {
+    if place == EMPTY {
         return begun(n);
     }
     if place == ESCAPE {
@@ -87,7 +94,7 @@ fn after_parameter(n: u8) -> u8
 fn place_of(token: &[u8]) -> u8
     ensures { λ r. ⌜ placeOf r ≡ rules.placeFrom rules.empty (now (token .entry)) ⌝ }
 {
-    let mut place = 0;
+    let mut place = EMPTY;
     let mut i = 0;
     while i < token.len() {
         place = next_place(place, token[i]);

@@ -1,4 +1,4 @@
--- What the script had the line do: a chain of calls that begins with a fresh line.
+-- The lines that a program can come by: the last of a chain of calls from a fresh line. Nothing here ties the chain to the script.
 use Prim.Native.Nat.{ℕ}
 use mathlib.Core.Path.{_≡_}
 use mathlib.Core.List.{List, [], _∷_}
