@@ -1,7 +1,7 @@
 -- Laws of the tests and of the choice by a test: from a test's value to what it says, and back.
 use mathlib.Core.Path.{_≡_, refl, sym, ap, _∙_}
 use Prim.Native.Nat.{ℕ, zero, suc, _≤_}
-use mathlib.Core.Bool.{Bool, true, false, not, _&&_, _||_, false≢true, and-assoc}
+use mathlib.Core.Bool.{Bool, true, false, _&&_, _||_, false≢true, and-assoc}
 use mathlib.Core.List.{List, [], _∷_, _++_, map, List·Memᴰ, List·Memᴰ·head, List·Memᴰ·tail}
 use lib.Dec.{leb, eqb}
 use lib.ListN.{getD, set, take, drop, take-append-drop}
@@ -160,23 +160,6 @@ module _ {A : Type 0} where
     all-set [] k v p e = refl
     all-set (x ∷ xs) zero v p e = both p (all-cons x xs e .1)
     all-set (x ∷ xs) (suc k) v p e = let h = all-cons x xs e in both (h .0) (all-set xs k v p (h .1))
-
-    -- none passes: each fails
-    pub any-none : (xs : List A) → not (any test xs) ≡ true → all (λ x. not (test x)) xs ≡ true
-    unfolding any all
-    any-none [] e = refl
-    any-none (x ∷ xs) e = by-head (test x) (any-none xs) e
-      where
-        by-head : (t : Bool) → (not (any test xs) ≡ true → all (λ x. not (test x)) xs ≡ true) → not (t || any test xs) ≡ true →
-            not t && all (λ x. not (test x)) xs ≡ true
-        by-head true rest e = absurd (false≢true e)
-        by-head false rest e = rest e
-
-  -- each element that passes one test passes another
-  pub all-weaken : (p q : A → Bool) → ((x : A) → p x ≡ true → q x ≡ true) → (xs : List A) → all p xs ≡ true → all q xs ≡ true
-  unfolding all
-  all-weaken p q h [] e = refl
-  all-weaken p q h (x ∷ xs) e = let t = all-cons p x xs e in both (h x (t .0)) (all-weaken p q h xs (t .1))
 
   -- each element that passes one test passes another, after a step
   pub all-map : {B : Type 0} (p : A → Bool) (q : B → Bool) (f : A → B) → ((x : A) → p x ≡ true → q (f x) ≡ true) →

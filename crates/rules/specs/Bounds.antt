@@ -1,7 +1,7 @@
 -- What holds of every state from a fresh line on, and of what a call writes, over the names of the sizes.
 use Prim.Native.Nat.{ℕ, _≤_, _<_}
 use mathlib.Core.Path.{_≡_}
-use mathlib.Core.Bool.{Bool, true, not, _&&_}
+use mathlib.Core.Bool.{Bool, true}
 use mathlib.Core.List.{List, [], _∷_, map}
 use mathlib.Core.Option.{Option, none, some}
 use lib.Dec.{ltb}
@@ -12,12 +12,11 @@ use Rattle.rules.specs.Messages.Forms.{Message}
 use Rattle.rules.specs.Messages.Codec.{sound, allBytes, read}
 use Rattle.rules.specs.State.{Host, Terminal, Typed, Terms, Reading, State, codes}
 use Rattle.rules.specs.Editing.{endOf}
-use Rattle.rules.specs.Characteristics.{isDeferredClear}
 use Rattle.rules.specs.Calls.{Event, key, step, tick, message, Answer, sentBytes, messageBytes}
 
--- an attribute: seven bits, and not deferred-clear
+-- an attribute has seven bits
 unfoldable pub isAttribute : ℕ → Bool
-isAttribute a = ltb a 128 && not (isDeferredClear a)
+isAttribute a = ltb a 128
 
 pub record BoundedHost (h : Host) : Type 0 where
   pub table : length (h .attributes) ≡ 256
@@ -39,14 +38,11 @@ pub record BoundedTyped (t : Typed ℕ) : Type 0 where
 pub record BoundedTerms (t : Terms) : Type 0 where
   pub largest : t .maxLength ≤ inputSize
   pub prompt : length (t .prompt) ≤ t .endOfPrompt
-  pub promptBytes : allBytes (t .prompt) ≡ true
   pub setLength : length (t .set) ≤ 32
   pub setBytes : allBytes (t .set) ≡ true
   pub underflow : t .underflow ≤ 2
   pub disables : t .disables ≤ 3
   pub timeout : t .timeout < 65536
-  pub noteColumn : t .column ≤ topColumn
-  pub noteLine : t .line < 256
 
 -- a pending read has room for one character more, and is not yet due
 pub record BoundedReading (r : Reading ℕ) : Type 0 where

@@ -19,7 +19,7 @@ use Rattle.rules.specs.StartRead.{universal, chosenSet}
 use Rattle.rules.specs.StartRead.Acceptance.{hidesLF, termsOf, readingOf, remembersSet, begins, startsRead}
 use Rattle.rules.specs.Bounds.{BoundedTerms, BoundedRead}
 use Rattle.rules.proofs.Tests.{pick-case}
-use Rattle.rules.proofs.Bounds.Bytes.{bytes-take, bytes-drop}
+use Rattle.rules.proofs.Bounds.Bytes.{bytes-drop}
 use Rattle.rules.proofs.Bounds.Turns.{Steady, Good, Fine, fine, rehosted}
 use Rattle.rules.proofs.Bounds.Turns.{changes-good, writes-good, then-good, quiet-then, then-quiet, writes-sends, only-good}
 use Rattle.rules.proofs.Bounds.Sent.{map-same}
@@ -46,14 +46,11 @@ module _ (m : Message ℕ) (known : Startable m) {s : State ℕ} (h : Steady Bou
       record {
         largest = known .largest;
         prompt = omega arith;
-        promptBytes = bytes-drop (bit (hidesLF m)) front (bytes-take (fields.endOfPrompt m) (m .text) (known .textBytes));
         setLength = set .0;
         setBytes = set .1;
         underflow = known .underflow;
         disables = known .disables;
         timeout = known .timeout;
-        noteColumn = h .terminal .column;
-        noteLine = h .terminal .line;
       }
 
   -- what stands behind the prompt

@@ -74,6 +74,5 @@ module _ {s : State ℕ} (h : Steady BoundedRead s) where
       let no-settings = ap (λ k. eqb k characteristics) e in
       let asked = sym (pick-false _ _ no-start ∙ pick-false _ _ no-write ∙ pick-false _ _ no-settings ∙ pick-true _ _ y) ∙ carried in
       reports-fine m e (sent .fit) asked h) λ n.
-      pick-good _ _ _
-      (λ y. settings-fine m (sym (pick-false _ _ no-start ∙ pick-false _ _ no-write ∙ pick-true _ _ y) ∙ carried) h) λ n.
+      pick-good _ _ _ (λ y. settings-fine m h) λ n.
       checksInput-fine

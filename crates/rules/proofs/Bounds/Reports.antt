@@ -3,9 +3,9 @@ use mathlib.Core.Path.{_≡_, refl, sym, ap, subst, _∙_}
 use Prim.Native.Nat.{ℕ, _+_, _<_}
 use native.Mathlib.Nat.{le-refl}
 use native.Mathlib.Omega.{arith}
-use mathlib.Core.Bool.{Bool, true, false, not, _||_}
+use mathlib.Core.Bool.{Bool, true, false, _||_}
 use mathlib.Core.List.{List, [], _∷_, map}
-use lib.Dec.{leb, ltb, eqb}
+use lib.Dec.{leb, eqb}
 use lib.ListN.{length, getD}
 use borrow.Author.Tests.{ltb-true, leb-true, eqb-true, eq-eqb}
 use Rattle.rules.specs.Choice.{pick, within, bit, isEmpty, all}
@@ -17,7 +17,7 @@ use Rattle.rules.specs.Messages.Parameters.{under, limitsOf, sizeOf, sou
 use Rattle.rules.specs.Messages.Forms.{Message, forms, formOf, readCharacteristics}
 use Rattle.rules.specs.Messages.Codec.{definedKind, definedFields, fitsTail, fitsAs}
 use Rattle.rules.specs.State.{Host, State}
-use Rattle.rules.specs.Characteristics.{isCarried, isDeferredClear, switchOf, reported, report}
+use Rattle.rules.specs.Characteristics.{isCarried, switchOf, reported, report}
 use Rattle.rules.specs.Host.{reports}
 use Rattle.rules.specs.Calls.{framed, sentBytes, carriesQuestions}
 use Rattle.rules.specs.Bounds.{isAttribute, BoundedHost, BoundedRead}
@@ -69,10 +69,8 @@ whole q ls c e h =
     )
 
 attribute-under : (h : Host) → BoundedHost h → (k : ℕ) → getD (h .attributes) k 0 < 128
-unfolding isAttribute isDeferredClear
-attribute-under h b k =
-    let a = getD (h .attributes) k 0 in
-    ltb-true a 128 (halves (ltb a 128) (not (isDeferredClear a)) (all-at isAttribute (h .attributes) 0 (b .attributes) refl k) .0)
+unfolding isAttribute
+attribute-under h b k = ltb-true (getD (h .attributes) k 0) 128 (all-at isAttribute (h .attributes) 0 (b .attributes) refl k)
 
 module _ (h : Host) (b : BoundedHost h) where
   reported-whole : (p : List ℕ) → fitsParameter question p ≡ true → isCarried (selector p) ≡ true → Whole (reported h p)

@@ -3,7 +3,7 @@ use mathlib.Core.Path.{_≡_, _∙_}
 use Prim.Native.Nat.{ℕ, zero, suc, _/_, _%_, _^_, _≤_, _<_}
 use native.Mathlib.Nat.{two-pow-succ}
 use native.Mathlib.Omega.{arith}
-use mathlib.Core.Bool.{true, not, false≢true}
+use mathlib.Core.Bool.{true}
 use mathlib.Core.List.{List, [], _∷_}
 use lib.Dec.{ltb, eqb}
 use lib.ListN.{length, getD, length-set}
@@ -13,10 +13,10 @@ use Rattle.rules.specs.Messages.Layout.{byteAt}
 use Rattle.rules.specs.Messages.Codec.{allBytes}
 use Rattle.rules.specs.Messages.Forms.{Message}
 use Rattle.rules.specs.State.{Host, State}
-use Rattle.rules.specs.Characteristics.{masked, withAttribute, withParameter, withParameters, isDeferredClear, carriesSettings}
+use Rattle.rules.specs.Characteristics.{masked, withAttribute, withParameter, withParameters}
 use Rattle.rules.specs.Host.{setsCharacteristics}
 use Rattle.rules.specs.Bounds.{isAttribute, BoundedHost, BoundedRead}
-use Rattle.rules.proofs.Tests.{halves, pick-case, pick-first, all-set, all-weaken, all-both, any-none}
+use Rattle.rules.proofs.Tests.{pick-case, all-set}
 use Rattle.rules.proofs.Bounds.Turns.{Steady, Fine, rehosted, changes-good}
 
 -- so many bits
@@ -56,21 +56,12 @@ unfolding withParameters
 parameters-seven [] h k = k
 parameters-seven (p ∷ ps) h k = parameters-seven ps (withParameter p h) (parameter-seven p h k)
 
--- with the test that no character is left deferred-clear
-settings-bounded : (m : Message ℕ) (h : Host) → carriesSettings h m ≡ true → BoundedHost h → BoundedHost (withParameters (m .parameters) h)
-unfolding carriesSettings isAttribute
-settings-bounded m h carried b =
-    let seven = all-weaken isAttribute (λ a. ltb a 128) (λ a t. halves (ltb a 128) (not (isDeferredClear a)) t .0) (h .attributes) (b .attributes) in
-    let k = parameters-seven (m .parameters) h (record { table = b .table; seven = seven; setLength = b .setLength; setBytes = b .setBytes }) in
-    let now = withParameters (m .parameters) h .attributes in
-    let none = any-none isDeferredClear now (pick-first _ false≢true carried .1) in
-    record {
-      table = k .table;
-      attributes = all-both (λ a. ltb a 128) (λ a. not (isDeferredClear a)) now (k .seven) none;
-      setLength = k .setLength;
-      setBytes = k .setBytes;
-    }
+settings-bounded : (m : Message ℕ) (h : Host) → BoundedHost h → BoundedHost (withParameters (m .parameters) h)
+unfolding isAttribute
+settings-bounded m h b =
+    let k = parameters-seven (m .parameters) h (record { table = b .table; seven = b .attributes; setLength = b .setLength; setBytes = b .setBytes }) in
+    record { table = k .table; attributes = k .seven; setLength = k .setLength; setBytes = k .setBytes }
 
-pub settings-fine : {s : State ℕ} (m : Message ℕ) → carriesSettings (s .host) m ≡ true → Steady BoundedRead s → Fine (setsCharacteristics m s)
+pub settings-fine : {s : State ℕ} (m : Message ℕ) → Steady BoundedRead s → Fine (setsCharacteristics m s)
 unfolding setsCharacteristics
-settings-fine {s = s} m carried h = changes-good _ (rehosted h (settings-bounded m (s .host) carried (h .host)))
+settings-fine {s = s} m h = changes-good _ (rehosted h (settings-bounded m (s .host) (h .host)))
