@@ -16,7 +16,7 @@ bench: $(REPLAY)
 	@$(CARGO) build $(TESTS) --bins
 	@$(CARGO) run $(TESTS) --bin bench
 
-# What rt says goes beside the answers. It links anew only what has changed: the date shows that it has looked.
+# How far it is goes beside the answers. It links anew only what has changed: the date shows that it has looked.
 $(REPLAY): $(SOURCES)
-	@rt check replay >&2
+	@tools/build >&2
 	@touch $@

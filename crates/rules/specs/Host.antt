@@ -64,7 +64,8 @@ module _ {C : Type 0} where
       change (now .terminal .screen .line) (before .terminal .screen .line) ∷
       [])
 
-  -- Write sends its data unless output discard is on; don't-discard first turns it off
+  -- Write sends its data unless output discard is on; don't-discard first turns it off. Echo and prompts are never discarded: no other rule that
+  -- writes looks at it. The flags for first and last part change nothing: none looks at them.
   unfoldable pub writesOut : Message ℕ → Part C
   writesOut m before =
       (only (eqb (keepsOutput m) 1) (changes (λ s. withTerminal (withDiscarding false (s .terminal)) s)) then

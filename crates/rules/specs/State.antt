@@ -1,4 +1,4 @@
--- The line's state, the typed characters in it, and what became of a key.
+-- The line's state, and the typed characters in it.
 use Prim.Native.Nat.{ℕ, _-_}
 use mathlib.Core.Bool.{Bool, true, false}
 use mathlib.Core.List.{List, []}

@@ -34,7 +34,8 @@ module _ {C : Type 0} (chars : Characters C) where
   unfoldable pub tokenCode : List C → ℕ
   tokenCode cs = pick (isValid (standing (map (chars .code) cs))) byValidToken byInvalidToken
 
-  -- a whole token: if it fits the buffer it is appended and completes the read, else absentee, and it stays held
+  -- a whole token: if it fits the buffer it is appended and completes the read, else absentee, and it stays held. Tokens never echo:
+  -- neither this rule nor the next writes.
   unfoldable pub takesToken : Reading C → Part C
   takesToken r s =
       pick (leb (endOf r + length (s .typed .token)) (r .terms .maxLength))

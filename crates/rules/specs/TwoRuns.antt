@@ -135,7 +135,7 @@ module _ {C : Type 0} (code : C → ℕ) (changed : C → Bool) where
   unfoldable pub inBand : Fate C → Bool
   inBand = fateTest (λ c band. not (changed c && band)) (λ purpose c. true) (λ c terms. true) (λ c. true)
 
-  -- arrival rule 2 does not act on it: weaker, since a quoted key and a key before Initiate may have the attribute
+  -- arrival rule 2 does not act on it: weaker, since a quoted key may have the attribute
   unfoldable pub unacted : Fate C → Bool
   unacted = fateTest (λ c band. true) (λ purpose c. not (changed c && isOutOfBand purpose)) (λ c terms. true) (λ c. true)
 

@@ -1,4 +1,4 @@
--- One name that opens every definition, for what is proved by computing: a part for each file, and the whole.
+-- One name that opens the rules' definitions, for what is proved by computing: a part for each file, and the whole. Area and Bounds have no part.
 use mathlib.Core.List.{zipWith}
 use Rattle.rules.specs.Choice
 use Rattle.rules.specs.Numbers

@@ -48,7 +48,7 @@ fn column_behind(column: u16, marks: u16) -> u16
     further(column, marks)
 }
 
-// So many marks and more of them.
+// Two counts of marks added up, to MOST at most.
 fn count(marks: usize, more: u16) -> usize
     ensures { λ r. ⌜ r ≡ counted (marks + more) ⌝ }
 {

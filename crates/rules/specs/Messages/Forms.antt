@@ -67,7 +67,7 @@ forms =
     form (flags 1 [] ∷ []) nothing ∷
     -- Input Count: COUNT
     form (flags 1 [] ∷ word ∷ []) nothing ∷
-    -- Input State: count change
+    -- Input State: count change; the line never sends it
     form (flags 1 (1 ∷ []) ∷ []) nothing ∷ []
 
 -- of a type that is not 1 to 14: nothing behind the type byte
