@@ -3,15 +3,16 @@ use mathlib.Core.Path.{_≡_, refl, sym, ap, _∙_, subst}
 use Prim.Native.Nat.{ℕ, _≤_}
 use mathlib.Core.List.{List, []}
 use lib.ListN.{length}
-use mathlib.Core.Bool.{Bool, true, false}
-use Rattle.rules.specs.Choice.{pick, within, joined}
+use mathlib.Core.Bool.{Bool, true, false, not}
+use Rattle.rules.specs.Choice.{pick, firstOf, within, joined}
 use Rattle.rules.specs.Turns.{still}
 use Rattle.rules.specs.Area.{puts}
 use Rattle.rules.specs.Numbers.{inputSize, typeAheadSize}
-use Rattle.rules.specs.Messages.Codec.{soundLength}
+use Rattle.rules.specs.Messages.Codec as codec
+use Rattle.rules.specs.Messages.Codec.{read, soundLength}
 use Rattle.rules.specs.Calls as rules
-use Rattle.rules.specs.Calls.{considered, messageBytes}
-use Rattle.rules.proofs.Tests.{pick-false}
+use Rattle.rules.specs.Calls.{areRoomy, refusals, considered, messageBytes}
+use Rattle.rules.proofs.Tests.{row-applies}
 use Rattle.rules.proofs.Outcomes.{refused-sound}
 use Rattle.line.specs.declared.Line.{Line}
 use Rattle.line.specs.declared.Terms.{Terms}
@@ -22,7 +23,7 @@ use Rattle.line.specs.declared.acts.Act.the-variants.{TakesToken, Takes,
 use Rattle.line.specs.declared.events.HostMessage.{HostMessage}
 use Rattle.line.specs.declared.events.Event.{Event}
 use Rattle.line.specs.Events.{Admitted, eventPart, eventOf}
-use Rattle.line.specs.Rows.{areRoomy, rowOf}
+use Rattle.line.specs.Rows.{rowOf}
 use Rattle.line.specs.Answers.{Answers, refusal}
 use Rattle.line.specs.declared.Answer.{Answer}
 use Rattle.line.specs.Bounded.{Counted, CountedFlow, Bounded}
@@ -64,8 +65,10 @@ still-areas d = (ap (λ x. x .area) (d .shows), ap (λ x. x .area) (d .sends))
 
 -- no message of no bytes is accepted
 none-accepted : (l : Line) (m : HostMessage) → Accepted l [] m → ⊥
-unfolding considered soundLength within
-none-accepted l m a = let short : soundLength 0 ≡ false = refl in refused-sound (sym (pick-false _ _ short) ∙ a .taken)
+unfolding considered refusals soundLength within
+none-accepted l m a =
+    let short : soundLength 0 ≡ false = refl in
+    refused-sound (sym (row-applies codec.refused (read []) _ _ (ap not short)) ∙ a .taken)
 
 -- without a message, what an act does to the flow is all that it does but for the keys
 pub keyed-does : (l : Line) (a : Act) → Ready [] l a → length (l .keys) ≡ typeAheadSize → {t m : List ℕ} {r : Work} {text′ t′ m′ : List ℕ} →
@@ -124,7 +127,7 @@ module _ (e : Event) (l : Line) (b : Bounded l) (t m : List ℕ) (admitted : Adm
         record { line = on (lent (l .terms) text (onKeys keys l)) w .line; number = n; terminal = w .at; messages = w .sent }
 
     acted : (x : Bool) → roomy ≡ x → Answers (eventOf [] e) l t m (told keys′ text′ r (rowOf x)) t′ m′
-    unfolding rowOf pick
+    unfolding rowOf firstOf pick
     acted true y =
         subst (λ z. Answers (eventOf [] e) l t m (told z text′ r 0) t′ m′) (sym k)
         (act-answers e [] t m l b admitted (sym size ∙ y) (h y) _ t′ m′ (keyed-does l a (h y .ready) (b .counted .keys) d) (done-counted l a text′ r (b .counted) full f))

@@ -2,8 +2,8 @@
 use mathlib.Core.Path.{_≡_, refl, sym, ap, _∙_, subst}
 use Prim.Native.Nat.{ℕ, _≤_}
 use native.Mathlib.Omega.{arith}
-use mathlib.Core.Bool.{true, false}
-use mathlib.Core.List.{List}
+use mathlib.Core.Bool.{true, false, not}
+use mathlib.Core.List.{List, []}
 use lib.ListN.{length}
 use Rattle.rules.specs.Choice.{joined}
 use Rattle.rules.specs.Numbers as sizes
@@ -11,10 +11,10 @@ use Rattle.rules.specs.State.{State, codes}
 use Rattle.rules.specs.Turns.{Part, still}
 use Rattle.rules.specs.Area.{puts, spot}
 use Rattle.rules.specs.Calls as rules
-use Rattle.rules.specs.Calls.{Event, Call, answer, answers, does, refuses, isRoomy, messageBytes, areaAfter}
+use Rattle.rules.specs.Calls.{Event, Call, areRoomy, answer, answers, does, refuses, messageBytes, areaAfter}
 use Rattle.rules.specs.Bounds as bounds
 use Rattle.rules.specs.Bounds.{isByteEvent, Within}
-use Rattle.rules.proofs.Tests.{halves, pick-true, pick-false}
+use Rattle.rules.proofs.Tests.{none-left, row-applies, row-passed, halves}
 use Rattle.rules.proofs.Areas.{puts-front}
 use Rattle.rules.proofs.Bounds.Calls.{call-within}
 use borrow.Author.Tests.{leb-true}
@@ -24,7 +24,6 @@ use Rattle.line.specs.declared.Answer.{Answer}
 use Rattle.line.specs.View.{view}
 use Rattle.line.specs.Bounded.{Counted, Bounded}
 use Rattle.line.specs.Promise.{Progress, Does}
-use Rattle.line.specs.Rows.{areRoomy}
 use Rattle.line.specs.Answers.{Answers, ruled, refusal, doneAnswer}
 
 -- a call at its beginning
@@ -46,9 +45,9 @@ module _ (e : Event ℕ) (l : Line) (t m : List ℕ) (b : Bounded l) where
   module _ (p : Part ℕ) (event : answers codes e (view l) ≡ does p (view l)) (byte : isByteEvent e ≡ true)
       (room : areRoomy (length t) (length m) ≡ true) where
     roomy : answer codes call (view l) ≡ does p (view l)
-    unfolding answer isRoomy
+    unfolding answer
     roomy =
-        ap (λ (f : State ℕ → rules.Answer ℕ). f (view l)) (pick-true _ _ room) ∙ event
+        ap (λ (f : State ℕ → rules.Answer ℕ). f (view l)) (row-passed refuses _ _ [] (ap not room) ∙ none-left refuses _) ∙ event
 
     areas : (sizes.terminalArea ≤ length t) × (sizes.messageArea ≤ length m)
     areas = let h = halves _ _ room in (leb-true _ _ (h .0), leb-true _ _ (h .1))
@@ -100,5 +99,5 @@ refused e l t m n b h {r} k =
 
 -- row 1: an area too small
 pub cramped : (e : Event ℕ) (l : Line) (t m : List ℕ) → areRoomy (length t) (length m) ≡ false → ruled e l t m ≡ refuses sizes.smallArea (view l)
-unfolding answer isRoomy
-cramped e l t m h = ap (λ (f : State ℕ → rules.Answer ℕ). f (view l)) (pick-false _ _ h)
+unfolding answer
+cramped e l t m h = ap (λ (f : State ℕ → rules.Answer ℕ). f (view l)) (row-applies refuses _ _ [] (ap not h))

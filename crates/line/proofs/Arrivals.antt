@@ -86,7 +86,8 @@ withCount n t = record { screen = t .screen; discarding = t .discarding; quoting
 
 pub count-does : (w : Work) {v : Work} (n : ℕ) → n ≡ min topDropped (w .flow .terminal .dropped + 1) →
     v ≡ goesOn (onTerminal (withCount n (w .flow .terminal)) (w .flow)) w → (l : Line) (t m : List ℕ) →
-    Does (changes (λ s. withTerminal (withDropped (min topDropped (s .terminal .dropped + 1)) (s .terminal)) s)) (on l w) t m (on l v) t m
+    Does rules.countsDropped (on l w) t m (on l v) t m
+unfolding rules.countsDropped
 count-does w n e h l t m =
     terminal-does w (withCount n (w .flow .terminal)) h (λ x. withDropped (min topDropped (x .dropped + 1)) x)
     (λ i. withDropped (e i) (terminalOf (w .flow .terminal))) l t m

@@ -3,20 +3,20 @@ use mathlib.Core.Path.{_≡_, refl, sym, ap, _∙_}
 use Prim.Native.Nat.{ℕ}
 use native.Mathlib.Omega.{arith}
 use mathlib.Core.Bool.{Bool, true, false, not}
-use mathlib.Core.List.{List}
+use mathlib.Core.List.{List, [], _∷_}
 use lib.ListN.{length}
-use Rattle.rules.specs.Choice.{pick}
-use Rattle.rules.specs.Numbers.{accepted, smallArea, wrongLength, wrongType, wrongTime, notCarried}
+use Rattle.rules.specs.Choice.{pick, Row, _when_, firstOf}
+use Rattle.rules.specs.Numbers.{accepted, smallArea, wrongLength, wrongType, wrongTime, unsound, notCarried}
 use Rattle.rules.specs.Messages.Forms as forms
 use Rattle.rules.specs.Messages.Codec as codec
-use Rattle.rules.specs.Messages.Codec.{Outcome, refused, sound, definedKind, allBytes, fieldsAs, read}
+use Rattle.rules.specs.Messages.Codec.{Outcome, refused, sound, soundLength, definedKind, allBytes, fieldsAs, read}
 use Rattle.rules.specs.State.{Reading, State, codes}
 use Rattle.rules.specs.Calls as rules
-use Rattle.rules.specs.Calls.{Answer, isPending, isServers, isCarriedBy, judged, considered, refuses, isRoomy, hears, answers, answer}
-use Rattle.rules.proofs.Tests.{pick-true, pick-false, halves}
+use Rattle.rules.specs.Calls.{Answer, areRoomy, isPending, isServers, isHosts, isRefused, isCarriedBy, carries, refusals, considered, refuses, hears, answers, answer}
+use Rattle.rules.proofs.Tests.{none-left, row-applies, row-passed, halves}
 use borrow.Author.Tests.{not-true}
 use Rattle.rules.specs.Messages.Layout.{byteAt}
-use Rattle.rules.proofs.Outcomes.{refused-sound, sound-same, readable}
+use Rattle.rules.proofs.Outcomes.{refused-sound, sound-same, refused-same, readable, read-refused}
 use Rattle.message.specs.declared.Message.{Message}
 use Rattle.message.specs.declared.Message.the-variants as found-message
 use Rattle.message.specs.declared.Found.the-variants as found
@@ -24,7 +24,7 @@ use Rattle.message.specs.Found.{heldIn, asHeld, foundIn}
 use Rattle.line.specs.declared.Line.{Line}
 use Rattle.line.specs.View.{pendingOf, view}
 use Rattle.line.specs.Answers.{ruled}
-use Rattle.line.specs.Rows.{areRoomy, isHosts, firstRow, earlyRow}
+use Rattle.line.specs.Rows.{firstRow, earlyRow}
 use Rattle.line.specs.HostMessages.{messageOf, senderOf, Accepted}
 use Rattle.line.specs.declared.events.HostMessage.{HostMessage}
 use Rattle.line.specs.declared.events.Sender.the-variants as sender
@@ -34,86 +34,105 @@ unfolding isPending
 is-pending true r = refl
 is-pending false r = refl
 
--- The tests of the early rows, as outcomes.
-abbrev outcomeOf : Bool → Bool → Bool → Outcome (forms.Message ℕ) → Outcome (forms.Message ℕ)
-outcomeOf long hosts timely o =
-    pick long (pick hosts (pick timely o (refused wrongTime)) (refused wrongType)) (refused wrongLength)
+-- rows 5 and 6, of what was read
+abbrev lateRows : State ℕ → Outcome (forms.Message ℕ) → List Row
+lateRows s o = unsound when isRefused o ∷ notCarried when not (carries s o) ∷ []
+
+abbrev late : State ℕ → Outcome (forms.Message ℕ) → Outcome (forms.Message ℕ)
+late s o = firstOf refused o (lateRows s o)
+
+-- all rows behind row 1, by the tests of those before a message is read
+abbrev behindFirst : Bool → Bool → Bool → State ℕ → Outcome (forms.Message ℕ) → Outcome (forms.Message ℕ)
+behindFirst sized hosts timely s o =
+    firstOf refused o
+    (wrongLength when not sized ∷ wrongType when not hosts ∷ wrongTime when not timely ∷ lateRows s o)
 
 module _ (s : State ℕ) (o : Outcome (forms.Message ℕ)) where
-  refused-early : (roomy long hosts timely : Bool) (f : State ℕ → Answer ℕ) → f s ≡ hears codes (outcomeOf long hosts timely o) s →
-      (firstRow roomy long hosts timely ≡ accepted → ⊥) → pick roomy f (refuses smallArea) s ≡ refuses (firstRow roomy long hosts timely) s
-  unfolding firstRow pick hears
-  refused-early false long hosts timely f e h = refl
+  refused-early : (roomy sized hosts timely : Bool) (f : State ℕ → Answer ℕ) → f s ≡ hears codes (behindFirst sized hosts timely s o) s →
+      (firstRow roomy sized hosts timely ≡ accepted → ⊥) →
+      firstOf refuses f (smallArea when not roomy ∷ []) s ≡ refuses (firstRow roomy sized hosts timely) s
+  unfolding firstRow firstOf pick hears
+  refused-early false sized hosts timely f e h = refl
   refused-early true false hosts timely f e h = e
   refused-early true true false timely f e h = e
   refused-early true true true false f e h = e
   refused-early true true true true f e h = absurd (h refl)
 
-  passed-early : (roomy long hosts timely : Bool) → firstRow roomy long hosts timely ≡ accepted →
-      (roomy ≡ true) × (outcomeOf long hosts timely o ≡ o) × (hosts ≡ true)
-  unfolding firstRow pick
-  passed-early false long hosts timely e = absurd (omega arith)
+  passed-early : (roomy sized hosts timely : Bool) → firstRow roomy sized hosts timely ≡ accepted →
+      (roomy ≡ true) × (behindFirst sized hosts timely s o ≡ late s o) × (hosts ≡ true) × (sized ≡ true)
+  unfolding firstRow firstOf pick
+  passed-early false sized hosts timely e = absurd (omega arith)
   passed-early true false hosts timely e = absurd (omega arith)
   passed-early true true false timely e = absurd (omega arith)
   passed-early true true true false e = absurd (omega arith)
-  passed-early true true true true e = (refl, refl, refl)
+  passed-early true true true true e = (refl, refl, refl, refl)
 
 module _ (l : Line) (t m bytes : List ℕ) {row : ℕ} (e : row ≡ earlyRow (length t) (length m) bytes (view l)) where
   pub early-refused : (row ≡ 0 → ⊥) → ruled (rules.message bytes) l t m ≡ refuses row (view l)
-  unfolding answer isRoomy answers considered isHosts
+  unfolding answer answers considered refusals
   early-refused h =
-      refused-early (view l) (judged (view l) (read bytes)) _ _ _ _ _ refl (λ k. h (e ∙ k)) ∙ ap (λ n. refuses n (view l)) (sym e)
+      refused-early (view l) (read bytes) _ _ _ _ _ refl (λ k. h (e ∙ k)) ∙ ap (λ n. refuses n (view l)) (sym e)
 
   pub early-passed : row ≡ 0 →
-      (areRoomy (length t) (length m) ≡ true) × (considered (view l) bytes ≡ judged (view l) (read bytes)) × (isHosts (byteAt bytes 0) ≡ true)
-  unfolding considered isHosts
-  early-passed h = passed-early (view l) (judged (view l) (read bytes)) _ _ _ _ (sym e ∙ h)
+      (areRoomy (length t) (length m) ≡ true) × (considered (view l) bytes ≡ late (view l) (read bytes)) × (isHosts (byteAt bytes 0) ≡ true) ×
+      (soundLength (length bytes) ≡ true)
+  unfolding considered refusals
+  early-passed h = passed-early (view l) (read bytes) _ _ _ _ (sym e ∙ h)
 
   -- 5, and 6
   module _ (h : row ≡ 0) {n : ℕ} where
-    pub outcome-refused : judged (view l) (read bytes) ≡ refused n → ruled (rules.message bytes) l t m ≡ refuses n (view l)
-    unfolding answer isRoomy answers hears
+    pub outcome-refused : late (view l) (read bytes) ≡ refused n → ruled (rules.message bytes) l t m ≡ refuses n (view l)
+    unfolding answer answers hears
     outcome-refused k =
         let p = early-passed h in
-        ap (λ (f : State ℕ → Answer ℕ). f (view l)) (pick-true _ _ (p .0)) ∙ ap (λ o. hears codes o (view l)) (p .1 ∙ k)
-
-refused-same : {A : Type 0} {k n : ℕ} → _≡_ {A = Outcome A} (refused k) (refused n) → k ≡ n
-refused-same e = cc
+        ap (λ (f : State ℕ → Answer ℕ). f (view l)) (row-passed refuses _ _ [] (ap not (p .0)) ∙ none-left refuses _) ∙
+        ap (λ o. hears codes o (view l)) (p .1 ∙ k)
 
 -- What reading found is what the rules read.
 module _ (l : Line) (bytes : List ℕ) where
-  judges-number : (o : Outcome (forms.Message ℕ)) {n : ℕ} → refused n ≡ asHeld o → judged (view l) o ≡ refused n
-  unfolding asHeld judged
-  judges-number (refused k) e = ap refused (sym (refused-same e))
-  judges-number (sound x) e = absurd (refused-sound e)
+  -- 5: behind rows 2 and 3 reading refuses for nothing else
+  module _ (sized : soundLength (length bytes) ≡ true) (hosts : isHosts (byteAt bytes 0) ≡ true) where
+    refuses-number : (o : Outcome (forms.Message ℕ)) {n : ℕ} → read bytes ≡ o → refused n ≡ asHeld o → late (view l) o ≡ refused n
+    unfolding asHeld isHosts isRefused
+    refuses-number (refused k) r e =
+        let kind = halves (definedKind (byteAt bytes 0)) (not (isServers (byteAt bytes 0))) hosts .0 in
+        row-applies refused (refused k) (unsound when true) _ refl ∙
+        ap refused (sym (read-refused bytes sized kind r) ∙ sym (refused-same e))
+    refuses-number (sound x) r e = absurd (refused-sound e)
 
-  pub found-refused : {n : ℕ} → foundIn bytes (found.Refused n) ≡ asHeld (read bytes) → judged (view l) (read bytes) ≡ refused n
-  unfolding foundIn
-  found-refused e = judges-number (read bytes) e
+    pub found-refused : {n : ℕ} → foundIn bytes (found.Refused n) ≡ asHeld (read bytes) → late (view l) (read bytes) ≡ refused n
+    unfolding foundIn
+    found-refused e = refuses-number (read bytes) refl e
 
-  module _ (m : Message) (h : HostMessage) (sent : m ≡ messageOf h) {carries : Bool} (found : foundIn bytes (found.Message m) ≡ asHeld (read bytes))
-      (judges : (x : forms.Message ℕ) → heldIn bytes (messageOf h) ≡ codec.message x → carries ≡ isCarriedBy (view l) x) where
-    judge : (x : forms.Message ℕ) → heldIn bytes m ≡ codec.message x → carries ≡ isCarriedBy (view l) x
+  module _ (m : Message) (h : HostMessage) (sent : m ≡ messageOf h) {carry : Bool} (found : foundIn bytes (found.Message m) ≡ asHeld (read bytes))
+      (judges : (x : forms.Message ℕ) → heldIn bytes (messageOf h) ≡ codec.message x → carry ≡ isCarriedBy (view l) x) where
+    judge : (x : forms.Message ℕ) → heldIn bytes m ≡ codec.message x → carry ≡ isCarriedBy (view l) x
     judge x e = judges x (ap (heldIn bytes) (sym sent) ∙ e)
 
-    judges-carried : carries ≡ false → (o : Outcome (forms.Message ℕ)) → sound (heldIn bytes m) ≡ asHeld o → judged (view l) o ≡ refused notCarried
-    unfolding asHeld judged
-    judges-carried e (refused n) h = absurd (refused-sound (sym h))
-    judges-carried e (sound x) h = pick-false _ _ (sym (judge x (sound-same h)) ∙ e)
+    refuses-carrying : carry ≡ false → (o : Outcome (forms.Message ℕ)) → sound (heldIn bytes m) ≡ asHeld o → late (view l) o ≡ refused notCarried
+    unfolding asHeld carries isRefused
+    refuses-carrying e (refused n) h = absurd (refused-sound (sym h))
+    refuses-carrying e (sound x) h =
+        row-passed refused (sound x) (unsound when false) _ refl ∙
+        row-applies refused (sound x) _ [] (ap not (sym (judge x (sound-same h)) ∙ e))
 
-    pub not-carried : carries ≡ false → judged (view l) (read bytes) ≡ refused notCarried
+    pub not-carried : carry ≡ false → late (view l) (read bytes) ≡ refused notCarried
     unfolding foundIn
-    not-carried e = judges-carried e (read bytes) found
+    not-carried e = refuses-carrying e (read bytes) found
 
-    module _ (e : carries ≡ true) (small : allBytes bytes ≡ true) (passed : considered (view l) bytes ≡ judged (view l) (read bytes)) where
+    module _ (e : carry ≡ true) (small : allBytes bytes ≡ true) (passed : considered (view l) bytes ≡ late (view l) (read bytes)) where
       accepts : (o : Outcome (forms.Message ℕ)) → read bytes ≡ o → sound (heldIn bytes m) ≡ asHeld o → Accepted l bytes h
-      unfolding asHeld judged
+      unfolding asHeld carries isRefused
       accepts (refused n) r k = absurd (refused-sound (sym k))
       accepts (sound x) r k =
           record {
             fields = x;
             held = ap (heldIn bytes) (sym sent) ∙ sound-same k;
-            taken = passed ∙ ap (judged (view l)) r ∙ pick-true _ _ (sym (judge x (sound-same k)) ∙ e);
+            taken =
+                passed ∙ ap (late (view l)) r ∙
+                row-passed refused (sound x) (unsound when false) _ refl ∙
+                row-passed refused (sound x) _ [] (ap not (sym (judge x (sound-same k)) ∙ e)) ∙
+                none-left refused (sound x);
             bytes = small;
           }
 

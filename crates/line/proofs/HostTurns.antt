@@ -14,14 +14,15 @@ use Rattle.rules.specs.Turns.{Part, still, sends, _then_}
 use Rattle.rules.specs.StartRead.Acceptance as rules
 use Rattle.rules.specs.Characteristics.{withParameters, report}
 use Rattle.rules.specs.Host.{ourInitiate, initiates, reports, setsCharacteristics, obeys}
-use Rattle.rules.specs.Calls.{isTimely, isPending, carriesQuestions, considered, messageBytes}
+use Rattle.rules.specs.Calls.{areRoomy, isTimely, isPending, carriesQuestions, refusals, considered, messageBytes}
 use Rattle.rules.specs.Area.{puts, spot}
 use Rattle.rules.specs.Messages.Codec as codec
-use Rattle.rules.specs.Messages.Codec.{Held, fieldsAs}
+use Rattle.rules.specs.Messages.Codec.{Held, refused, fieldsAs, read}
 use Rattle.rules.specs.Messages.Layout.{byteAt}
 use Rattle.rules.proofs.Outcomes.{refused-sound, readable}
+use borrow.Author.Tests.{not-false}
 use Rattle.rules.proofs.Bounds.Calls.{considered-sound}
-use Rattle.rules.proofs.Tests.{pick-true, pick-false, pick-first}
+use Rattle.rules.proofs.Tests.{pick-true, pick-false, row-behind}
 use Rattle.message.specs.declared.Part as Part
 use Rattle.message.specs.Lists.{parametersFrom}
 use Rattle.message.specs.declared.StartReadFields.{StartReadFields}
@@ -42,7 +43,6 @@ use Rattle.line.specs.Events.{eventPart, eventOf}
 use Rattle.line.specs.declared.acts.Act.{Act}
 use Rattle.line.specs.declared.acts.Act.the-variants.{Obeys}
 use Rattle.line.specs.Acts.{Done}
-use Rattle.line.specs.Rows.{areRoomy}
 use Rattle.line.specs.Answers.{Answers, doneAnswer}
 use Rattle.rules.specs.Calls as calls
 use Rattle.line.specs.Bounded.{Counted, CountedFlow, Bounded}
@@ -109,14 +109,14 @@ set-counted s l next CheckInput c e = subst Counted (sym e) c
 -- A Start Read comes with no read pending.
 module _ (l : Line) (s : List ℕ) (f : StartReadFields) (a : Accepted l s (StartRead f)) where
   start-timely : isTimely forms.startRead (view l) ≡ true
-  unfolding considered heldIn startReadIn fieldsAs
+  unfolding considered refusals heldIn startReadIn fieldsAs
   start-timely =
-      let long = pick-first _ refused-sound (a .taken) in
-      let kind = pick-first _ refused-sound (long .1) in
-      let time = pick-first _ refused-sound (kind .1) in
+      let sized = row-behind refused (read s) _ _ refused-sound (a .taken) in
+      let kind = row-behind refused (read s) _ _ refused-sound (sized .1) in
+      let time = row-behind refused (read s) _ _ refused-sound (kind .1) in
       let fields = readable s (a .fields) (considered-sound (view l) s (a .fields) (a .taken) .0) .fields in
       let same : byteAt s 0 ≡ forms.startRead = ap (λ x. x .kind) fields ∙ sym (ap held-kind (a .held)) in
-      ap (λ k. isTimely k (view l)) (sym same) ∙ time .0
+      ap (λ k. isTimely k (view l)) (sym same) ∙ not-false (isTimely (byteAt s 0) (view l)) (time .0)
 
   no-read : l .flow .pending ≡ false
   unfolding isTimely isPending

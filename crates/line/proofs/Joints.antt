@@ -10,11 +10,11 @@ use Rattle.rules.specs.Choice.{pick, bit, isEmpty, joined}
 use Rattle.rules.specs.Numbers.{inputSize, tokenSize}
 use Rattle.rules.specs.Area.{puts, spot}
 use Rattle.rules.specs.State as rules
-use Rattle.rules.specs.State.{codes, withTyped, withRead, withFrom, withIdle}
+use Rattle.rules.specs.State.{codes, withTyped, withToken, withRead, withFrom, withIdle}
 use Rattle.rules.specs.Screen.{shownAll, change}
 use Rattle.rules.specs.Turns.{Part, still, writes, changes, behind, _then_, only}
 use Rattle.rules.specs.Token.{isWhole}
-use Rattle.rules.specs.ReadData.{moreData, answerOf, completes}
+use Rattle.rules.specs.ReadData.{endsRead, moreData, answerOf, completes}
 use Rattle.rules.specs.Calls.{messageBytes}
 use Rattle.rules.specs.Messages.Codec as codec
 use Rattle.rules.specs.Messages.Forms as forms
@@ -127,7 +127,8 @@ module _ (w : Work) {v : Work} where
     read-does l {e} same t m =
         goes-does l (withRead (some e)) h (λ i. withRead (some (same i)) (view (onFlow (w .flow) l))) t m
 
-  pub off-does : v ≡ goesOn (offRead (w .flow)) w → (l : Line) (t m : List ℕ) → Does (changes (withRead none)) (on l w) t m (on l v) t m
+  pub off-does : v ≡ goesOn (offRead (w .flow)) w → (l : Line) (t m : List ℕ) → Does endsRead (on l w) t m (on l v) t m
+  unfolding endsRead
   off-does h l t m = goes-does l (withRead none) h refl t m
 
   -- with another token, and the keys that wait
@@ -137,19 +138,19 @@ module _ (w : Work) {v : Work} where
 
     -- without the token
     pub cleared-does : next ≡ untokened (w .flow .typed) → (l : Line) (t m : List ℕ) →
-        Does (changes (withTyped (keysOf (w .flow .typed .waiting) (l .keys)) [])) (on l w) t m (on l v) t m
+        Does (changes (withToken [])) (on l w) t m (on l v) t m
     unfolding tokenOf
     cleared-does e l t m =
-        goes-does l (withTyped (keysOf (w .flow .typed .waiting) (l .keys)) [])
+        goes-does l (withToken [])
         (h ∙ ap (λ n. goesOn (onTyped n (w .flow)) w) e) refl t m
 
     -- one byte more in it
     pub tokened-does : (b : ℕ) → CountedTyped (w .flow .typed) → w .flow .typed .«token_len» < tokenSize → next ≡ tokened b (w .flow .typed) →
         (l : Line) (t m : List ℕ) →
-        Does (changes (λ s. withTyped (s .typed .typeAhead) (s .typed .token ++ b ∷ []) s)) (on l w) t m (on l v) t m
+        Does (changes (λ s. withToken (s .typed .token ++ b ∷ []) s)) (on l w) t m (on l v) t m
     tokened-does b c room e l t m =
         let typed = w .flow .typed in
-        goes-does l (λ s. withTyped (s .typed .typeAhead) (s .typed .token ++ b ∷ []) s)
+        goes-does l (λ s. withToken (s .typed .token ++ b ∷ []) s)
         (h ∙ ap (λ n. goesOn (onTyped n (w .flow)) w) e)
         (λ i. withTyped (keysOf (typed .waiting) (l .keys)) (tokened-token typed c b room i) (view (onFlow (w .flow) l))) t m
 

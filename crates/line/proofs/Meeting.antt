@@ -9,13 +9,12 @@ use Rattle.rules.specs.Choice.{pick}
 use Rattle.rules.specs.State as rules
 use Rattle.rules.specs.Turns.{Fate, Part, tells, changes, behind, _then_}
 use Rattle.rules.specs.Area.{puts, spot}
-use Rattle.rules.specs.Calls.{messageBytes}
+use Rattle.rules.specs.Calls.{areRoomy, messageBytes}
 use Rattle.line.specs.declared.Line.{Line}
 use Rattle.line.specs.declared.acts.Act.{Act}
 use Rattle.line.specs.declared.events.Event.{Event}
 use Rattle.line.specs.declared.events.Seen.{Seen}
 use Rattle.line.specs.Events.{Admitted, Sees, eventPart, eventOf}
-use Rattle.line.specs.Rows.{areRoomy}
 use Rattle.line.specs.Answers.{Answers, doneAnswer}
 use Rattle.line.specs.Bounded.{Counted, Bounded}
 use Rattle.line.proofs.Evented.{event-answers, event-bytes}

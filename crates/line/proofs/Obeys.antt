@@ -2,23 +2,17 @@
 use mathlib.Core.Path.{_≡_, refl, sym, ap, ap₂}
 use Prim.Native.Nat.{ℕ, _+_}
 use native.Mathlib.Omega.{arith}
-use mathlib.Core.Bool.{false, not, _&&_}
+use mathlib.Core.Bool.{not, _&&_}
 use mathlib.Core.List.{List, [], _∷_}
 use lib.Dec.{eqb}
 use lib.ListN.{length}
 use borrow.Author.Tests.{ne-eqb}
 use Rattle.rules.specs.Choice.{isEmpty}
-use Rattle.rules.specs.State.{withTerminal, withDiscarding}
-use Rattle.rules.specs.Messages.Forms.{Message}
-use Rattle.rules.specs.Turns.{writes, sends, changes, _then_, only}
 use Rattle.rules.specs.ReadData.{waitingCount}
-use Rattle.rules.specs.Host.{keepsOutput, wantsCompletion, completion, writesOut}
 use Rattle.line.specs.declared.Typed.{Typed}
 use Rattle.line.specs.declared.Flow.{Flow}
-use Rattle.line.specs.View.{view, keysOf, tokenOf, typedOf, inputOf}
+use Rattle.line.specs.View.{keysOf, tokenOf, typedOf, inputOf}
 use Rattle.line.specs.Bounded.{CountedTyped, CountedFlow, CountedReading}
-use Rattle.line.specs.Promise.{Progress, Does}
-use Rattle.line.proofs.Works.{then-does, here-does}
 use Rattle.line.proofs.KeyArrays.{keys-length, keys-empty}
 use Rattle.line.proofs.Held.{empty-take, token-counted}
 use Rattle.line.proofs.Appends.{input-empty}
@@ -42,17 +36,3 @@ pub some-text : (text : List ℕ) → not (eqb (length text) 0) ≡ not (isEmpty
 unfolding isEmpty
 some-text [] = refl
 some-text (b ∷ bs) = ap not (ne-eqb (length (b ∷ bs)) 0 (λ e. omega arith))
-
--- the three parts of a Write
-module _ (x : Message ℕ) {w v u r : Progress} {t t′ m m′ : List ℕ} where
-  pub writes-out-does : Does (only (eqb (keepsOutput x) 1) (changes (λ s. withTerminal (withDiscarding false (s .terminal)) s))) w t m v t m →
-      Does (λ s. only (not (s .terminal .discarding)) (writes (x .text)) s) v t m u t′ m →
-      Does (only (eqb (wantsCompletion x) 1) (λ s. sends (completion x (view (w .line)) s) s)) u t′ m r t′ m′ →
-      Does (writesOut x) w t m r t′ m′
-  unfolding writesOut
-  writes-out-does a b c =
-      here-does (λ before.
-      only (eqb (keepsOutput x) 1) (changes (λ s. withTerminal (withDiscarding false (s .terminal)) s)) then
-      (λ s. only (not (s .terminal .discarding)) (writes (x .text)) s) then
-      only (eqb (wantsCompletion x) 1) (λ s. sends (completion x before s) s))
-      (then-does a (then-does b c))

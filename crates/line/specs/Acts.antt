@@ -3,15 +3,15 @@ use Prim.Native.Nat.{ℕ, _<_}
 use mathlib.Core.Path.{_≡_}
 use mathlib.Core.Bool.{false}
 use mathlib.Core.List.{List}
-use mathlib.Core.Option.{some}
 use lib.ListN.{length, drop}
 use Rattle.rules.specs.Numbers.{typeAheadSize, tokenSize}
 use Rattle.rules.specs.State as rules
-use Rattle.rules.specs.State.{State, codes, withTyped, withRead, withIdle}
+use Rattle.rules.specs.State.{State, codes, withIdle}
 use Rattle.rules.specs.Turns.{Turn, Part, still, changes, _then_}
 use Rattle.rules.specs.ReadData.{byTimeout, completes}
 use Rattle.rules.specs.Arrival.{stores, storesQuoted, sendsOutOfBand, clearsAtOnce, quotes, clears, flipsDiscard}
-use Rattle.rules.specs.Steps.{takesToken, addsToToken, terminates, edits, takesData}
+use Rattle.rules.specs.Steps as steps
+use Rattle.rules.specs.Steps.{takesToken, addsToToken, terminates, edits, takesData, setsIdle}
 use Rattle.rules.specs.Calls.{messageBytes}
 use Rattle.message.specs.Found.{heldIn}
 use Rattle.line.specs.declared.Terms.{Terms}
@@ -35,10 +35,9 @@ use Rattle.line.specs.HostMessages.{messageOf, Accepted, obeysHeld, flow
 abbrev pub idleAtZero : Line → rules.Reading ℕ
 idleAtZero l = withIdle 0 (readingOf l (l .flow .reading))
 
--- what `takesFirst` changes before the key's rule: the first key is gone from type-ahead, and idle is 0
+-- what `takesFirst` changes before the key's rule: the first key of this line is taken
 abbrev pub keyTaken : Line → State ℕ → State ℕ
-keyTaken l s =
-    withRead (some (idleAtZero l)) (withTyped (drop 1 (keysOf (l .flow .typed .waiting) (l .keys))) (s .typed .token) s)
+keyTaken l = steps.keyTaken (drop 1 (keysOf (l .flow .typed .waiting) (l .keys))) (readingOf l (l .flow .reading))
 
 abbrev pub takesKey : Line → Part ℕ
 takesKey l = changes (keyTaken l)
@@ -64,7 +63,7 @@ actPart s l FlipsDiscard = flipsDiscard 15
 actPart s l TakesToken = takesToken codes (readingOf l (l .flow .reading))
 actPart s l (Takes k) = takesKey l then takenPart k (idleAtZero l)
 actPart s l TimesOut = completes codes byTimeout 0 (readingOf l (l .flow .reading))
-actPart s l (Idles idle) = changes (withRead (some (withIdle idle (readingOf l (l .flow .reading)))))
+actPart s l (Idles idle) = setsIdle idle (readingOf l (l .flow .reading))
 actPart s l (Obeys m) = obeysHeld (heldIn s (messageOf m))
 
 -- a key can be taken: one waits, a read has room for it, and so has a token that is begun

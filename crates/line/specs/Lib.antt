@@ -8,7 +8,6 @@ pub mod ReadingParts
 pub mod Starts
 pub mod HostMessages
 pub mod Acts
-pub mod StepParts
 pub mod Events
 pub mod Rows
 pub mod Answers

@@ -2,16 +2,13 @@
 use Prim.Native.Nat.{ℕ, _+_, _-_, _≤_, _<_}
 use mathlib.Core.Path.{_≡_}
 use mathlib.Core.Bool.{Bool, not}
-use mathlib.Core.List.{List, []}
-use mathlib.Core.Option.{some}
+use mathlib.Core.List.{List}
 use lib.ListN.{length, take, drop}
 use Rattle.rules.specs.Numbers.{inputSize}
 use Rattle.rules.specs.Choice.{pick}
 use Rattle.rules.specs.State as rules
 use Rattle.rules.specs.Editing.{isWord, leftBy23, inputCodes, displayed, shortened}
 use Rattle.rules.specs.Steps.{appended}
-use Rattle.rules.specs.Screen.{echoAll}
-use Rattle.rules.specs.Turns.{Part, writes, changes, _then_}
 use Rattle.line.specs.declared.Terms.{Terms}
 use Rattle.line.specs.declared.Reading.{Reading}
 use Rattle.line.specs.declared.Line.{Line}
@@ -58,10 +55,3 @@ idling idle r =
 abbrev pub shownAt : ℕ → Reading → Reading
 shownAt column r =
     record { count = r .count; «low_water» = r .«low_water»; hidden = r .hidden; from = column; idle = r .idle }
-
--- what follows the prompt is displayed
-unfoldable pub displaysData : rules.Reading ℕ → Part ℕ
-displaysData r s =
-    (changes (rules.withRead (some (rules.withFrom (s .terminal .screen .column) r))) then
-    writes (pick (r .terms .echoes) (echoAll (s .terminal .screen .column) (displayed rules.codes r)) []))
-    s

@@ -1,31 +1,28 @@
--- Row 1, which every call decides, and the rows that a host message's call decides before it reads the message.
+-- The rows of the table of refusals that are decided before a message is read, as numbers: row 1 for every call, 2 to 4 for a host message.
 use Prim.Native.Nat.{ℕ}
-use mathlib.Core.Bool.{Bool, not, _&&_}
-use mathlib.Core.List.{List}
-use lib.Dec.{leb}
+use mathlib.Core.Bool.{Bool, not}
+use mathlib.Core.List.{List, [], _∷_}
 use lib.ListN.{length}
-use Rattle.rules.specs.Choice.{pick}
-use Rattle.rules.specs.Numbers.{terminalArea, messageArea, accepted, smallArea, wrongLength, wrongType, wrongTime}
+use Rattle.rules.specs.Choice.{_when_, firstOf}
+use Rattle.rules.specs.Numbers.{accepted, smallArea, wrongLength, wrongType, wrongTime}
 use Rattle.rules.specs.Messages.Layout.{byteAt}
-use Rattle.rules.specs.Messages.Codec.{soundLength, definedKind}
+use Rattle.rules.specs.Messages.Codec.{soundLength}
 use Rattle.rules.specs.State.{State}
-use Rattle.rules.specs.Calls.{isServers, isTimely}
-
-abbrev pub areRoomy : ℕ → ℕ → Bool
-areRoomy terminal messages = leb terminalArea terminal && leb messageArea messages
+use Rattle.rules.specs.Calls.{areRoomy, isHosts, isTimely}
 
 -- row 1, or 0 where it does not apply
 unfoldable pub rowOf : Bool → ℕ
-rowOf roomy = pick roomy accepted smallArea
+rowOf roomy = firstOf (λ n. n) accepted (smallArea when not roomy ∷ [])
 
--- a type that a host sends
-unfoldable pub isHosts : ℕ → Bool
-isHosts kind = definedKind kind && not (isServers kind)
-
--- 1 to 4 in the table's order, or 0, by the tests that a call passes
+-- rows 1 to 4, or 0, by the tests that a call passes
 unfoldable pub firstRow : Bool → Bool → Bool → Bool → ℕ
-firstRow roomy long hosts timely =
-    pick roomy (pick long (pick hosts (pick timely accepted wrongTime) wrongType) wrongLength) smallArea
+firstRow roomy sized hosts timely =
+    firstOf (λ n. n) accepted
+    (smallArea when not roomy ∷
+    wrongLength when not sized ∷
+    wrongType when not hosts ∷
+    wrongTime when not timely ∷
+    [])
 
 abbrev pub earlyRow : ℕ → ℕ → List ℕ → State ℕ → ℕ
 earlyRow terminal messages bytes s =

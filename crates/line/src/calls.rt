@@ -1,9 +1,9 @@
 // The calls: each makes an event; the act that it meets is chosen and done, and the flow put back.
 ghost use mathlib.Core.Path.{_≡_};
 ghost use Rattle.rules.specs.Calls as rules;
+ghost use Rattle.rules.specs.Calls.{areRoomy};
 ghost use Rattle.line.specs.Bounded.{Bounded};
 ghost use Rattle.line.specs.HostMessages.{Accepted};
-ghost use Rattle.line.specs.Rows.{areRoomy};
 ghost use Rattle.line.specs.Answers.{Answers};
 ghost use lib.ListN.{length};
 ghost use mathlib.Core.Bool.{true};

@@ -9,7 +9,6 @@ ghost use Rattle.line.specs.declared.Line.{Line};
 ghost use Rattle.line.specs.View.{readingOf};
 ghost use Rattle.line.specs.Bounded.{CountedFlow, CountedReading};
 ghost use Rattle.line.specs.With.{lent};
-ghost use Rattle.line.specs.ReadingParts.{displaysData};
 ghost use Rattle.line.specs.Promise.{DoesOn};
 use crate::Reading;
 use crate::Terms;
@@ -59,7 +58,7 @@ impl Work {
         requires { ⌜ CountedFlow (self .flow) ⌝ }
         requires { ⌜ CountedReading r (now text) ⌝ }
         ensures counted { λ w. ⌜ CountedFlow (w .flow) ⌝ }
-        ensures rule { λ w. ⌜ ((l : Line) (m : List ℕ) → DoesOn (λ k. displaysData (readingOf k r)) (lent t (now (text .entry)) l) self (now (terminal .entry)) m w (now (terminal .exit)) m) ⌝ }
+        ensures rule { λ w. ⌜ ((l : Line) (m : List ℕ) → DoesOn (λ k. rules.displaysData codes (readingOf k r)) (lent t (now (text .entry)) l) self (now (terminal .entry)) m w (now (terminal .exit)) m) ⌝ }
     {
         let flow = self.flow;
         let known = flow.terminal;

@@ -5,7 +5,6 @@ ghost use mathlib.Core.Bool.{true, false};
 ghost use lib.ListN.{length};
 ghost use mathlib.Core.List.{List};
 ghost use Rattle.rules.specs.State.{codes};
-ghost use Rattle.rules.specs.Turns.{sends};
 ghost use Rattle.rules.specs.Messages.Codec as codec;
 ghost use Rattle.rules.specs.ReadData as rules;
 ghost use Rattle.message.specs.Found.{heldIn};
@@ -85,7 +84,8 @@ impl Work {
         })
     }
 
-    fn answers(
+    // Read Data.
+    fn sends_read_data(
         self,
         messages: &mut [u8],
         code: u8,
@@ -98,13 +98,13 @@ impl Work {
         requires { ⌜ CountedReading r (now text) ⌝ }
         requires { ⌜ ending ≤ r .count ⌝ }
         ensures counted { λ w. ⌜ CountedFlow (w .flow) ⌝ }
-        ensures rule { λ w. ⌜ ((k l : Line) (a : List ℕ) → Does (λ s. sends (rules.answerOf codes code ending (readingOf (lent t (now (text .entry)) l) r) s) s) (on k self) a (now (messages .entry)) (on k w) a (now (messages .exit))) ⌝ }
+        ensures rule { λ w. ⌜ ((k l : Line) (a : List ℕ) → Does (rules.sendsReadData codes code ending (readingOf (lent t (now (text .entry)) l) r)) (on k self) a (now (messages .entry)) (on k w) a (now (messages .exit))) ⌝ }
     {
         let message = self.answer(code, ending, r, t);
         self.send(messages, message, text)
     }
 
-    // Read Data with this code; so many characters at the end are a terminator, token or underflow code.
+    // The read completes with this code; so many characters at the end are a terminator, token or underflow code.
     pub(crate) fn completes(
         self,
         messages: &mut [u8],
@@ -122,7 +122,7 @@ impl Work {
         ensures ended { λ w. ⌜ w .flow .pending ≡ false ⌝ }
     {
         let ready = self.loses_partial();
-        let answered = ready.answers(messages, code, ending, r, text, t);
+        let answered = ready.sends_read_data(messages, code, ending, r, text, t);
         answered.without_read()
     }
 }

@@ -1,13 +1,11 @@
 // Write.
 ghost use Prim.Native.Nat.{ℕ};
 ghost use mathlib.Core.Path.{_≡_};
-ghost use mathlib.Core.Bool.{false, not};
+ghost use mathlib.Core.Bool.{not};
 ghost use mathlib.Core.List.{List};
-ghost use lib.Dec.{eqb};
-ghost use Rattle.rules.specs.State.{State, withTerminal, withDiscarding};
+ghost use Rattle.rules.specs.State.{State};
 ghost use Rattle.rules.specs.Messages.Forms as forms;
 ghost use Rattle.rules.specs.Choice.{isEmpty};
-ghost use Rattle.rules.specs.Turns.{writes, changes, sends, only};
 ghost use Rattle.rules.specs.Host as rules;
 ghost use Rattle.message.specs.Found.{writeIn};
 ghost use Rattle.screen.specs.View as screen;
@@ -21,10 +19,10 @@ use screen::Screen;
 
 impl Work {
     // Don't-discard turns discarding off.
-    fn keeps_output(self, keeps: u8) -> Work
+    fn stops_discarding(self, keeps: u8) -> Work
         requires { ⌜ CountedFlow (self .flow) ⌝ }
         ensures counted { λ w. ⌜ CountedFlow (w .flow) ⌝ }
-        ensures rule { λ w. ⌜ ((l : Line) (t m : List ℕ) → Does (only (eqb keeps 1) (changes (λ s. withTerminal (withDiscarding false (s .terminal)) s))) (on l self) t m (on l w) t m) ⌝ }
+        ensures rule { λ w. ⌜ ((l : Line) (t m : List ℕ) → Does (rules.stopsDiscarding keeps) (on l self) t m (on l w) t m) ⌝ }
     {
         if keeps == 1 {
             let flow = self.flow;
@@ -36,10 +34,10 @@ impl Work {
     }
 
     // The data, unless output is discarded.
-    fn writes_kept(self, terminal: &mut [u8], text: &[u8]) -> Work
+    fn writes_unless_discarding(self, terminal: &mut [u8], text: &[u8]) -> Work
         requires { ⌜ CountedFlow (self .flow) ⌝ }
         ensures counted { λ w. ⌜ CountedFlow (w .flow) ⌝ }
-        ensures rule { λ w. ⌜ ((l : Line) (m : List ℕ) → Does (λ s. only (not (s .terminal .discarding)) (writes (now (text .entry))) s) (on l self) (now (terminal .entry)) m (on l w) (now (terminal .exit)) m) ⌝ }
+        ensures rule { λ w. ⌜ ((l : Line) (m : List ℕ) → Does (rules.writesUnlessDiscarding (now (text .entry))) (on l self) (now (terminal .entry)) m (on l w) (now (terminal .exit)) m) ⌝ }
     {
         let flow = self.flow;
         let known = flow.terminal;
@@ -50,10 +48,10 @@ impl Work {
     }
 
     // Write Completion: whether output was lost, and how far the cursor has moved.
-    fn says_completion(self, messages: &mut [u8], wants: u8, some: bool, before: Screen) -> Work
+    fn sends_completion(self, messages: &mut [u8], wants: u8, some: bool, before: Screen) -> Work
         requires { ⌜ CountedFlow (self .flow) ⌝ }
         ensures counted { λ w. ⌜ CountedFlow (w .flow) ⌝ }
-        ensures rule { λ w. ⌜ ((x : forms.Message ℕ) (b : State ℕ) → some ≡ not (isEmpty (x .text)) → screen.view before ≡ b .terminal .screen → (l : Line) (t : List ℕ) → Does (only (eqb wants 1) (λ s. sends (rules.completion x b s) s)) (on l self) t (now (messages .entry)) (on l w) t (now (messages .exit))) ⌝ }
+        ensures rule { λ w. ⌜ ((x : forms.Message ℕ) (b : State ℕ) → some ≡ not (isEmpty (x .text)) → screen.view before ≡ b .terminal .screen → (l : Line) (t : List ℕ) → Does (rules.sendsCompletion wants x b) (on l self) t (now (messages .entry)) (on l w) t (now (messages .exit))) ⌝ }
     {
         if wants == 1 {
             let flow = self.flow;
@@ -91,8 +89,8 @@ impl Work {
         let before = known.screen;
         let text = message::bytes_of(s, f.text);
         let some = text.len() != 0;
-        let kept = self.keeps_output(f.keeps_output);
-        let written = kept.writes_kept(terminal, text);
-        written.says_completion(messages, f.wants_completion, some, before)
+        let kept = self.stops_discarding(f.keeps_output);
+        let written = kept.writes_unless_discarding(terminal, text);
+        written.sends_completion(messages, f.wants_completion, some, before)
     }
 }

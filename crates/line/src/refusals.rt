@@ -7,13 +7,13 @@ ghost use Rattle.rules.specs.Messages.Codec as codec;
 ghost use Rattle.rules.specs.Messages.Codec.{soundLength};
 ghost use Rattle.rules.specs.State.{State};
 ghost use Rattle.rules.specs.Calls as rules;
-ghost use Rattle.rules.specs.Calls.{isPending};
+ghost use Rattle.rules.specs.Calls.{areRoomy, isHosts, isPending};
 ghost use Rattle.message.specs.Found.{startReadIn, writeIn, heldIn};
 ghost use Rattle.line.specs.View.{view};
 ghost use Rattle.line.specs.Bounded.{Counted};
 ghost use Rattle.line.specs.HostMessages.{messageOf};
 ghost use Rattle.line.specs.Answers.{refusal};
-ghost use Rattle.line.specs.Rows.{areRoomy, rowOf, isHosts, firstRow, earlyRow};
+ghost use Rattle.line.specs.Rows.{rowOf, firstRow, earlyRow};
 use crate::Answer;
 use crate::Line;
 use crate::events::HostMessage;
@@ -88,13 +88,13 @@ fn carries_write(f: WriteFields) -> bool
 }
 
 // Rows 1 to 4, in order; 0 if none applies.
-fn first_row(roomy: bool, long: bool, hosts: bool, timely: bool) -> u8
-    ensures { λ r. ⌜ r ≡ firstRow roomy long hosts timely ⌝ }
+fn first_row(roomy: bool, sized: bool, hosts: bool, timely: bool) -> u8
+    ensures { λ r. ⌜ r ≡ firstRow roomy sized hosts timely ⌝ }
 {
     if !roomy {
         return SMALL_AREA;
     }
-    if !long {
+    if !sized {
         return WRONG_LENGTH;
     }
     if !hosts {
@@ -127,11 +127,11 @@ pub(crate) fn early_row(
     ensures { λ r. ⌜ ((x : State ℕ) → initiated ≡ x .host .begun → pending ≡ isPending (x .read) → r ≡ earlyRow terminal messages (now (s .entry)) x) ⌝ }
 {
     let roomy = are_roomy(terminal, messages);
-    let long = is_sound_length(s.len());
+    let sized = is_sound_length(s.len());
     let kind = message::byte_at(s, 0);
     let hosts = is_hosts(kind);
     let timely = is_timely(kind, initiated, pending);
-    first_row(roomy, long, hosts, timely)
+    first_row(roomy, sized, hosts, timely)
 }
 
 impl Line {

@@ -11,7 +11,6 @@ ghost use Rattle.line.specs.View.{readingOf};
 ghost use Rattle.line.specs.Bounded.{CountedFlow, CountedReading};
 ghost use Rattle.line.specs.With.{lent};
 ghost use Rattle.line.specs.ReadingParts.{HasRoom};
-ghost use Rattle.line.specs.StepParts.{endsByToken, echoesIf, echoesTerminatorIf};
 ghost use Rattle.line.specs.Promise.{on, Does, DoesAcross};
 use crate::Reading;
 use crate::Terms;
@@ -47,7 +46,7 @@ impl Work {
         requires { ⌜ r .count + self .flow .typed .«token_len» + t .«prompt_len» ≤ inputSize ⌝ }
         ensures counted { λ w. ⌜ CountedFlow (w .flow) ⌝ }
         ensures sized { λ w. ⌜ length (now (text .exit)) ≡ inputSize ⌝ }
-        ensures rule { λ w. ⌜ ((l : Line) (a : List ℕ) → DoesAcross (λ k. endsByToken (readingOf k r)) (lent t (now (text .entry)) l) self a (now (messages .entry)) (lent t (now (text .exit)) l) w a (now (messages .exit))) ⌝ }
+        ensures rule { λ w. ⌜ ((l : Line) (a : List ℕ) → DoesAcross (λ k. rules.endsByToken codes (readingOf k r)) (lent t (now (text .entry)) l) self a (now (messages .entry)) (lent t (now (text .exit)) l) w a (now (messages .exit))) ⌝ }
     {
         let flow = self.flow;
         let typed = flow.typed;
@@ -113,7 +112,7 @@ impl Work {
     fn echoes_if(self, terminal: &mut [u8], wanted: bool, c: u8) -> Work
         requires { ⌜ CountedFlow (self .flow) ⌝ }
         ensures counted { λ w. ⌜ CountedFlow (w .flow) ⌝ }
-        ensures rule { λ w. ⌜ ((l : Line) (m : List ℕ) → Does (echoesIf wanted c) (on l self) (now (terminal .entry)) m (on l w) (now (terminal .exit)) m) ⌝ }
+        ensures rule { λ w. ⌜ ((l : Line) (m : List ℕ) → Does (rules.echoesIf codes wanted c) (on l self) (now (terminal .entry)) m (on l w) (now (terminal .exit)) m) ⌝ }
     {
         if wanted {
             return self.echo(terminal, c);
@@ -124,7 +123,7 @@ impl Work {
     fn echoes_terminator_if(self, terminal: &mut [u8], wanted: bool, c: u8) -> Work
         requires { ⌜ CountedFlow (self .flow) ⌝ }
         ensures counted { λ w. ⌜ CountedFlow (w .flow) ⌝ }
-        ensures rule { λ w. ⌜ ((l : Line) (m : List ℕ) → Does (echoesTerminatorIf wanted c) (on l self) (now (terminal .entry)) m (on l w) (now (terminal .exit)) m) ⌝ }
+        ensures rule { λ w. ⌜ ((l : Line) (m : List ℕ) → Does (rules.echoesTerminatorIf codes wanted c) (on l self) (now (terminal .entry)) m (on l w) (now (terminal .exit)) m) ⌝ }
     {
         if wanted {
             return self.echo_terminator(terminal, c);

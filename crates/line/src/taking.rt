@@ -2,12 +2,11 @@
 ghost use Prim.Native.Nat.{ℕ, _<_};
 ghost use mathlib.Core.Path.{_≡_};
 ghost use mathlib.Core.List.{List, []};
-ghost use mathlib.Core.Option.{some};
 ghost use lib.ListN.{length, getD};
 ghost use Rattle.rules.specs.Numbers.{inputSize, typeAheadSize};
-ghost use Rattle.rules.specs.State.{codes, withRead, withIdle};
+ghost use Rattle.rules.specs.State.{codes};
 ghost use Rattle.rules.specs.StartRead.{inSet};
-ghost use Rattle.rules.specs.Turns.{changes, _then_};
+ghost use Rattle.rules.specs.Turns.{_then_};
 ghost use Rattle.rules.specs.Steps as rules;
 ghost use Rattle.characteristics.specs.View.{setOf};
 ghost use Rattle.line.specs.declared.Line.{Line};
@@ -175,7 +174,7 @@ impl Work {
     pub(crate) fn sets_idle(self, idle: u16) -> Work
         requires { ⌜ CountedFlow (self .flow) ⌝ }
         ensures counted { λ w. ⌜ CountedFlow (w .flow) ⌝ }
-        ensures rule { λ w. ⌜ ((l : Line) (a m : List ℕ) → DoesOn (λ k. changes (withRead (some (withIdle idle (readingOf k (self .flow .reading)))))) l self a m w a m) ⌝ }
+        ensures rule { λ w. ⌜ ((l : Line) (a m : List ℕ) → DoesOn (λ k. rules.setsIdle idle (readingOf k (self .flow .reading))) l self a m w a m) ⌝ }
     {
         let flow = self.flow;
         let r = flow.reading;

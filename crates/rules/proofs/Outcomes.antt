@@ -1,15 +1,15 @@
 -- A sound outcome of reading or writing, and the tests that it passed.
-use mathlib.Core.Path.{_≡_, ap, _∙_}
+use mathlib.Core.Path.{_≡_, sym, ap, _∙_}
 use Prim.Native.Nat.{ℕ, _≤_}
 use native.Mathlib.Omega.{arith}
 use mathlib.Core.Bool.{true}
 use mathlib.Core.List.{List}
 use lib.ListN.{length}
 use borrow.Author.Tests.{ltb-false, le-ltb}
-use Rattle.rules.specs.Numbers.{messageSize, messageArea}
+use Rattle.rules.specs.Numbers.{messageSize, messageArea, unsound}
 use Rattle.rules.specs.Messages.Layout.{byteAt}
 use Rattle.rules.specs.Messages.Forms.{Message, formOf}
-use Rattle.rules.specs.Messages.Codec.{refused, sound, definedKind, soundLength, soundAs, fieldsAs, read}
+use Rattle.rules.specs.Messages.Codec.{Outcome, refused, sound, definedKind, soundLength, soundAs, fieldsAs, read}
 use Rattle.rules.specs.Messages.Codec.{Held, kindOf, bytesOf, fitsHeld, written}
 use Rattle.rules.proofs.Tests.{pick-true, pick-false, pick-first, pick-second}
 
@@ -19,6 +19,9 @@ module _ {A : Type 0} where
 
   pub sound-same : {x y : A} → sound x ≡ sound y → x ≡ y
   sound-same e = cc
+
+  pub refused-same : {k n : ℕ} → _≡_ {A = Outcome A} (refused k) (refused n) → k ≡ n
+  refused-same e = cc
 
 -- reading: its tests, and the fields
 pub record Readable (bytes : List ℕ) (m : Message ℕ) : Type 0 where
@@ -38,6 +41,14 @@ readable bytes m e =
 pub read-sound : (bytes : List ℕ) (m : Message ℕ) → Readable bytes m → read bytes ≡ sound m
 unfolding read
 read-sound bytes m r = pick-true _ _ (r .length) ∙ pick-true _ _ (r .kind) ∙ pick-true _ _ (r .sound) ∙ ap sound (r .fields)
+
+-- bytes of a sound length and a defined type are refused as unsound
+pub read-refused : (bytes : List ℕ) {n : ℕ} → soundLength (length bytes) ≡ true → definedKind (byteAt bytes 0) ≡ true → read bytes ≡ refused n →
+    n ≡ unsound
+unfolding read
+read-refused bytes {n} size kind e =
+    let rest = sym (pick-true _ _ size ∙ pick-true _ _ kind) ∙ e in
+    refused-same (sym (pick-second _ (λ h. refused-sound (sym h)) rest .1))
 
 -- writing: its tests, and the bytes
 pub record Writable (area : ℕ) (h : Held) (b : List ℕ) : Type 0 where

@@ -52,6 +52,10 @@ module _ {A : Type 0} where
   pick-second false no-a e = (refl, e)
 
 -- The first row that applies.
+pub none-left : {A : Type 0} (answer : ℕ → A) (otherwise : A) → firstOf answer otherwise [] ≡ otherwise
+unfolding firstOf
+none-left answer otherwise = refl
+
 module _ {A : Type 0} (answer : ℕ → A) (otherwise : A) (r : Row) (rows : List Row) where
   pub row-applies : r .applies ≡ true → firstOf answer otherwise (r ∷ rows) ≡ answer (r .number)
   unfolding firstOf

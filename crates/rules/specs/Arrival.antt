@@ -13,7 +13,7 @@ use Rattle.rules.specs.Screen.{BEL}
 use Rattle.rules.specs.State.{Characters, Reading, State}
 use Rattle.rules.specs.State.{withTerminal, withTyped, withRead, withIdle, withDiscarding, withQuoting, withDropped}
 use Rattle.rules.specs.Turns.{Part, quote, clear, discard, outOfBand, arrived, control, dropped, cleared}
-use Rattle.rules.specs.Turns.{still, writes, sends, tells, changes, _then_}
+use Rattle.rules.specs.Turns.{still, writes, sends, tells, changes, here, _then_}
 use Rattle.rules.specs.ReadData.{byOutOfBand, completes}
 use Rattle.rules.specs.Editing.{deletes, deletesUnseen}
 
@@ -36,11 +36,12 @@ module _ {C : Type 0} where
       withRead (idleAgain (s .read))
       (withTyped (s .typed .typeAhead ++ record { char = c; quoted = quoted } ∷ []) (s .typed .token) s))
 
+  -- one more dropped, up to where the count stops
+  unfoldable pub countsDropped : Part C
+  countsDropped = changes (λ s. withTerminal (withDropped (min topDropped (s .terminal .dropped + 1)) (s .terminal)) s)
+
   unfoldable pub drops : C → Part C
-  drops c =
-      tells (dropped c ∷ []) then
-      writes (BEL ∷ []) then
-      changes (λ s. withTerminal (withDropped (min topDropped (s .terminal .dropped + 1)) (s .terminal)) s)
+  drops c = tells (dropped c ∷ []) then writes (BEL ∷ []) then countsDropped
 
   -- rule 4, with the limit of type-ahead
   unfoldable pub stores : ℕ → Bool → C → Part C
@@ -57,11 +58,14 @@ module _ {C : Type 0} where
       tells (control quote c ∷ []) then changes (λ s. withTerminal (withQuoting true (s .terminal)) s)
 
   -- rule 3, code 15; Discard State says 1 where output is not discarded
+  unfoldable pub sendsDiscardState : Part C
+  sendsDiscardState = here (λ s. sends (plain forms.discardState (bit (not (s .terminal .discarding)) ∷ [])))
+
   unfoldable pub flipsDiscard : C → Part C
   flipsDiscard c =
       tells (control discard c ∷ []) then
       changes (λ s. withTerminal (withDiscarding (not (s .terminal .discarding)) (s .terminal)) s) then
-      (λ s. sends (plain forms.discardState (bit (not (s .terminal .discarding)) ∷ [])) s)
+      sendsDiscardState
 
   -- a pending read has DDD 3
   unfoldable pub passesControls : Option (Reading C) → Bool
@@ -70,10 +74,10 @@ module _ {C : Type 0} where
 
   -- The clear rule: type-ahead and tokens go,
   unfoldable pub emptiesTyped : Part C
-  emptiesTyped s =
-      (tells (map (λ k. cleared (k .char)) (s .typed .typeAhead) ++ map cleared (s .typed .token)) then
+  emptiesTyped =
+      here (λ s.
+      tells (map (λ k. cleared (k .char)) (s .typed .typeAhead) ++ map cleared (s .typed .token)) then
       changes (withTyped [] []))
-      s
 
   -- and the pending read's input as 21 deletes it, here without rubbing out
   unfoldable pub clearsUnseen : Option (Reading C) → Part C
@@ -105,7 +109,7 @@ module _ {C : Type 0} (chars : Characters C) where
 
   unfoldable pub clearsAtOnce : C → Part C
   clearsAtOnce c =
-      sendsOutOfBand c then emptiesTyped then (λ s. clearsUnseen (s .read) s) then (λ s. endsOutOfBand (s .read) s)
+      sendsOutOfBand c then emptiesTyped then here (λ s. clearsUnseen (s .read)) then here (λ s. endsOutOfBand (s .read))
 
   -- rule 3, then 4
   unfoldable pub controlled : C → Part C

@@ -5,8 +5,8 @@ use mathlib.Core.List.{List, [], _∷_, _++_, map}
 use mathlib.Core.Option.{Option, none, some}
 use lib.Dec.{leb, eqb}
 use lib.ListN.{length, drop}
-use Rattle.rules.specs.Choice.{pick, all, joined}
-use Rattle.rules.specs.Numbers.{terminalArea, messageArea, accepted, smallArea, wrongLength, wrongType, wrongTime, notCarried}
+use Rattle.rules.specs.Choice.{pick, Row, _when_, firstOf, all, joined}
+use Rattle.rules.specs.Numbers.{terminalArea, messageArea, accepted, smallArea, wrongLength, wrongType, wrongTime, unsound, notCarried}
 use Rattle.rules.specs.Messages.Layout.{byteAt, bytesOf}
 use Rattle.rules.specs.Messages.Parameters.{selector}
 use Rattle.rules.specs.Messages.Forms as forms
@@ -54,12 +54,24 @@ mapText f m =
 unfoldable pub sentBytes : Message ℕ → List ℕ
 sentBytes m = bytesAs (formOf (m .kind)) m
 
--- 3: a type only servers send
+-- 1: the lengths of terminal area and message area
+abbrev pub areRoomy : ℕ → ℕ → Bool
+areRoomy terminal messages = leb terminalArea terminal && leb messageArea messages
+
+-- 3: a type that is not 1 to 14, or that only servers send, is not a host's
 unfoldable pub isServers : ℕ → Bool
 isServers kind =
     eqb kind forms.readData || eqb kind forms.outOfBand ||
     eqb kind forms.writeCompletion || eqb kind forms.discardState ||
     eqb kind forms.inputCount || eqb kind forms.inputState
+
+unfoldable pub isHosts : ℕ → Bool
+isHosts kind = definedKind kind && not (isServers kind)
+
+-- 5: behind rows 2 and 3, this is all that reading refuses for
+unfoldable pub isRefused : {A : Type 0} → Outcome A → Bool
+isRefused (refused n) = true
+isRefused (sound x) = false
 
 -- 6, by type
 unfoldable pub carriesStartRead : Message ℕ → Bool
@@ -95,21 +107,24 @@ module _ {C : Type 0} where
       (pick (eqb (m .kind) forms.readCharacteristics) (carriesQuestions s m)
       true)))
 
-  -- 5 is reading's, then 6
-  unfoldable pub judged : State C → Outcome (Message ℕ) → Outcome (Message ℕ)
-  judged s (refused n) = refused n
-  judged s (sound m) = pick (isCarriedBy s m) (sound m) (refused notCarried)
+  -- of what was read; where reading refused, row 5 comes first
+  unfoldable pub carries : State C → Outcome (Message ℕ) → Bool
+  carries s (refused n) = true
+  carries s (sound m) = isCarriedBy s m
 
-  -- a host message's bytes: 2 to 6 in the table's order, else the message
+  -- The table of refusals for a host message's bytes, behind row 1, which every call has.
+  unfoldable pub refusals : State C → List ℕ → List Row
+  refusals s bytes =
+      wrongLength when not (soundLength (length bytes)) ∷
+      wrongType when not (isHosts (byteAt bytes 0)) ∷
+      wrongTime when not (isTimely (byteAt bytes 0) s) ∷
+      unsound when isRefused (read bytes) ∷
+      notCarried when not (carries s (read bytes)) ∷
+      []
+
+  -- the message in a host message's bytes, unless a row applies
   unfoldable pub considered : State C → List ℕ → Outcome (Message ℕ)
-  considered s bytes =
-      pick (soundLength (length bytes))
-      (pick (definedKind (byteAt bytes 0) && not (isServers (byteAt bytes 0)))
-      (pick (isTimely (byteAt bytes 0) s)
-      (judged s (read bytes))
-      (refused wrongTime))
-      (refused wrongType))
-      (refused wrongLength)
+  considered s bytes = firstOf refused (read bytes) (refusals s bytes)
 
   -- a refusal writes nothing and leaves the line as it was
   unfoldable pub refuses : ℕ → State C → Answer C
@@ -117,9 +132,6 @@ module _ {C : Type 0} where
 
   unfoldable pub does : Part C → State C → Answer C
   does f s = record { number = accepted; turn = f s }
-
-  unfoldable pub isRoomy : Call C → Bool
-  isRoomy c = leb terminalArea (c .terminal) && leb messageArea (c .messages)
 
 module _ {C : Type 0} (chars : Characters C) where
   unfoldable pub hears : Outcome (Message ℕ) → State C → Answer C
@@ -133,7 +145,7 @@ module _ {C : Type 0} (chars : Characters C) where
   answers (message bytes) s = hears (considered s bytes) s
 
   unfoldable pub answer : Call C → State C → Answer C
-  answer c s = pick (isRoomy c) (answers (c .event)) (refuses smallArea) s
+  answer c s = firstOf refuses (answers (c .event)) (smallArea when not (areRoomy (c .terminal) (c .messages)) ∷ []) s
 
   -- the message area's bytes
   unfoldable pub messageBytes : Turn C → List ℕ

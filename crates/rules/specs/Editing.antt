@@ -8,7 +8,7 @@ use lib.ListN.{length, take, drop}
 use Rattle.rules.specs.Choice.{pick, within, bit}
 use Rattle.rules.specs.Screen.{CR, LF, echoAll, marksBehind, rubOut}
 use Rattle.rules.specs.State.{Characters, Reading, withRead, withFrom}
-use Rattle.rules.specs.Turns.{Fate, Part, writes, tells, changes, _then_}
+use Rattle.rules.specs.Turns.{Fate, Part, writes, tells, changes, here, _then_}
 
 -- word class: ASCII letter or digit, or neither
 unfoldable pub isWord : ℕ → Bool
@@ -65,14 +65,16 @@ module _ {C : Type 0} (chars : Characters C) where
   unfoldable pub deletes : (C → Fate C) → ℕ → Reading C → Part C
   deletes fate left r = writes (rubbing left r) then deletesUnseen fate left r
 
-  -- the prompt raw and, if the read echoes, the echo of what follows it; the data's display begins after the prompt
-  unfoldable pub displays : Reading C → Part C
-  displays r =
-      writes (r .terms .prompt) then
-      (λ s.
-      (changes (withRead (some (withFrom (s .terminal .screen .column) r))) then
+  -- if the read echoes, the echo of what follows the prompt; its display begins here
+  unfoldable pub displaysData : Reading C → Part C
+  displaysData r =
+      here (λ s.
+      changes (withRead (some (withFrom (s .terminal .screen .column) r))) then
       writes (pick (r .terms .echoes) (echoAll (s .terminal .screen .column) (displayed r)) []))
-      s)
+
+  -- the prompt raw, and what follows it
+  unfoldable pub displays : Reading C → Part C
+  displays r = writes (r .terms .prompt) then displaysData r
 
   -- redisplay, as 18 does
   unfoldable pub redisplays : Reading C → Part C

@@ -1,7 +1,7 @@
 -- What an accepted host message does: Initiate, Clear Input, Write, and the rest by their own rules.
 use Prim.Native.Nat.{ℕ}
 use mathlib.Core.Bool.{true, false, not, _&&_}
-use mathlib.Core.List.{[], _∷_}
+use mathlib.Core.List.{List, [], _∷_}
 use lib.Dec.{eqb}
 use lib.ListN.{replicate}
 use Rattle.rules.specs.Choice.{pick, bit, isEmpty}
@@ -11,7 +11,7 @@ use Rattle.rules.specs.Messages.Forms as forms
 use Rattle.rules.specs.Messages.Forms.{Message, number, plain}
 use Rattle.rules.specs.Screen.{SP, change}
 use Rattle.rules.specs.State.{Characters, State, withHost, withTerminal, withBegun, withDiscarding}
-use Rattle.rules.specs.Turns.{Part, writes, sends, changes, _then_, only}
+use Rattle.rules.specs.Turns.{Part, writes, sends, changes, here, _then_, only}
 use Rattle.rules.specs.ReadData.{unreads, checksInput}
 use Rattle.rules.specs.Arrival.{clears}
 use Rattle.rules.specs.StartRead.Acceptance.{startsRead}
@@ -64,17 +64,29 @@ module _ {C : Type 0} where
       change (now .terminal .screen .line) (before .terminal .screen .line) ∷
       [])
 
+  -- don't-discard turns output discard off, without a message
+  unfoldable pub stopsDiscarding : ℕ → Part C
+  stopsDiscarding keeps = only (eqb keeps 1) (changes (λ s. withTerminal (withDiscarding false (s .terminal)) s))
+
+  -- data, unless output discard is on
+  unfoldable pub writesUnlessDiscarding : List ℕ → Part C
+  writesUnlessDiscarding text = here (λ s. only (not (s .terminal .discarding)) (writes text))
+
+  -- Write Completion, when asked for
+  unfoldable pub sendsCompletion : ℕ → Message ℕ → State C → Part C
+  sendsCompletion wants m before = only (eqb wants 1) (here (λ s. sends (completion m before s)))
+
   -- Write sends its data unless output discard is on; don't-discard first turns it off. Echo and prompts are never discarded: no other rule that
   -- writes looks at it. The flags for first and last part change nothing: none looks at them.
   unfoldable pub writesOut : Message ℕ → Part C
-  writesOut m before =
-      (only (eqb (keepsOutput m) 1) (changes (λ s. withTerminal (withDiscarding false (s .terminal)) s)) then
-      (λ s. only (not (s .terminal .discarding)) (writes (m .text)) s) then
-      only (eqb (wantsCompletion m) 1) (λ s. sends (completion m before s) s))
-      before
+  writesOut m =
+      here (λ before.
+      stopsDiscarding (keepsOutput m) then
+      writesUnlessDiscarding (m .text) then
+      sendsCompletion (wantsCompletion m) m before)
 
   unfoldable pub reports : Message ℕ → Part C
-  reports m s = sends (report (s .host) m) s
+  reports m = here (λ s. sends (report (s .host) m))
 
   unfoldable pub setsCharacteristics : Message ℕ → Part C
   setsCharacteristics m = changes (λ s. withHost (withParameters (m .parameters) (s .host)) s)

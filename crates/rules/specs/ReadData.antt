@@ -8,9 +8,9 @@ use lib.ListN.{length}
 use Rattle.rules.specs.Choice.{bit, isEmpty}
 use Rattle.rules.specs.Messages.Forms.{Message, plain, number, readData, inputCount}
 use Rattle.rules.specs.Screen.{change}
-use Rattle.rules.specs.State.{Characters, State, Reading, Typed, withRead, withTyped}
+use Rattle.rules.specs.State.{Characters, State, Reading, Typed, withRead, withToken}
 use Rattle.rules.specs.Token.{isWhole, isPartial}
-use Rattle.rules.specs.Turns.{Part, lost, still, sends, tells, changes, _then_, only}
+use Rattle.rules.specs.Turns.{Part, lost, still, sends, tells, changes, here, _then_, only}
 
 -- completion codes (000, 4.16.4)
 abbrev pub byTerminator : ℕ
@@ -45,6 +45,9 @@ module _ {C : Type 0} where
   unfoldable pub waitingCount : Typed C → ℕ
   waitingCount t = length (t .typeAhead) + length (t .token)
 
+  unfoldable pub endsRead : Part C
+  endsRead = changes (withRead none)
+
   unfoldable pub checksInput : Part C
   checksInput s = sends (plain inputCount (waitingCount (s .typed) ∷ [])) s
 
@@ -78,12 +81,14 @@ module _ {C : Type 0} (chars : Characters C) where
   unfoldable pub losesPartial : Part C
   losesPartial s =
       only (isPartial (tokenCodes s))
-      (tells (map lost (s .typed .token)) then changes (withTyped (s .typed .typeAhead) []))
+      (tells (map lost (s .typed .token)) then changes (withToken []))
       s
 
+  unfoldable pub sendsReadData : ℕ → ℕ → Reading C → Part C
+  sendsReadData code ending r = here (λ s. sends (answerOf code ending r s))
+
   unfoldable pub completes : ℕ → ℕ → Reading C → Part C
-  completes code ending r =
-      losesPartial then (λ s. sends (answerOf code ending r s) s) then changes (withRead none)
+  completes code ending r = losesPartial then sendsReadData code ending r then endsRead
 
   -- Unread (always), and Unread (empty), which looks at type-ahead, tokens and input
   unfoldable pub unreadsWhile : Option (Reading C) → Message ℕ → Part C

@@ -7,6 +7,9 @@ use lib.ListN.{length, take, drop, replicate}
 use Rattle.rules.specs.Choice.{pick, within, joined}
 use Rattle.rules.specs.Numbers.{topColumn}
 
+abbrev pub SOH : ℕ
+SOH = 1
+
 abbrev pub BEL : ℕ
 BEL = 7
 

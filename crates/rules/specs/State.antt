@@ -136,6 +136,9 @@ module _ {C : Type 0} where
   withTyped keys token s =
       record { host = s .host; terminal = s .terminal; typed = record { typeAhead = keys; token = token }; read = s .read }
 
+  abbrev pub withToken : List C → State C → State C
+  withToken token s = withTyped (s .typed .typeAhead) token s
+
   abbrev pub withRead : Option (Reading C) → State C → State C
   withRead x s = record { host = s .host; terminal = s .terminal; typed = s .typed; read = x }
 

@@ -7,10 +7,10 @@ use lib.Dec.{leb, ltb, eqb}
 use lib.ListN.{length}
 use Rattle.rules.specs.Choice.{pick, isEmpty}
 use Rattle.rules.specs.Screen.{BEL, DEL, echo, terminatorEcho}
-use Rattle.rules.specs.State.{Characters, Key, Reading, State, withTyped, withRead, withInput, withIdle}
+use Rattle.rules.specs.State.{Characters, Key, Reading, State, withTyped, withToken, withRead, withInput, withIdle}
 use Rattle.rules.specs.StartRead.{inSet}
 use Rattle.rules.specs.Token.{ESC, CSI, standing, isValid, isWhole, isPartial}
-use Rattle.rules.specs.Turns.{Part, edit, control, taken, tokened, edited, still, writes, tells, changes, _then_, only}
+use Rattle.rules.specs.Turns.{Part, edit, control, taken, tokened, edited, still, writes, tells, changes, here, _then_, only}
 use Rattle.rules.specs.ReadData.{byTerminator, byValidToken, byInvalidToken, byFullBuffer, byTimeout, byUnderflow, byAbsentee}
 use Rattle.rules.specs.ReadData.{tokenCodes, completes}
 use Rattle.rules.specs.Editing.{endOf, inputCodes, leftBy23, deletes, redisplays}
@@ -30,38 +30,56 @@ module _ {C : Type 0} where
   unfoldable pub beginsToken : ℕ → Reading C → Bool
   beginsToken code r = (eqb code ESC || eqb code CSI) && r .terms .recognises
 
+  -- a key is taken from type-ahead, which leaves these, and idle is 0
+  abbrev pub keyTaken : List (Key C) → Reading C → State C → State C
+  keyTaken left r s = withRead (some (withIdle 0 r)) (withTyped left (s .typed .token) s)
+
+  unfoldable pub setsIdle : ℕ → Reading C → Part C
+  setsIdle idle r = changes (withRead (some (withIdle idle r)))
+
 module _ {C : Type 0} (chars : Characters C) where
   unfoldable pub tokenCode : List C → ℕ
   tokenCode cs = pick (isValid (standing (map (chars .code) cs))) byValidToken byInvalidToken
 
-  -- a whole token: if it fits the buffer it is appended and completes the read, else absentee, and it stays held. Tokens never echo:
-  -- neither this rule nor the next writes.
-  unfoldable pub takesToken : Reading C → Part C
-  takesToken r s =
-      pick (leb (endOf r + length (s .typed .token)) (r .terms .maxLength))
-      (changes (withTyped (s .typed .typeAhead) []) then
+  -- a token that fits the buffer is appended and completes the read
+  unfoldable pub endsByToken : Reading C → Part C
+  endsByToken r =
+      here (λ s.
+      changes (withToken []) then
       completes chars (tokenCode (s .typed .token)) (length (s .typed .token)) (appended (s .typed .token) r))
-      (completes chars byAbsentee 0 r)
-      s
+
+  -- a whole token: where it does not fit the read completes absentee, and it stays held. Tokens never echo: neither this rule nor the next
+  -- writes.
+  unfoldable pub takesToken : Reading C → Part C
+  takesToken r =
+      here (λ s.
+      pick (leb (endOf r + length (s .typed .token)) (r .terms .maxLength)) (endsByToken r) (completes chars byAbsentee 0 r))
 
   -- rules 1 and 3: a key goes into a token, and a finished one is treated as held, in the same step
   unfoldable pub addsToToken : C → Reading C → Part C
   addsToToken c r =
       tells (tokened c ∷ []) then
-      changes (λ s. withTyped (s .typed .typeAhead) (s .typed .token ++ c ∷ []) s) then
-      (λ s. only (isWhole (tokenCodes chars s)) (takesToken r) s)
+      changes (λ s. withToken (s .typed .token ++ c ∷ []) s) then
+      here (λ s. only (isWhole (tokenCodes chars s)) (takesToken r))
+
+  -- a character's echo, or a terminator's, where it is wanted
+  unfoldable pub echoesIf : Bool → C → Part C
+  echoesIf wanted c = here (λ s. writes (pick wanted (echo (columnNow s) (chars .code c)) []))
+
+  unfoldable pub echoesTerminatorIf : Bool → C → Part C
+  echoesTerminatorIf wanted c = here (λ s. writes (pick wanted (terminatorEcho (columnNow s) (chars .code c)) []))
 
   -- rule 7, data: append, echo; complete, buffer full, at MAX-LENGTH
   unfoldable pub takesData : C → Reading C → Part C
   takesData c r =
       changes (withRead (some (appended (c ∷ []) r))) then
-      (λ s. writes (pick (r .terms .echoes) (echo (columnNow s) (chars .code c)) []) s) then
+      echoesIf (r .terms .echoes) c then
       only (eqb (endOf r + 1) (r .terms .maxLength)) (completes chars byFullBuffer 0 (appended (c ∷ []) r))
 
   -- rule 5, a terminator: it echoes only with T and in a read that echoes
   unfoldable pub terminates : C → Reading C → Part C
   terminates c r =
-      (λ s. writes (pick (r .terms .terminatorEcho && r .terms .echoes) (terminatorEcho (columnNow s) (chars .code c)) []) s) then
+      echoesTerminatorIf (r .terms .terminatorEcho && r .terms .echoes) c then
       completes chars byTerminator 1 (appended (c ∷ []) r)
 
   -- 127 or 23 with nothing to delete, by UU
@@ -109,38 +127,36 @@ module _ {C : Type 0} (chars : Characters C) where
       (takesPlain (raisedBy r (k .char)) r)))
       s
 
-  -- one key is taken from type-ahead, and idle is 0; with type-ahead empty a read with Q and TIMEOUT 0 completes
+  -- one key is taken from type-ahead; with type-ahead empty a read with Q and TIMEOUT 0 completes
   unfoldable pub takesFirst : List (Key C) → Reading C → Part C
   takesFirst [] r = only (r .terms .timed && eqb (r .terms .timeout) 0) (completes chars byTimeout 0 r)
   takesFirst (k ∷ ks) r =
       tells (taken (k .char) (r .terms) ∷ []) then
-      changes (λ s. withRead (some (withIdle 0 r)) (withTyped ks (s .typed .token) s)) then
+      changes (keyTaken ks r) then
       takes k (withIdle 0 r)
 
   -- a whole held token goes first
   unfoldable pub stepsWhile : Option (Reading C) → Part C
   stepsWhile none = still
-  stepsWhile (some r) = λ s. pick (isWhole (tokenCodes chars s)) (takesToken r) (takesFirst (s .typed .typeAhead) r) s
+  stepsWhile (some r) = here (λ s. pick (isWhole (tokenCodes chars s)) (takesToken r) (takesFirst (s .typed .typeAhead) r))
 
   unfoldable pub steps : Part C
   steps s = stepsWhile (s .read) s
 
   -- Tick: idle rises by one; at TIMEOUT the read completes
   unfoldable pub idles : Reading C → Part C
-  idles r =
-      pick (leb (r .terms .timeout) (r .idle + 1)) (completes chars byTimeout 0 r)
-      (changes (withRead (some (withIdle (r .idle + 1) r))))
+  idles r = pick (leb (r .terms .timeout) (r .idle + 1)) (completes chars byTimeout 0 r) (setsIdle (r .idle + 1) r)
 
   unfoldable pub ticksWhile : Option (Reading C) → Part C
   ticksWhile none = still
-  ticksWhile (some r) = λ s.
+  ticksWhile (some r) =
+      here (λ s.
       only
       (r .terms .timed &&
       ltb 0 (r .terms .timeout) &&
       isEmpty (s .typed .typeAhead) &&
       not (isWhole (tokenCodes chars s)))
-      (idles r)
-      s
+      (idles r))
 
   unfoldable pub ticks : Part C
   ticks s = ticksWhile (s .read) s

@@ -61,6 +61,10 @@ module _ {C : Type 0} where
   unfoldable pub changes : (State C → State C) → Part C
   changes f s = record { bytes = []; messages = []; fates = []; state = f s }
 
+  -- a part that looks at the state it begins with
+  abbrev pub here : (State C → Part C) → Part C
+  here f s = f s s
+
   -- the second's bytes, messages and fates behind the first's
   unfoldable pub behind : Turn C → Turn C → Turn C
   behind t u =

@@ -73,23 +73,23 @@ unfolding Token.next Token.placeFrom Token.isFinished Token.isValid Token.standi
 openToken = tt
 
 unfoldable pub openReadData : Unit {0}
-unfolding ReadData.waitingCount ReadData.checksInput ReadData.moreData ReadData.answerOf ReadData.losesPartial ReadData.completes ReadData.unreadsWhile ReadData.unreads
+unfolding ReadData.waitingCount ReadData.checksInput ReadData.moreData ReadData.answerOf ReadData.losesPartial ReadData.sendsReadData ReadData.endsRead ReadData.completes ReadData.unreadsWhile ReadData.unreads
 openReadData = tt
 
 unfoldable pub openEditing : Unit {0}
-unfolding Editing.isWord Editing.leading Editing.leftBy23 Editing.endOf Editing.hiddenCount Editing.shortened Editing.deletesUnseen Editing.displayed Editing.rubbing Editing.deletes Editing.displays Editing.redisplays
+unfolding Editing.isWord Editing.leading Editing.leftBy23 Editing.endOf Editing.hiddenCount Editing.shortened Editing.deletesUnseen Editing.displayed Editing.rubbing Editing.deletes Editing.displaysData Editing.displays Editing.redisplays
 openEditing = tt
 
 unfoldable pub openArrival : Unit {0}
-unfolding Arrival.isImmediateClear Arrival.isHello Arrival.idleAgain Arrival.keeps Arrival.drops Arrival.stores Arrival.storesQuoted Arrival.quotes Arrival.flipsDiscard Arrival.passesControls Arrival.emptiesTyped Arrival.clearsUnseen Arrival.clearsSeen Arrival.clears Arrival.clearsBy Arrival.sendsOutOfBand Arrival.endsOutOfBand Arrival.clearsAtOnce Arrival.controlled Arrival.ruled Arrival.arrives
+unfolding Arrival.isImmediateClear Arrival.isHello Arrival.idleAgain Arrival.keeps Arrival.countsDropped Arrival.drops Arrival.stores Arrival.storesQuoted Arrival.quotes Arrival.sendsDiscardState Arrival.flipsDiscard Arrival.passesControls Arrival.emptiesTyped Arrival.clearsUnseen Arrival.clearsSeen Arrival.clears Arrival.clearsBy Arrival.sendsOutOfBand Arrival.endsOutOfBand Arrival.clearsAtOnce Arrival.controlled Arrival.ruled Arrival.arrives
 openArrival = tt
 
 unfoldable pub openAcceptance : Unit {0}
-unfolding Acceptance.chosen Acceptance.hidesLF Acceptance.termsOf Acceptance.readingOf Acceptance.remembersSet Acceptance.begins Acceptance.startsRead
+unfolding Acceptance.chosen Acceptance.hidesLF Acceptance.termsOf Acceptance.readingOf Acceptance.remembersSet Acceptance.clearsFirst Acceptance.feedsLine Acceptance.autoPrompts Acceptance.completesIfFull Acceptance.begins Acceptance.startsRead
 openAcceptance = tt
 
 unfoldable pub openSteps : Unit {0}
-unfolding Steps.appended Steps.editsBy Steps.beginsToken Steps.tokenCode Steps.takesToken Steps.addsToToken Steps.takesData Steps.terminates Steps.underflows Steps.erases Steps.erasesAll Steps.showsAgain Steps.edits Steps.takesPlain Steps.raisedBy Steps.takes Steps.takesFirst Steps.stepsWhile Steps.steps Steps.idles Steps.ticksWhile Steps.ticks
+unfolding Steps.appended Steps.editsBy Steps.beginsToken Steps.setsIdle Steps.tokenCode Steps.endsByToken Steps.takesToken Steps.addsToToken Steps.echoesIf Steps.echoesTerminatorIf Steps.takesData Steps.terminates Steps.underflows Steps.erases Steps.erasesAll Steps.showsAgain Steps.edits Steps.takesPlain Steps.raisedBy Steps.takes Steps.takesFirst Steps.stepsWhile Steps.steps Steps.idles Steps.ticksWhile Steps.ticks
 openSteps = tt
 
 unfoldable pub openCharacteristics : Unit {0}
@@ -97,11 +97,11 @@ unfolding Characteristics.isCarried Characteristics.masked Characteristics.withA
 openCharacteristics = tt
 
 unfoldable pub openHost : Unit {0}
-unfolding Host.ourInitiate Host.initiates Host.completion Host.writesOut Host.reports Host.setsCharacteristics Host.obeys
+unfolding Host.ourInitiate Host.initiates Host.completion Host.stopsDiscarding Host.writesUnlessDiscarding Host.sendsCompletion Host.writesOut Host.reports Host.setsCharacteristics Host.obeys
 openHost = tt
 
 unfoldable pub openCalls : Unit {0}
-unfolding Calls.framed Calls.areaAfter Calls.mapText Calls.sentBytes Calls.isServers Calls.carriesStartRead Calls.carriesWrite Calls.isPending Calls.isTimely Calls.carriesQuestions Calls.isCarriedBy Calls.judged Calls.considered Calls.refuses Calls.does Calls.isRoomy Calls.hears Calls.answers Calls.answer Calls.messageBytes Calls.runFrom Calls.run
+unfolding Calls.framed Calls.areaAfter Calls.mapText Calls.sentBytes Calls.isServers Calls.isHosts Calls.isRefused Calls.carriesStartRead Calls.carriesWrite Calls.isPending Calls.isTimely Calls.carriesQuestions Calls.isCarriedBy Calls.carries Calls.refusals Calls.considered Calls.refuses Calls.does Calls.hears Calls.answers Calls.answer Calls.messageBytes Calls.runFrom Calls.run
 openCalls = tt
 
 unfoldable pub openBench : Unit {0}

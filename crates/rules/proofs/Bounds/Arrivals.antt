@@ -12,7 +12,7 @@ use Rattle.rules.specs.State.{Reading, State, codes, withTerminal, withD
 use Rattle.rules.specs.Turns.{cleared}
 use Rattle.rules.specs.Editing.{endOf}
 use Rattle.rules.specs.ReadData.{byOutOfBand}
-use Rattle.rules.specs.Arrival.{idleAgain, keeps, drops, stores, storesQuoted, quotes, flipsDiscard, emptiesTyped, clearsUnseen}
+use Rattle.rules.specs.Arrival.{idleAgain, keeps, countsDropped, drops, stores, storesQuoted, quotes, sendsDiscardState, flipsDiscard, emptiesTyped, clearsUnseen}
 use Rattle.rules.specs.Arrival.{clearsSeen, clears, clearsBy, sendsOutOfBand, endsOutOfBand, clearsAtOnce, controlled, ruled, arrives}
 use Rattle.rules.specs.Bounds.{BoundedReading, BoundedRead}
 use Rattle.rules.proofs.Bounds.Bytes.{no-bytes, one-byte, bytes-append}
@@ -48,7 +48,7 @@ module _ {area : ℕ} {s : State ℕ} (c : ℕ) (byte : c < 256) (h : Steady Bou
       (idleAgain (s .read)) (idleAgain-bounded (s .read) (h .read)))
 
   drops-good : Good BoundedRead 1 area (drops c s)
-  unfolding drops
+  unfolding drops countsDropped
   drops-good =
       tells-then _ _
       (then-good _ _ 1 0 0 area (omega arith) (omega arith) (writes-good _ (omega arith) h) λ s₁ h₁.
@@ -70,7 +70,7 @@ module _ {s : State ℕ} (c : ℕ) (h : Steady BoundedRead s) where
   quotes-good = tells-then _ _ (changes-good _ (terminal-same (s .terminal .discarding) true h))
 
   flipsDiscard-good : {bytes : ℕ} → Good BoundedRead bytes 4 (flipsDiscard c s)
-  unfolding flipsDiscard
+  unfolding flipsDiscard sendsDiscardState
   flipsDiscard-good =
       tells-then _ _ (changes-then _ _
       (sends-good _ (discardState-sent _) (omega arith) (terminal-same (not (s .terminal .discarding)) (s .terminal .quoting) h)))

@@ -16,7 +16,7 @@ use Rattle.rules.specs.State.{State, codes, withFrom}
 use Rattle.rules.specs.Editing.{endOf}
 use Rattle.rules.specs.StartRead as fields
 use Rattle.rules.specs.StartRead.{universal, chosenSet}
-use Rattle.rules.specs.StartRead.Acceptance.{hidesLF, termsOf, readingOf, remembersSet, begins, startsRead}
+use Rattle.rules.specs.StartRead.Acceptance.{hidesLF, termsOf, readingOf, remembersSet, clearsFirst, feedsLine, autoPrompts, completesIfFull, begins, startsRead}
 use Rattle.rules.specs.Bounds.{BoundedTerms, BoundedRead}
 use Rattle.rules.proofs.Tests.{pick-case}
 use Rattle.rules.proofs.Bounds.Bytes.{bytes-drop}
@@ -90,7 +90,7 @@ module _ (m : Message ℕ) (known : Startable m) {s : State ℕ} (h : Steady Bou
       }
 
   begins-good : Good BoundedRead (2 + 8 * inputSize) (10 + inputSize) (begins codes m (readingOf codes m s) s)
-  unfolding begins readingOf termsOf
+  unfolding begins clearsFirst feedsLine autoPrompts completesIfFull readingOf termsOf
   begins-good =
       let r = readingOf codes m s in
       let t = terms-bounded in

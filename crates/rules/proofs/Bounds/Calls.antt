@@ -5,18 +5,18 @@ use native.Mathlib.Omega.{arith}
 use mathlib.Core.Bool.{true}
 use mathlib.Core.List.{List, [], _∷_}
 use lib.ListN.{length}
-use borrow.Author.Tests.{ltb-true}
-use Rattle.rules.specs.Choice.{all}
+use borrow.Author.Tests.{ltb-true, not-false}
+use Rattle.rules.specs.Choice.{firstOf, all}
 use Rattle.rules.specs.Messages.Forms.{Message}
 use Rattle.rules.specs.Messages.Codec.{Outcome, refused, sound, read, allBytes}
 use Rattle.rules.specs.State.{State, codes, freshHost, freshTerminal, fresh}
 use Rattle.rules.specs.StartRead.{universal}
 use Rattle.rules.specs.Characteristics.{isDeferredClear}
-use Rattle.rules.specs.Calls.{Event, key, step, tick, message, Call, Answer, isCarriedBy, judged, considered}
-use Rattle.rules.specs.Calls.{refuses, does, isRoomy, hears, answers, answer, messageBytes, runFrom, run}
+use Rattle.rules.specs.Calls.{Event, key, step, tick, message, Call, Answer, isCarriedBy, carries, refusals, considered}
+use Rattle.rules.specs.Calls.{refuses, does, hears, answers, answer, messageBytes, runFrom, run}
 use Rattle.rules.specs.Bounds.{isAttribute, BoundedRead, Bounded, isByteEvent, Within, AllWithin}
-use Rattle.rules.proofs.Tests.{pick-case, pick-first, all-cons}
-use Rattle.rules.proofs.Outcomes.{refused-sound, sound-same}
+use Rattle.rules.proofs.Tests.{pick-case, pick-second, all-cons}
+use Rattle.rules.proofs.Outcomes.{refused-sound}
 use Rattle.rules.proofs.Bounds.Sent.{area-meant, read-sent}
 use Rattle.rules.proofs.Bounds.Turns.{Steady, Fine, still-good}
 use Rattle.rules.proofs.Bounds.Arrivals.{arrives-fine}
@@ -50,20 +50,15 @@ fine-within a g =
 
 -- A message that is obeyed was read, and is carried.
 module _ (s : State ℕ) where
-  judged-sound : (o : Outcome (Message ℕ)) (m : Message ℕ) → judged s o ≡ sound m → (o ≡ sound m) × (isCarriedBy s m ≡ true)
-  unfolding judged
-  judged-sound (refused n) m e = absurd (refused-sound e)
-  judged-sound (sound k) m e =
-      let h = pick-first _ refused-sound e in
-      (h .1, subst (λ x. isCarriedBy s x ≡ true) (sound-same (h .1)) (h .0))
-
   pub considered-sound : (bytes : List ℕ) (m : Message ℕ) → considered s bytes ≡ sound m → (read bytes ≡ sound m) × (isCarriedBy s m ≡ true)
-  unfolding considered
+  unfolding considered refusals firstOf carries
   considered-sound bytes m e =
-      let length = pick-first _ refused-sound e in
-      let kind = pick-first _ refused-sound (length .1) in
-      let time = pick-first _ refused-sound (kind .1) in
-      judged-sound (read bytes) m (time .1)
+      let size = pick-second _ refused-sound e in
+      let kind = pick-second _ refused-sound (size .1) in
+      let time = pick-second _ refused-sound (kind .1) in
+      let whole = pick-second _ refused-sound (time .1) in
+      let carried = pick-second _ refused-sound (whole .1) in
+      (carried .1, subst (λ o. carries s o ≡ true) (carried .1) (not-false (carries s (read bytes)) (carried .0)))
 
 module _ {s : State ℕ} (h : Steady BoundedRead s) where
   refuses-within : (n : ℕ) → Within (refuses n s)
@@ -85,11 +80,11 @@ module _ {s : State ℕ} (h : Steady BoundedRead s) where
   answers-within (message bytes) small = hears-within bytes small (considered s bytes) refl
 
 pub call-within : (c : Call ℕ) (s : State ℕ) → isByteEvent (c .event) ≡ true → Bounded s → Within (answer codes c s)
-unfolding answer
+unfolding answer firstOf
 call-within c s byte b =
-    pick-case (λ (f : State ℕ → Answer ℕ). Within (f s)) (isRoomy c)
-    (λ y. answers-within (steady b) (c .event) byte)
-    (λ n. refuses-within (steady b) _)
+    pick-case (λ (f : State ℕ → Answer ℕ). Within (f s)) _
+    (λ y. refuses-within (steady b) _)
+    (λ n. answers-within (steady b) (c .event) byte)
 
 runFrom-within : (cs : List (Call ℕ)) (s : State ℕ) → all (λ c. isByteEvent (c .event)) cs ≡ true → Bounded s → AllWithin (runFrom codes s cs)
 unfolding runFrom

@@ -11,7 +11,7 @@ use Rattle.rules.specs.Numbers.{messageSize}
 use Rattle.rules.specs.Messages.Forms.{Message, write, startRead, readCharacteristics, characteristics}
 use Rattle.rules.specs.State.{Reading, State, codes}
 use Rattle.rules.specs.ReadData.{byUnread, waitingCount, checksInput, unreadsWhile, unreads}
-use Rattle.rules.specs.Host.{ourInitiate, initiates, completion, writesOut, obeys}
+use Rattle.rules.specs.Host.{ourInitiate, initiates, completion, stopsDiscarding, writesUnlessDiscarding, sendsCompletion, writesOut, obeys}
 use Rattle.rules.specs.Calls.{isCarriedBy}
 use Rattle.rules.specs.Bounds.{BoundedRead}
 use Rattle.rules.proofs.Tests.{pick-true, pick-false}
@@ -50,7 +50,7 @@ module _ {s : State ℕ} (h : Steady BoundedRead s) where
       only-good _ _ (λ y. completes-fine byUnread 0 r (omega arith) (bounded-answerable r b) h) (λ n. h)
 
   writesOut-fine : (m : Message ℕ) → length (m .text) ≤ messageSize → Fine (writesOut m s)
-  unfolding writesOut completion
+  unfolding writesOut stopsDiscarding writesUnlessDiscarding sendsCompletion completion
   writesOut-fine m text =
       let room = answer-room in
       let w = writing-room in

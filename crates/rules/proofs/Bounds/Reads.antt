@@ -12,8 +12,8 @@ use Rattle.rules.specs.Messages.Codec.{allBytes}
 use Rattle.rules.specs.Screen.{echoAll}
 use Rattle.rules.specs.State.{Typed, Reading, State, codes, withFrom}
 use Rattle.rules.specs.Turns.{Fate, only}
-use Rattle.rules.specs.ReadData.{byFullBuffer, moreData, answerOf, losesPartial, completes}
-use Rattle.rules.specs.Editing.{endOf, hiddenCount, inputCodes, shortened, deletesUnseen, displayed, rubbing, deletes, displays, redisplays}
+use Rattle.rules.specs.ReadData.{byFullBuffer, moreData, answerOf, losesPartial, sendsReadData, endsRead, completes}
+use Rattle.rules.specs.Editing.{endOf, hiddenCount, inputCodes, shortened, deletesUnseen, displayed, rubbing, deletes, displaysData, displays, redisplays}
 use Rattle.rules.specs.Bounds.{BoundedTyped, BoundedReading, BoundedRead}
 use Rattle.rules.proofs.Tests.{pick-case}
 use Rattle.rules.proofs.Sizes.{input-word}
@@ -52,7 +52,7 @@ loses-good h = only-good _ _ (λ y. tells-then _ _ (changes-good _ (retyped h (e
 -- A completion, whatever read was pending: none is afterwards.
 pub completes-good : {R : OfRead} {bytes : ℕ} {s : State ℕ} (code ending : ℕ) (r : Reading ℕ) → code ≤ 13 → Answerable r → Steady R s →
     Good BoundedRead bytes (10 + inputSize) (completes codes code ending r s)
-unfolding completes
+unfolding completes sendsReadData endsRead
 completes-good code ending r c a h =
     quiet-then _ _ (loses-good h) λ s₁ h₁.
     then-quiet _ _ (sends-good _ (answer-sent code ending r s₁ c a) (omega arith) h₁) λ s₂ h₂.
@@ -122,7 +122,7 @@ echoed-length r column =
 pub displays-good : {P R : OfRead} {bytes area : ℕ} {s : State ℕ} (r : Reading ℕ) →
     ((column : ℕ) → column ≤ topColumn → R (some (withFrom column r))) →
     length (r .terms .prompt) + 8 * length (r .input) ≤ bytes → Steady P s → Good R bytes area (displays codes r s)
-unfolding displays
+unfolding displays displaysData
 displays-good {area = area} r begun room h =
     then-good _ _ (length (r .terms .prompt)) (8 * length (r .input)) 0 area room (omega arith)
     (writes-good _ (omega arith) h) λ s₁ h₁.

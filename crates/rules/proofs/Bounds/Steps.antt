@@ -17,8 +17,8 @@ use Rattle.rules.specs.Token.{Place, empty, invalid, placeFrom, isFinish
 use Rattle.rules.specs.Turns.{Fate, edited}
 use Rattle.rules.specs.ReadData.{tokenCodes, byTerminator, byTimeout, byUnderflow, byAbsentee}
 use Rattle.rules.specs.Editing.{endOf, deletes}
-use Rattle.rules.specs.Steps.{appended, tokenCode, takesToken, addsToToken, takesData, terminates, underflows, erases, erasesAll}
-use Rattle.rules.specs.Steps.{showsAgain, edits, takesPlain, raisedBy, takes, takesFirst, stepsWhile, steps, idles, ticksWhile, ticks}
+use Rattle.rules.specs.Steps.{appended, tokenCode, endsByToken, takesToken, addsToToken, echoesIf, takesData, echoesTerminatorIf, terminates, underflows, erases, erasesAll}
+use Rattle.rules.specs.Steps.{showsAgain, edits, takesPlain, raisedBy, takes, takesFirst, stepsWhile, steps, setsIdle, idles, ticksWhile, ticks}
 use Rattle.rules.specs.Bounds.{BoundedTyped, BoundedReading, BoundedRead}
 use Rattle.rules.proofs.Tests.{pick-case, all-cons}
 use Rattle.rules.proofs.Bounds.Bytes.{one-byte, bytes-append}
@@ -91,7 +91,7 @@ raisedBy-byte r c h =
 
 module _ (r : Reading ℕ) (b : BoundedReading r) where
   takesToken-fine : {s : State ℕ} → Steady BoundedRead s → Fine (takesToken codes r s)
-  unfolding takesToken
+  unfolding takesToken endsByToken
   takesToken-fine {s = s} h =
       pick-good _ _ _
       (λ y. changes-then _ _
@@ -128,7 +128,7 @@ module _ (r : Reading ℕ) (b : BoundedReading r) where
         appended-bounded (c ∷ []) r b (one-byte c byte) (omega arith)
 
     takesData-fine : {s : State ℕ} → Steady BoundedRead s → Fine (takesData codes c r s)
-    unfolding takesData
+    unfolding takesData echoesIf
     takesData-fine h =
         let full = eqb (endOf r + 1) (r .terms .maxLength) in
         fine 8 (10 + inputSize) (omega arith) (omega arith)
@@ -137,7 +137,7 @@ module _ (r : Reading ℕ) (b : BoundedReading r) where
         completes-full full (appended (c ∷ []) r) one-answerable h₁))
 
     terminates-fine : {s : State ℕ} → Steady BoundedRead s → Fine (terminates codes c r s)
-    unfolding terminates
+    unfolding terminates echoesTerminatorIf
     terminates-fine h =
         fine 8 (10 + inputSize) (omega arith) (omega arith)
         (writes-sends _ _ (writes-good _ (echoed-length (r .terms .terminatorEcho && r .terms .echoes) _ (terminatorEcho-length _ c)) h) λ s₁ h₁.
@@ -190,7 +190,7 @@ module _ (r : Reading ℕ) (b : BoundedReading r) {s : State ℕ} (h : Steady Bo
       (takes-fine (withIdle 0 r) again k (first .0) part (reread (retyped h (first .1)) (some (withIdle 0 r)) again)))
 
   idles-fine : Fine (idles codes r s)
-  unfolding idles
+  unfolding idles setsIdle
   idles-fine =
       pick-good _ _ _ (λ y. completes-fine byTimeout 0 r (omega arith) (bounded-answerable r b) h) λ n.
       let due = leb-false (r .terms .timeout) (r .idle + 1) n in

@@ -7,11 +7,11 @@ use mathlib.Core.Option.{Option, none, some, Option·map}
 use lib.ListN.{length-map}
 use Rattle.rules.specs.State.{Characters, Reading}
 use Rattle.rules.specs.Turns.{cleared}
-use Rattle.rules.specs.Arrival.{idleAgain, keeps, drops, stores, storesQuoted, quotes, flipsDiscard, passesControls}
+use Rattle.rules.specs.Arrival.{idleAgain, keeps, countsDropped, drops, stores, storesQuoted, quotes, sendsDiscardState, flipsDiscard, passesControls}
 use Rattle.rules.specs.Arrival.{emptiesTyped, clearsUnseen, clearsSeen, clears, clearsBy}
 use Rattle.rules.specs.Arrival.{sendsOutOfBand, endsOutOfBand, clearsAtOnce, controlled, ruled, arrives}
 use Rattle.rules.proofs.Erasure.Maps.{Maps, mapReading}
-use Rattle.rules.proofs.Erasure.Parts.{Erases, here, erases-still, erases-writes, erases-plain, erases-tells, erases-changes}
+use Rattle.rules.proofs.Erasure.Parts.{Erases, erases-here, erases-still, erases-writes, erases-plain, erases-tells, erases-changes}
 use Rattle.rules.proofs.Erasure.Parts.{erases-then, erases-pick}
 use Rattle.rules.proofs.Erasure.ReadData.{erase-completes}
 use Rattle.rules.proofs.Erasure.Editing.{erase-deletes, erase-deletesUnseen}
@@ -27,14 +27,14 @@ module _ {C D : Type 0} {f : C → D} {cs : Characters C} {ds : Characters D} (m
   erase-keeps quoted c = erases-changes _ _ (λ s. simp (map-append, erase-idleAgain))
 
   erase-drops : (c : C) → Erases f (drops c) (drops (f c))
-  unfolding drops
+  unfolding drops countsDropped
   erase-drops c =
       erases-then (erases-tells _ refl) (erases-then (erases-writes refl) (erases-changes _ _ (λ s. refl)))
 
   erase-stores : (limit : ℕ) (quoted : Bool) (c : C) → Erases f (stores limit quoted c) (stores limit quoted (f c))
   unfolding stores
   erase-stores limit quoted c =
-      record { at = λ s. here s (erases-pick (simp length-map) (erase-keeps quoted c) (erase-drops c)) }
+      record { at = λ s. erases-here s (erases-pick (simp length-map) (erase-keeps quoted c) (erase-drops c)) }
 
   erase-storesQuoted : (c : C) → Erases f (storesQuoted c) (storesQuoted (f c))
   unfolding storesQuoted
@@ -45,10 +45,10 @@ module _ {C D : Type 0} {f : C → D} {cs : Characters C} {ds : Characters D} (m
   erase-quotes c = erases-then (erases-tells _ refl) (erases-changes _ _ (λ s. refl))
 
   erase-flipsDiscard : (c : C) → Erases f (flipsDiscard c) (flipsDiscard (f c))
-  unfolding flipsDiscard
+  unfolding flipsDiscard sendsDiscardState
   erase-flipsDiscard c =
       erases-then (erases-tells _ refl)
-      (erases-then (erases-changes _ _ (λ s. refl)) (record { at = λ s. here s (erases-plain _ refl) }))
+      (erases-then (erases-changes _ _ (λ s. refl)) (record { at = λ s. erases-here s (erases-plain _ refl) }))
 
   erase-passesControls : (x : Option (Reading C)) → passesControls (Option·map (mapReading f) x) ≡ passesControls x
   unfolding passesControls
@@ -58,7 +58,7 @@ module _ {C D : Type 0} {f : C → D} {cs : Characters C} {ds : Characters D} (m
   pub erase-emptiesTyped : Erases f emptiesTyped emptiesTyped
   unfolding emptiesTyped
   erase-emptiesTyped =
-      record { at = λ s. here s (erases-then (erases-tells _ (simp (map-append, map-map))) (erases-changes _ _ (λ s. refl))) }
+      record { at = λ s. erases-here s (erases-then (erases-tells _ (simp (map-append, map-map))) (erases-changes _ _ (λ s. refl))) }
 
   erase-clearsUnseen : (x : Option (Reading C)) → Erases f (clearsUnseen x) (clearsUnseen (Option·map (mapReading f) x))
   unfolding clearsUnseen
@@ -72,7 +72,7 @@ module _ {C D : Type 0} {f : C → D} {cs : Characters C} {ds : Characters D} (m
 
   pub erase-clears : Erases f (clears cs) (clears ds)
   unfolding clears
-  erase-clears = record { at = λ s. here s (erases-then erase-emptiesTyped (erase-clearsSeen (s .read))) }
+  erase-clears = record { at = λ s. erases-here s (erases-then erase-emptiesTyped (erase-clearsSeen (s .read))) }
 
   erase-clearsBy : (c : C) → Erases f (clearsBy cs c) (clearsBy ds (f c))
   unfolding clearsBy
@@ -92,8 +92,8 @@ module _ {C D : Type 0} {f : C → D} {cs : Characters C} {ds : Characters D} (m
   erase-clearsAtOnce c =
       erases-then (erase-sendsOutOfBand c)
       (erases-then erase-emptiesTyped
-      (erases-then (record { at = λ s. here s (erase-clearsUnseen (s .read)) })
-      (record { at = λ s. here s (erase-endsOutOfBand (s .read)) })))
+      (erases-then (record { at = λ s. erases-here s (erase-clearsUnseen (s .read)) })
+      (record { at = λ s. erases-here s (erase-endsOutOfBand (s .read)) })))
 
   erase-controlled : (c : C) → Erases f (controlled cs c) (controlled ds (f c))
   unfolding controlled
@@ -108,7 +108,7 @@ module _ {C D : Type 0} {f : C → D} {cs : Characters C} {ds : Characters D} (m
   erase-ruled c =
       record {
         at = λ s.
-            here s
+            erases-here s
             (erases-pick refl (erase-storesQuoted c)
             (erases-pick (rw (m .code)) (erase-sendsOutOfBand c)
             (erases-pick (rw (m .code)) (erase-clearsAtOnce c)
@@ -121,6 +121,6 @@ module _ {C D : Type 0} {f : C → D} {cs : Characters C} {ds : Characters D} (m
   erase-arrives c =
       record {
         at = λ s.
-            here s
+            erases-here s
             (erases-then (erases-tells _ (rw (m .code))) (erases-pick refl (erase-ruled c) (erase-stores _ _ c)));
       }

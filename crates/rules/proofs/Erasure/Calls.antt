@@ -3,14 +3,15 @@ use mathlib.Core.Path.{_≡_, refl}
 use Prim.Native.Nat.{ℕ}
 use mathlib.Core.List.{List, [], _∷_, map}
 use mathlib.Core.Option.{Option, none, some, Option·map}
+use Rattle.rules.specs.Choice.{firstOf}
 use Rattle.rules.specs.Numbers.{accepted}
 use Rattle.rules.specs.Messages.Forms.{Message}
 use Rattle.rules.specs.Messages.Codec.{Outcome, refused, sound, read}
 use Rattle.rules.specs.State.{Characters, Reading, State, fresh}
 use Rattle.rules.specs.Turns.{Part, still}
 use Rattle.rules.specs.Calls.{Event, key, step, tick, message, Call, Answer}
-use Rattle.rules.specs.Calls.{isPending, isTimely, carriesQuestions, isCarriedBy, judged, considered}
-use Rattle.rules.specs.Calls.{refuses, does, isRoomy, hears, answers, answer, runFrom, run}
+use Rattle.rules.specs.Calls.{isPending, isTimely, carriesQuestions, isCarriedBy, carries, refusals, considered}
+use Rattle.rules.specs.Calls.{refuses, does, hears, answers, answer, runFrom, run}
 use Rattle.rules.proofs.Tests.{pick-both}
 use Rattle.rules.proofs.Erasure.Maps.{Maps, mapReading, mapState, mapEvent, mapCall, mapAnswer}
 use Rattle.rules.proofs.Erasure.Parts.{Erases}
@@ -28,14 +29,14 @@ module _ {C D : Type 0} {f : C → D} {cs : Characters C} {ds : Characters D} (m
   unfolding isTimely
   erase-isTimely kind s = rw (erase-isPending (s .read))
 
-  erase-judged : (s : State C) (o : Outcome (Message ℕ)) → judged (mapState f s) o ≡ judged s o
-  unfolding judged isCarriedBy carriesQuestions
-  erase-judged s (refused n) = refl
-  erase-judged s (sound n) = refl
+  erase-carries : (s : State C) (o : Outcome (Message ℕ)) → carries (mapState f s) o ≡ carries s o
+  unfolding carries isCarriedBy carriesQuestions
+  erase-carries s (refused n) = refl
+  erase-carries s (sound n) = refl
 
   erase-considered : (s : State C) (bytes : List ℕ) → considered (mapState f s) bytes ≡ considered s bytes
-  unfolding considered
-  erase-considered s bytes = rw (erase-isTimely _ s, erase-judged s (read bytes))
+  unfolding considered refusals
+  erase-considered s bytes = rw (erase-isTimely _ s, erase-carries s (read bytes))
 
   erase-refuses : (n : ℕ) (s : State C) → mapAnswer f (refuses n s) ≡ refuses n (mapState f s)
   unfolding refuses still
@@ -58,11 +59,11 @@ module _ {C D : Type 0} {f : C → D} {cs : Characters C} {ds : Characters D} (m
   erase-answers (message bytes) s = rw (erase-considered s bytes) (erase-hears (considered s bytes) s)
 
   pub erase-answer : (c : Call C) (s : State C) → mapAnswer f (answer cs c s) ≡ answer ds (mapCall f c) (mapState f s)
-  unfolding answer isRoomy
+  unfolding answer firstOf
   erase-answer c s =
       pick-both (λ (F : State C → Answer C) (G : State D → Answer D). mapAnswer f (F s) ≡ G (mapState f s)) _
-      (erase-answers (c .event) s)
       (erase-refuses _ s)
+      (erase-answers (c .event) s)
 
   pub erase-runFrom : (s : State C) (calls : List (Call C)) →
       map (mapAnswer f) (runFrom cs s calls) ≡ runFrom ds (mapState f s) (map (mapCall f) calls)

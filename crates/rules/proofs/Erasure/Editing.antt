@@ -5,10 +5,10 @@ use mathlib.Core.List.{map-map}
 use lib.ListN.{length-map}
 use Rattle.rules.specs.State.{Characters, Reading}
 use Rattle.rules.specs.Turns.{Fate}
-use Rattle.rules.specs.Editing.{endOf, hiddenCount, shortened, deletesUnseen, displayed, rubbing, deletes, displays, redisplays}
+use Rattle.rules.specs.Editing.{endOf, hiddenCount, shortened, deletesUnseen, displayed, rubbing, deletes, displaysData, displays, redisplays}
 use Rattle.rules.proofs.Erasure.Maps.{Maps, mapReading, mapFate}
 use Rattle.rules.proofs.Erasure.Lists.{map-take, map-drop, codes-same}
-use Rattle.rules.proofs.Erasure.Parts.{Erases, here, erases-writes, erases-tells, erases-reading, erases-then}
+use Rattle.rules.proofs.Erasure.Parts.{Erases, erases-here, erases-writes, erases-tells, erases-reading, erases-then}
 
 module _ {C D : Type 0} {f : C → D} {cs : Characters C} {ds : Characters D} (m : Maps f cs ds) where
   pub erase-endOf : (r : Reading C) → endOf (mapReading f r) ≡ endOf r
@@ -38,10 +38,10 @@ module _ {C D : Type 0} {f : C → D} {cs : Characters C} {ds : Characters D} (m
     erase-deletes = erases-then (erases-writes (erase-rubbing left r)) erase-deletesUnseen
 
   pub erase-displays : (r : Reading C) → Erases f (displays cs r) (displays ds (mapReading f r))
-  unfolding displays
+  unfolding displays displaysData
   erase-displays r =
       erases-then (erases-writes refl)
-      (record { at = λ s. here s (erases-then (erases-reading _ refl) (erases-writes (rw (erase-displayed r)))) })
+      (record { at = λ s. erases-here s (erases-then (erases-reading _ refl) (erases-writes (rw (erase-displayed r)))) })
 
   pub erase-redisplays : (r : Reading C) → Erases f (redisplays cs r) (redisplays ds (mapReading f r))
   unfolding redisplays

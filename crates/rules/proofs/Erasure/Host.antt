@@ -4,10 +4,10 @@ use Prim.Native.Nat.{ℕ}
 use Rattle.rules.specs.Messages.Forms.{Message}
 use Rattle.rules.specs.State.{Characters}
 use Rattle.rules.specs.Characteristics.{report}
-use Rattle.rules.specs.Host.{ourInitiate, initiates, completion, writesOut, reports, setsCharacteristics, obeys}
+use Rattle.rules.specs.Host.{ourInitiate, initiates, completion, stopsDiscarding, writesUnlessDiscarding, sendsCompletion, writesOut, reports, setsCharacteristics, obeys}
 use Rattle.rules.specs.Calls.{mapText}
 use Rattle.rules.proofs.Erasure.Maps.{Maps}
-use Rattle.rules.proofs.Erasure.Parts.{Erases, here, erases-writes, erases-sends, erases-plain, erases-changes}
+use Rattle.rules.proofs.Erasure.Parts.{Erases, erases-here, erases-writes, erases-sends, erases-plain, erases-changes}
 use Rattle.rules.proofs.Erasure.Parts.{erases-then, erases-pick, erases-only}
 use Rattle.rules.proofs.Erasure.ReadData.{erase-unreads, erase-checksInput}
 use Rattle.rules.proofs.Erasure.Arrival.{erase-clears}
@@ -19,19 +19,19 @@ module _ {C D : Type 0} {f : C → D} {cs : Characters C} {ds : Characters D} (m
   erase-initiates = erases-then (erases-changes _ _ (λ s. refl)) (erases-sends _ refl)
 
   erase-writesOut : (n : Message ℕ) → Erases f (writesOut n) (writesOut n)
-  unfolding writesOut completion
+  unfolding writesOut stopsDiscarding writesUnlessDiscarding sendsCompletion completion
   erase-writesOut n =
       record {
         at = λ s.
-            here s
+            erases-here s
             (erases-then (erases-only refl (erases-changes _ _ (λ s. refl)))
-            (erases-then (record { at = λ s. here s (erases-only refl (erases-writes refl)) })
-            (erases-only refl (record { at = λ s. here s (erases-plain _ refl) }))));
+            (erases-then (record { at = λ s. erases-here s (erases-only refl (erases-writes refl)) })
+            (erases-only refl (record { at = λ s. erases-here s (erases-plain _ refl) }))));
       }
 
   erase-reports : (n : Message ℕ) → Erases f (reports n) (reports n)
   unfolding reports report mapText
-  erase-reports n = record { at = λ s. here s (erases-sends _ refl) }
+  erase-reports n = record { at = λ s. erases-here s (erases-sends _ refl) }
 
   erase-setsCharacteristics : (n : Message ℕ) → Erases f (setsCharacteristics n) (setsCharacteristics n)
   unfolding setsCharacteristics

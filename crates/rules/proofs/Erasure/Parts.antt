@@ -17,9 +17,9 @@ pub record Erases {C D : Type 0} (f : C → D) (F : Part C) (G : Part D) : Type 
   pub at : (s : State C) → mapTurn f (F s) ≡ G (mapState f s)
 
 module _ {C D : Type 0} {f : C → D} where
-  -- at one state: for a rule that looks at the state, `record { at = λ s. here s .. }`
-  pub here : (s : State C) {F : Part C} {G : Part D} → Erases f F G → mapTurn f (F s) ≡ G (mapState f s)
-  here s p = p .at s
+  -- at one state: for a rule that looks at the state, `record { at = λ s. erases-here s .. }`
+  pub erases-here : (s : State C) {F : Part C} {G : Part D} → Erases f F G → mapTurn f (F s) ≡ G (mapState f s)
+  erases-here s p = p .at s
 
   pub erases-still : Erases f still still
   unfolding still

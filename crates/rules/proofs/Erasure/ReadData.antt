@@ -6,11 +6,11 @@ use mathlib.Core.Option.{Option, none, some, Option·map}
 use lib.ListN.{length-map}
 use Rattle.rules.specs.Messages.Forms.{Message}
 use Rattle.rules.specs.State.{Characters, Reading, State, Typed}
-use Rattle.rules.specs.ReadData.{waitingCount, checksInput, moreData, answerOf, losesPartial, completes, unreadsWhile, unreads}
+use Rattle.rules.specs.ReadData.{waitingCount, checksInput, moreData, answerOf, losesPartial, sendsReadData, endsRead, completes, unreadsWhile, unreads}
 use Rattle.rules.specs.Calls.{mapText}
 use Rattle.rules.proofs.Erasure.Maps.{Maps, mapTyped, mapReading, mapState}
 use Rattle.rules.proofs.Erasure.Lists.{isEmpty-map, codes-same}
-use Rattle.rules.proofs.Erasure.Parts.{Erases, here, erases-still, erases-sends, erases-plain, erases-tells, erases-changes}
+use Rattle.rules.proofs.Erasure.Parts.{Erases, erases-here, erases-still, erases-sends, erases-plain, erases-tells, erases-changes}
 use Rattle.rules.proofs.Erasure.Parts.{erases-then, erases-only}
 
 module _ {C D : Type 0} {f : C → D} {cs : Characters C} {ds : Characters D} (m : Maps f cs ds) where
@@ -20,7 +20,7 @@ module _ {C D : Type 0} {f : C → D} {cs : Characters C} {ds : Characters D} (m
 
   pub erase-checksInput : Erases f checksInput checksInput
   unfolding checksInput
-  erase-checksInput = record { at = λ s. here s (erases-plain _ (rw (erase-waitingCount (s .typed)))) }
+  erase-checksInput = record { at = λ s. erases-here s (erases-plain _ (rw (erase-waitingCount (s .typed)))) }
 
   erase-moreData : (s : State C) → moreData ds (mapState f s) ≡ moreData cs s
   unfolding moreData
@@ -36,23 +36,23 @@ module _ {C D : Type 0} {f : C → D} {cs : Characters C} {ds : Characters D} (m
   erase-losesPartial =
       record {
         at = λ s.
-            here s
+            erases-here s
             (erases-only (simp (codes-same m)) (erases-then (erases-tells _ (simp map-map)) (erases-changes _ _ (λ s. refl))));
       }
 
   pub erase-completes : (code ending : ℕ) (r : Reading C) → Erases f (completes cs code ending r) (completes ds code ending (mapReading f r))
-  unfolding completes
+  unfolding completes sendsReadData endsRead
   erase-completes code ending r =
       erases-then erase-losesPartial
-      (erases-then (record { at = λ s. here s (erases-sends _ (erase-answerOf code ending r s)) })
+      (erases-then (record { at = λ s. erases-here s (erases-sends _ (erase-answerOf code ending r s)) })
       (erases-changes _ _ (λ s. refl)))
 
   erase-unreadsWhile : (x : Option (Reading C)) (n : Message ℕ) →
       Erases f (unreadsWhile cs x n) (unreadsWhile ds (Option·map (mapReading f) x) n)
   unfolding unreadsWhile
   erase-unreadsWhile none n = erases-still
-  erase-unreadsWhile (some r) n = record { at = λ s. here s (erases-only (simp isEmpty-map) (erase-completes _ _ r)) }
+  erase-unreadsWhile (some r) n = record { at = λ s. erases-here s (erases-only (simp isEmpty-map) (erase-completes _ _ r)) }
 
   pub erase-unreads : (n : Message ℕ) → Erases f (unreads cs n) (unreads ds n)
   unfolding unreads
-  erase-unreads n = record { at = λ s. here s (erase-unreadsWhile (s .read) n) }
+  erase-unreads n = record { at = λ s. erases-here s (erase-unreadsWhile (s .read) n) }

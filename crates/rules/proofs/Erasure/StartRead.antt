@@ -4,9 +4,9 @@ use Prim.Native.Nat.{ℕ}
 use mathlib.Core.List.{map-map}
 use Rattle.rules.specs.Messages.Forms.{Message}
 use Rattle.rules.specs.State.{Characters, Reading, State}
-use Rattle.rules.specs.StartRead.Acceptance.{termsOf, readingOf, remembersSet, begins, startsRead}
+use Rattle.rules.specs.StartRead.Acceptance.{termsOf, readingOf, remembersSet, clearsFirst, feedsLine, autoPrompts, completesIfFull, begins, startsRead}
 use Rattle.rules.proofs.Erasure.Maps.{Maps, mapReading, mapState}
-use Rattle.rules.proofs.Erasure.Parts.{Erases, here, erases-writes, erases-changes, erases-then, erases-only}
+use Rattle.rules.proofs.Erasure.Parts.{Erases, erases-here, erases-writes, erases-changes, erases-then, erases-only}
 use Rattle.rules.proofs.Erasure.ReadData.{erase-completes}
 use Rattle.rules.proofs.Erasure.Editing.{erase-displays}
 use Rattle.rules.proofs.Erasure.Arrival.{erase-emptiesTyped}
@@ -21,11 +21,11 @@ module _ {C D : Type 0} {f : C → D} {cs : Characters C} {ds : Characters D} (m
   erase-remembersSet = erases-only refl (erases-changes _ _ (λ s. refl))
 
   erase-begins : (r : Reading C) → Erases f (begins cs n r) (begins ds n (mapReading f r))
-  unfolding begins
+  unfolding begins clearsFirst feedsLine autoPrompts completesIfFull
   erase-begins r =
       erases-then (erases-only refl (erase-emptiesTyped m))
-      (erases-then (record { at = λ s. here s (erases-only refl (erases-writes refl)) })
-      (erases-then (record { at = λ s. here s (erases-only refl (erases-writes refl)) })
+      (erases-then (record { at = λ s. erases-here s (erases-only refl (erases-writes refl)) })
+      (erases-then (record { at = λ s. erases-here s (erases-only refl (erases-writes refl)) })
       (erases-then (erase-displays m r)
       (erases-only refl (erase-completes m _ _ r)))))
 
@@ -33,5 +33,5 @@ module _ {C D : Type 0} {f : C → D} {cs : Characters C} {ds : Characters D} (m
   unfolding startsRead
   erase-startsRead =
       record {
-        at = λ s. here s (erases-then (rw (← erase-readingOf s) (erase-begins (readingOf cs n s))) erase-remembersSet);
+        at = λ s. erases-here s (erases-then (rw (← erase-readingOf s) (erase-begins (readingOf cs n s))) erase-remembersSet);
       }

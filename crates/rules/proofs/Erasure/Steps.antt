@@ -7,12 +7,12 @@ use lib.ListN.{length-map}
 use Rattle.rules.specs.State.{Characters, Key, Reading, withIdle}
 use Rattle.rules.specs.Turns.{edited}
 use Rattle.rules.specs.ReadData.{completes}
-use Rattle.rules.specs.Steps.{appended, editsBy, beginsToken, tokenCode, takesToken, addsToToken, takesData, terminates}
+use Rattle.rules.specs.Steps.{appended, editsBy, beginsToken, tokenCode, endsByToken, takesToken, addsToToken, echoesIf, takesData, echoesTerminatorIf, terminates}
 use Rattle.rules.specs.Steps.{underflows, erases, erasesAll, showsAgain, edits, takesPlain, raisedBy, takes, takesFirst}
-use Rattle.rules.specs.Steps.{stepsWhile, steps, idles, ticksWhile, ticks}
+use Rattle.rules.specs.Steps.{stepsWhile, steps, setsIdle, idles, ticksWhile, ticks}
 use Rattle.rules.proofs.Erasure.Maps.{Maps, mapKey, mapReading}
 use Rattle.rules.proofs.Erasure.Lists.{isEmpty-map, map-pick, codes-same}
-use Rattle.rules.proofs.Erasure.Parts.{Erases, here, erases-still, erases-writes, erases-tells, erases-changes, erases-reading}
+use Rattle.rules.proofs.Erasure.Parts.{Erases, erases-here, erases-still, erases-writes, erases-tells, erases-changes, erases-reading}
 use Rattle.rules.proofs.Erasure.Parts.{erases-then, erases-pick, erases-only}
 use Rattle.rules.proofs.Erasure.ReadData.{erase-completes}
 use Rattle.rules.proofs.Erasure.Editing.{erase-endOf, erase-deletes, erase-redisplays}
@@ -31,16 +31,22 @@ module _ {C D : Type 0} {f : C → D} {cs : Characters C} {ds : Characters D} (m
   unfolding tokenCode
   erase-tokenCode xs = simp (codes-same m)
 
+  erase-endsByToken : (r : Reading C) → Erases f (endsByToken cs r) (endsByToken ds (mapReading f r))
+  unfolding endsByToken
+  erase-endsByToken r =
+      record {
+        at = λ s.
+            erases-here s
+            (erases-then (erases-changes _ _ (λ s. refl))
+            (rw (erase-tokenCode (s .typed .token), length-map) (erase-completesWith _ _ (s .typed .token) r)));
+      }
+
   erase-takesToken : (r : Reading C) → Erases f (takesToken cs r) (takesToken ds (mapReading f r))
   unfolding takesToken
   erase-takesToken r =
       record {
         at = λ s.
-            here s
-            (erases-pick (simp (erase-endOf m r, length-map))
-            (erases-then (erases-changes _ _ (λ s. refl))
-            (rw (erase-tokenCode (s .typed .token), length-map) (erase-completesWith _ _ (s .typed .token) r)))
-            (erase-completes m _ _ r));
+            erases-here s (erases-pick (simp (erase-endOf m r, length-map)) (erase-endsByToken r) (erase-completes m _ _ r));
       }
 
   erase-addsToToken : (c : C) (r : Reading C) → Erases f (addsToToken cs c r) (addsToToken ds (f c) (mapReading f r))
@@ -48,19 +54,19 @@ module _ {C D : Type 0} {f : C → D} {cs : Characters C} {ds : Characters D} (m
   erase-addsToToken c r =
       erases-then (erases-tells _ refl)
       (erases-then (erases-changes _ _ (λ s. simp map-append))
-      (record { at = λ s. here s (erases-only (simp (codes-same m)) (erase-takesToken r)) }))
+      (record { at = λ s. erases-here s (erases-only (simp (codes-same m)) (erase-takesToken r)) }))
 
   erase-takesData : (c : C) (r : Reading C) → Erases f (takesData cs c r) (takesData ds (f c) (mapReading f r))
-  unfolding takesData
+  unfolding takesData echoesIf
   erase-takesData c r =
       erases-then (erases-reading _ (erase-appended (c ∷ []) r))
-      (erases-then (record { at = λ s. here s (erases-writes (rw (m .code))) })
+      (erases-then (record { at = λ s. erases-here s (erases-writes (rw (m .code))) })
       (erases-only (rw (erase-endOf m r)) (erase-completesWith _ _ (c ∷ []) r)))
 
   erase-terminates : (c : C) (r : Reading C) → Erases f (terminates cs c r) (terminates ds (f c) (mapReading f r))
-  unfolding terminates
+  unfolding terminates echoesTerminatorIf
   erase-terminates c r =
-      erases-then (record { at = λ s. here s (erases-writes (rw (m .code))) }) (erase-completesWith _ _ (c ∷ []) r)
+      erases-then (record { at = λ s. erases-here s (erases-writes (rw (m .code))) }) (erase-completesWith _ _ (c ∷ []) r)
 
   erase-underflows : (c : C) (r : Reading C) → Erases f (underflows cs c r) (underflows ds (f c) (mapReading f r))
   unfolding underflows
@@ -106,7 +112,7 @@ module _ {C D : Type 0} {f : C → D} {cs : Characters C} {ds : Characters D} (m
   erase-takes k r =
       record {
         at = λ s.
-            here s
+            erases-here s
             (erases-pick (simp (codes-same m)) (erase-addsToToken (k .char) r)
             (erases-pick refl (erase-takesData (k .char) r)
             (erases-pick (rw (m .code)) (erase-addsToToken (k .char) r)
@@ -124,23 +130,23 @@ module _ {C D : Type 0} {f : C → D} {cs : Characters C} {ds : Characters D} (m
   erase-stepsWhile none = erases-still
   erase-stepsWhile (some r) =
       record {
-        at = λ s. here s (erases-pick (simp (codes-same m)) (erase-takesToken r) (erase-takesFirst (s .typed .typeAhead) r));
+        at = λ s. erases-here s (erases-pick (simp (codes-same m)) (erase-takesToken r) (erase-takesFirst (s .typed .typeAhead) r));
       }
 
   pub erase-steps : Erases f (steps cs) (steps ds)
   unfolding steps
-  erase-steps = record { at = λ s. here s (erase-stepsWhile (s .read)) }
+  erase-steps = record { at = λ s. erases-here s (erase-stepsWhile (s .read)) }
 
   erase-idles : (r : Reading C) → Erases f (idles cs r) (idles ds (mapReading f r))
-  unfolding idles
+  unfolding idles setsIdle
   erase-idles r = erases-pick refl (erase-completes m _ _ r) (erases-reading _ refl)
 
   erase-ticksWhile : (x : Option (Reading C)) → Erases f (ticksWhile cs x) (ticksWhile ds (Option·map (mapReading f) x))
   unfolding ticksWhile
   erase-ticksWhile none = erases-still
   erase-ticksWhile (some r) =
-      record { at = λ s. here s (erases-only (simp (isEmpty-map, codes-same m)) (erase-idles r)) }
+      record { at = λ s. erases-here s (erases-only (simp (isEmpty-map, codes-same m)) (erase-idles r)) }
 
   pub erase-ticks : Erases f (ticks cs) (ticks ds)
   unfolding ticks
-  erase-ticks = record { at = λ s. here s (erase-ticksWhile (s .read)) }
+  erase-ticks = record { at = λ s. erases-here s (erase-ticksWhile (s .read)) }

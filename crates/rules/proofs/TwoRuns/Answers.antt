@@ -4,7 +4,7 @@ use mathlib.Core.Path.{_≡_, refl}
 use mathlib.Core.Bool.{Bool, true, false}
 use mathlib.Core.List.{List, [], _∷_, map}
 use lib.ListN.{drop}
-use Rattle.rules.specs.Choice.{all}
+use Rattle.rules.specs.Choice.{firstOf, all}
 use Rattle.rules.specs.Messages.Forms.{Message}
 use Rattle.rules.specs.Messages.Codec.{Outcome, refused, sound}
 use Rattle.rules.specs.State.{Characters, Reading, State, fresh}
@@ -13,10 +13,10 @@ use Rattle.rules.specs.Arrival.{arrives}
 use Rattle.rules.specs.TwoRuns.{preloaded}
 use Rattle.rules.specs.ReadData.{checksInput}
 use Rattle.rules.specs.StartRead.{endOfPrompt}
-use Rattle.rules.specs.StartRead.Acceptance.{termsOf, readingOf, remembersSet, begins, startsRead}
+use Rattle.rules.specs.StartRead.Acceptance.{termsOf, readingOf, remembersSet, clearsFirst, feedsLine, autoPrompts, completesIfFull, begins, startsRead}
 use Rattle.rules.specs.Characteristics.{report}
-use Rattle.rules.specs.Host.{ourInitiate, initiates, completion, writesOut, reports, setsCharacteristics, obeys}
-use Rattle.rules.specs.Calls.{Event, key, step, tick, message, Call, Answer, refuses, does, considered, isRoomy, hears, answers, answer}
+use Rattle.rules.specs.Host.{ourInitiate, initiates, completion, stopsDiscarding, writesUnlessDiscarding, sendsCompletion, writesOut, reports, setsCharacteristics, obeys}
+use Rattle.rules.specs.Calls.{Event, key, step, tick, message, Call, Answer, refuses, does, considered, hears, answers, answer}
 use Rattle.rules.proofs.Tests.{pick-both}
 use Rattle.rules.proofs.TwoRuns.Twins.{Twin, both, isBoth, code₁, code₂, first-chars, second-chars, LevelReading, Level}
 use Rattle.rules.proofs.TwoRuns.Twins.{Spared, isGuarded, Agree, Parts, Agreeing}
@@ -40,7 +40,7 @@ module _ {changed : ℕ → Bool} where
   -- Start Read.
 
   begins-agrees : (m : Message ℕ) (r : Reading (Twin changed)) → LevelReading r → Agreeing (λ chars. begins chars m r)
-  unfolding begins
+  unfolding begins clearsFirst feedsLine autoPrompts completesIfFull
   begins-agrees m r h =
       agrees-then (agrees-only refl emptiesTyped-agrees)
       (agrees-then (λ s. agrees-only refl (agrees-writes refl) s)
@@ -65,7 +65,7 @@ module _ {changed : ℕ → Bool} where
   initiates-agrees = agrees-then (agrees-host _) (agrees-sends refl refl)
 
   writesOut-agrees : (m : Message ℕ) → Agreeing {changed = changed} (λ chars. writesOut m)
-  unfolding writesOut completion isGuarded
+  unfolding writesOut stopsDiscarding writesUnlessDiscarding sendsCompletion completion isGuarded
   writesOut-agrees m before =
       agrees-then (agrees-only refl (agrees-terminal _))
       (agrees-then (λ s. agrees-only refl (agrees-writes refl) s)
@@ -154,7 +154,7 @@ module _ {changed : ℕ → Bool} (arrival : (Twin changed → ℕ) → Fate (Tw
       Supposed code₂ (answer second-chars c s .turn .fates) →
       (answer first-chars c s .number ≡ answer second-chars c s .number) ×
       Agree (answer first-chars c s .turn) (answer second-chars c s .turn)
-  unfolding answer
+  unfolding answer firstOf
   agree-answer heeded c s l x y =
-      let a = pick-both SameAnswers (isRoomy c) (answers-same heeded (c .event)) (refuses-same _) s l in
+      let a = pick-both SameAnswers _ (refuses-same _) (answers-same heeded (c .event)) s l in
       (a .number, a .turn x y)

@@ -8,7 +8,7 @@ use Rattle.rules.specs.Messages.Forms as forms
 use Rattle.rules.specs.Messages.Forms.{plain}
 use Rattle.rules.specs.State.{Reading, State}
 use Rattle.rules.specs.Turns.{cleared}
-use Rattle.rules.specs.Arrival.{isHello, isImmediateClear, idleAgain, keeps, drops, stores, storesQuoted, quotes, flipsDiscard}
+use Rattle.rules.specs.Arrival.{isHello, isImmediateClear, idleAgain, keeps, countsDropped, drops, stores, storesQuoted, quotes, sendsDiscardState, flipsDiscard}
 use Rattle.rules.specs.Arrival.{emptiesTyped, clearsUnseen, clearsSeen, clears, clearsBy}
 use Rattle.rules.specs.Arrival.{sendsOutOfBand, endsOutOfBand, clearsAtOnce, controlled, ruled, arrives}
 use Rattle.rules.proofs.Tests.{pick-cases}
@@ -33,7 +33,7 @@ module _ {changed : ℕ → Bool} where
   keeps-agrees quoted c = agrees-changes (λ s l. record { token = l .token; read = level-idle (s .read) (l .read) })
 
   drops-agrees : (c : Twin changed) → Agreeing (λ chars. drops c)
-  unfolding drops
+  unfolding drops countsDropped
   drops-agrees c = told _ _ (λ x y. agrees-then (agrees-writes refl) (agrees-terminal _))
 
   stores-agrees : (limit : ℕ) (quoted : Bool) (c : Twin changed) → Agreeing (λ chars. stores limit quoted c)
@@ -51,7 +51,7 @@ module _ {changed : ℕ → Bool} where
   quotes-agrees c = told _ _ (λ x y. agrees-terminal _)
 
   flipsDiscard-agrees : (c : Twin changed) → Agreeing (λ chars. flipsDiscard c)
-  unfolding flipsDiscard isGuarded
+  unfolding flipsDiscard sendsDiscardState isGuarded
   flipsDiscard-agrees c = told _ _ (λ x y. agrees-then (agrees-terminal _) (λ s. agrees-sends refl refl s))
 
   -- The clear rule.

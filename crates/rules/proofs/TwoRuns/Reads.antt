@@ -11,8 +11,8 @@ use Rattle.rules.specs.Screen.{echoAll, marksBehind, rubOut}
 use Rattle.rules.specs.State.{Reading, State}
 use Rattle.rules.specs.Token.{isWhole, isPartial}
 use Rattle.rules.specs.Turns.{Fate}
-use Rattle.rules.specs.ReadData.{tokenCodes, moreData, answerOf, losesPartial, completes, unreadsWhile, unreads}
-use Rattle.rules.specs.Editing.{hiddenCount, shortened, deletesUnseen, displayed, rubbing, deletes, displays, redisplays}
+use Rattle.rules.specs.ReadData.{tokenCodes, moreData, answerOf, losesPartial, sendsReadData, endsRead, completes, unreadsWhile, unreads}
+use Rattle.rules.specs.Editing.{hiddenCount, shortened, deletesUnseen, displayed, rubbing, deletes, displaysData, displays, redisplays}
 use Rattle.rules.proofs.Tests.{pick-same, all-split}
 use Rattle.rules.proofs.TwoRuns.Twins.{Twin, isBoth, first-chars, second-chars, same-codes, LevelReading, Level}
 use Rattle.rules.proofs.TwoRuns.Twins.{isGuarded, Parts, Agreeing}
@@ -47,7 +47,7 @@ module _ {changed : ℕ → Bool} where
   -- a read that completes is not pending: nothing is asked of its input
   pub completes-agrees : {code code′ : ℕ} → code ≡ code′ → (ending : ℕ) (r : Reading (Twin changed)) →
       Parts (completes first-chars code ending r) (completes second-chars code′ ending r)
-  unfolding completes
+  unfolding completes sendsReadData endsRead
   completes-agrees e ending r =
       agrees-then losesPartial-agrees
       (agrees-then (λ s l. agrees-sends (same-answer e ending r l) (answer-guarded _ ending r s) s l)
@@ -88,7 +88,7 @@ module _ {changed : ℕ → Bool} where
       (deletesUnseen-agrees fate left r h)
 
   pub displays-agrees : (r : Reading (Twin changed)) → LevelReading r → Agreeing (λ chars. displays chars r)
-  unfolding displays
+  unfolding displays displaysData
   displays-agrees r h =
       agrees-then (agrees-writes refl) (λ s.
       agrees-then (agrees-changes (λ u. level-read h))

@@ -11,9 +11,9 @@ use Rattle.rules.specs.State.{Key, Reading, withIdle}
 use Rattle.rules.specs.Token.{ESC, CSI, standing, isValid, isWhole, isPartial}
 use Rattle.rules.specs.Turns.{edited}
 use Rattle.rules.specs.ReadData.{byValidToken, byInvalidToken}
-use Rattle.rules.specs.Steps.{columnNow, appended, editsBy, beginsToken, tokenCode, takesToken, addsToToken, takesData, terminates}
+use Rattle.rules.specs.Steps.{columnNow, appended, editsBy, beginsToken, tokenCode, endsByToken, takesToken, addsToToken, echoesIf, takesData, echoesTerminatorIf, terminates}
 use Rattle.rules.specs.Steps.{underflows, erases, erasesAll, showsAgain, edits, takesPlain, raisedBy, takes, takesFirst}
-use Rattle.rules.specs.Steps.{stepsWhile, steps, idles, ticksWhile, ticks}
+use Rattle.rules.specs.Steps.{stepsWhile, steps, setsIdle, idles, ticksWhile, ticks}
 use Rattle.rules.proofs.Tests.{pick-same, pick-case, all-snoc}
 use Rattle.rules.proofs.TwoRuns.Printing.{printing}
 use Rattle.rules.proofs.TwoRuns.Twins.{Twin, isBoth, raise, code₁, code₂, first-chars, second-chars, same-code, same-codes, same-word}
@@ -31,12 +31,14 @@ module _ {changed : ℕ → Bool} where
   unfolding tokenCode
   same-tokenCode cs e = ap (λ ns. pick (isValid (standing ns)) byValidToken byInvalidToken) (same-codes cs e)
 
+  endsByToken-agrees : (r : Reading (Twin changed)) → Agreeing (λ chars. endsByToken chars r)
+  unfolding endsByToken
+  endsByToken-agrees r s l =
+      agrees-then (agrees-changes (λ u. level-emptied)) (completes-agrees (same-tokenCode (s .typed .token) (l .token)) _ _) s l
+
   takesToken-agrees : (r : Reading (Twin changed)) → Agreeing (λ chars. takesToken chars r)
   unfolding takesToken
-  takesToken-agrees r s l =
-      agrees-pick refl
-      (agrees-then (agrees-changes (λ u. level-emptied)) (completes-agrees (same-tokenCode (s .typed .token) (l .token)) _ _))
-      (completes-agrees refl 0 r) s l
+  takesToken-agrees r s l = agrees-pick refl (endsByToken-agrees r) (completes-agrees refl 0 r) s l
 
   addsToToken-agrees : (c : Twin changed) (r : Reading (Twin changed)) → Agreeing (λ chars. addsToToken chars c r)
   unfolding addsToToken
@@ -54,7 +56,7 @@ module _ {changed : ℕ → Bool} where
 
   takesData-agrees : (c : Twin changed) (r : Reading (Twin changed)) → Safe (r .terms) c → LevelReading r →
       Agreeing (λ chars. takesData chars c r)
-  unfolding takesData
+  unfolding takesData echoesIf
   takesData-agrees c r safe h =
       agrees-then (agrees-changes (λ s. level-read (level-appended c r safe h)))
       (agrees-then
@@ -62,7 +64,7 @@ module _ {changed : ℕ → Bool} where
       (agrees-only refl (completes-agrees refl 0 _)))
 
   terminates-agrees : (c : Twin changed) (r : Reading (Twin changed)) → isBoth c ≡ true → Agreeing (λ chars. terminates chars c r)
-  unfolding terminates
+  unfolding terminates echoesTerminatorIf
   terminates-agrees c r b =
       agrees-then
       (λ s. agrees-writes (ap (λ n. pick (r .terms .terminatorEcho && r .terms .echoes) (terminatorEcho (columnNow s) n) []) (same-code c b)) s)
@@ -149,7 +151,7 @@ module _ {changed : ℕ → Bool} where
   -- The tick.
 
   idles-agrees : (r : Reading (Twin changed)) → LevelReading r → Agreeing (λ chars. idles chars r)
-  unfolding idles
+  unfolding idles setsIdle
   idles-agrees r h = agrees-pick refl (completes-agrees refl 0 r) (agrees-changes (λ s. level-read h))
 
   ticksWhile-agrees : (o : Option (Reading (Twin changed))) → LevelRead o → Agreeing (λ chars. ticksWhile chars o)

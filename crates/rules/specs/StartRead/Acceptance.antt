@@ -7,9 +7,9 @@ use lib.ListN.{take, drop}
 use Rattle.rules.specs.Choice.{pick, bit}
 use Rattle.rules.specs.Messages.Layout.{byteAt}
 use Rattle.rules.specs.Messages.Forms.{Message}
-use Rattle.rules.specs.Screen.{LF}
+use Rattle.rules.specs.Screen.{SOH, LF}
 use Rattle.rules.specs.State.{Characters, Terms, Reading, State, withHost, withLastSet}
-use Rattle.rules.specs.Turns.{Part, writes, changes, _then_, only}
+use Rattle.rules.specs.Turns.{Part, writes, changes, here, _then_, only}
 use Rattle.rules.specs.ReadData.{byFullBuffer, completes}
 use Rattle.rules.specs.Editing.{displays}
 use Rattle.rules.specs.Arrival.{emptiesTyped}
@@ -23,6 +23,19 @@ chosen n characteristic = pick (eqb n 0) characteristic (eqb n 2)
 -- with F, a first DATA byte LF is never displayed
 unfoldable pub hidesLF : Message ℕ → Bool
 hidesLF m = eqb (fields.formats m) 1 && eqb (byteAt (m .text) 0) LF
+
+module _ {C : Type 0} where
+  -- C clears type-ahead and any held token
+  unfoldable pub clearsFirst : Message ℕ → Part C
+  clearsFirst m = only (eqb (fields.clears m) 1) emptiesTyped
+
+  -- F writes LF if the last terminal byte was CR
+  unfoldable pub feedsLine : Message ℕ → Part C
+  feedsLine m = here (λ s. only (eqb (fields.formats m) 1 && s .terminal .screen .afterCR) (writes (LF ∷ [])))
+
+  -- auto prompt writes code 1
+  unfoldable pub autoPrompts : Part C
+  autoPrompts = here (λ s. only (s .host .switches .prompting) (writes (SOH ∷ [])))
 
 module _ {C : Type 0} (chars : Characters C) where
   unfoldable pub termsOf : Message ℕ → State C → Terms
@@ -59,14 +72,18 @@ module _ {C : Type 0} (chars : Characters C) where
   unfoldable pub remembersSet : Message ℕ → Part C
   remembersSet m = only (eqb (fields.setChoice m) 1) (changes (λ s. withHost (withLastSet (m .set) (s .host)) s))
 
+  -- if END-OF-DATA equals MAX-LENGTH the read completes there
+  unfoldable pub completesIfFull : Message ℕ → Reading C → Part C
+  completesIfFull m r = only (eqb (fields.endOfData m) (fields.maxLength m)) (completes chars byFullBuffer 0 r)
+
   -- in page 01's order, the note being in the read that begins here
   unfoldable pub begins : Message ℕ → Reading C → Part C
   begins m r =
-      only (eqb (fields.clears m) 1) emptiesTyped then
-      (λ s. only (eqb (fields.formats m) 1 && s .terminal .screen .afterCR) (writes (LF ∷ [])) s) then
-      (λ s. only (s .host .switches .prompting) (writes (1 ∷ [])) s) then
+      clearsFirst m then
+      feedsLine m then
+      autoPrompts then
       displays chars r then
-      only (eqb (fields.endOfData m) (fields.maxLength m)) (completes chars byFullBuffer 0 r)
+      completesIfFull m r
 
   unfoldable pub startsRead : Message ℕ → Part C
-  startsRead m s = (begins m (readingOf m s) then remembersSet m) s
+  startsRead m = here (λ s. begins m (readingOf m s) then remembersSet m)

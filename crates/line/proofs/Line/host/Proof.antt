@@ -66,8 +66,9 @@ returns-2 c =
     let told = c .before .before .enum-told .given .1 in
     let found = ap (foundIn s) (sym told) ∙ c .before .before .before .before .read .ensures .fields in
     let number = c .before .number-of .ensures ∙ ap foundNumber told in
+    let passed = early-passed l t m s row (c .before .before .before .before .before .if1 .left) in
     refused (rules.message s) l t m _ (start .pre)
-    (outcome-refused l t m s row (c .before .before .before .before .before .if1 .left) (found-refused l s found) ∙ ap (λ n. refuses n (view l)) (sym number))
+    (outcome-refused l t m s row (c .before .before .before .before .before .if1 .left) (found-refused l s (passed .3) (passed .2) found) ∙ ap (λ n. refuses n (view l)) (sym number))
     (c .refuse2 .ensures)
 
 sender-of-requires : tie.Need-sender-of-requires

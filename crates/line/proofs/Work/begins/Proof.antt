@@ -1,16 +1,14 @@
-use mathlib.Core.Path.{ap, _∙_}
+use mathlib.Core.Path.{refl, ap, _∙_}
 use native.Mathlib.Omega.{arith}
-use mathlib.Core.Bool.{_&&_}
 use mathlib.Core.List.{[], _∷_}
-use lib.Dec.{eqb}
 use Rattle.rules.specs.Turns.{writes, only}
 use Rattle.rules.specs.State.{codes}
-use Rattle.rules.specs.StartRead.Acceptance.{begins}
+use Rattle.rules.specs.StartRead.Acceptance.{clearsFirst, feedsLine, autoPrompts, completesIfFull, begins}
 use Rattle.message.specs.Found.{startReadIn}
 use Rattle.line.specs.View.{readingOf}
 use Rattle.line.specs.With.{lent}
-use Rattle.line.proofs.Works.{then-does, here-does}
-use Rattle.line.proofs.Joints.{for-equal}
+use Rattle.line.proofs.Works.{then-does}
+use Rattle.line.proofs.Joints.{here-part, for-equal}
 use borrow.Author.Needs.{needs}
 use Rattle.line.proofs.Work.begins.Statement.{statement}
 use Rattle.line.proofs.Work.begins.Tie as tie
@@ -55,7 +53,7 @@ same-length-2 : tie.Need-same-length-2
 same-length-2 c = search needs
 
 returns : tie.Need-returns
-unfolding begins startReadIn
+unfolding begins clearsFirst feedsLine autoPrompts completesIfFull startReadIn
 returns c =
     let a = c .before .before .before .before .before .before .before .before .before .before .before .before .before .before .before .before .before .before .before .before .before .before .before .before .before .before .before .before .before .before .before .before .args in
     let f = a .f in
@@ -66,9 +64,9 @@ returns c =
           let line = lent (a .t) (a .text .now) l in
           for-equal (λ e. begins codes (startReadIn (a .s .now) f) e) (ap (readingOf line) r)
           (then-does (c .before .before .before .before .before .before .before .before .before .before .before .before .before .before .before .before .before .before .before .before .before .before .empties-typed-if .ensures .1 line _ _)
-          (then-does (here-does (λ s. only (eqb (f .formats) 1 && s .terminal .screen .afterCR) (writes (10 ∷ []))) (c .before .before .before .before .before .before .before .before .before .before .before .before .before .before .before .puts-if .ensures .1 line _))
+          (then-does (here-part refl (c .before .before .before .before .before .before .before .before .before .before .before .before .before .before .before .puts-if .ensures .1 line _))
           (then-does
-          (here-does (λ s. only (s .host .switches .prompting) (writes (1 ∷ []))) (for-equal (λ p. only p (writes (1 ∷ []))) prompting (c .before .before .before .before .before .before .before .before .before .before .before .puts-if2 .ensures .1 line _)))
+          (here-part refl (for-equal (λ p. only p (writes (1 ∷ []))) prompting (c .before .before .before .before .before .before .before .before .before .before .before .puts-if2 .ensures .1 line _)))
           (then-does (c .before .before .before .before .before .before .before .displays .ensures .1 l _) (done .1 l _))))),
     )
 

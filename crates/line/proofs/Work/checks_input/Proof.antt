@@ -3,11 +3,10 @@ use mathlib.Core.List.{[], _∷_}
 use borrow.Author.Needs.{needs}
 use Rattle.rules.specs.Messages.Forms.{plain, inputCount}
 use Rattle.rules.specs.Messages.Codec as codec
-use Rattle.rules.specs.Turns.{sends}
-use Rattle.rules.specs.ReadData.{checksInput, waitingCount}
+use Rattle.rules.specs.ReadData.{checksInput}
 use Rattle.message.specs.Found.{heldIn}
 use Rattle.writing.specs.Parts.{partsOf, inside}
-use Rattle.line.proofs.Works.{here-does}
+use Rattle.line.proofs.Joints.{here-part}
 use Rattle.line.proofs.Obeys.{waiting-count}
 use Rattle.line.proofs.Work.checks_input.Statement.{statement}
 use Rattle.line.proofs.Work.checks_input.Tie as tie
@@ -35,7 +34,7 @@ returns c =
       sent .0,
       λ l t.
           let count = waiting-count (l .keys) (start .args .self .flow .typed) (start .pre .typed) in
-          here-does (λ s. sends (plain inputCount (waitingCount (s .typed) ∷ [])))
+          here-part refl
           (sent .1 _ _ (λ s. ap (λ n. codec.message (plain inputCount (n ∷ []))) count) refl l t),
     )
 

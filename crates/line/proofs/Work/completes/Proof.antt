@@ -9,8 +9,8 @@ use Rattle.line.proofs.Work.completes.Tie as tie
 loses-partial-requires : tie.Need-loses-partial-requires
 loses-partial-requires c κs = search needs
 
-answers-requires : tie.Need-answers-requires
-answers-requires c κs = (c .before .loses-partial .ensures .0, c .before .before .before .before .pre .1)
+sends-read-data-requires : tie.Need-sends-read-data-requires
+sends-read-data-requires c κs = (c .before .loses-partial .ensures .0, c .before .before .before .before .pre .1)
 
 without-read-requires : tie.Need-without-read-requires
 without-read-requires c κs = search needs
@@ -21,7 +21,7 @@ same-length c = search needs
 returns : tie.Need-returns
 unfolding completes
 returns c =
-    let answered = c .before .before .before .answers in
+    let answered = c .before .before .before .sends-read-data in
     let off = c .without-read .ensures in (
       goes-counted (answered .result) off (record { typed = answered .ensures .0 .typed; within = answered .ensures .0 .within }),
       (
@@ -34,4 +34,4 @@ returns c =
 
 pub completes-spec : {M : Type 1} → statement M
 completes-spec =
-    tie.close (tie.spec loses-partial-requires answers-requires without-read-requires same-length returns)
+    tie.close (tie.spec loses-partial-requires sends-read-data-requires without-read-requires same-length returns)

@@ -8,7 +8,6 @@ use Rattle.rules.specs.Editing.{displays}
 use Rattle.message.proofs.Pieces.{all-behind}
 use Rattle.line.specs.View.{promptOf}
 use Rattle.line.specs.With.{lent}
-use Rattle.line.specs.ReadingParts.{displaysData}
 use Rattle.line.proofs.Sizes.{input-size}
 use Rattle.line.proofs.Works.{then-does}
 use Rattle.line.proofs.Joints.{same-writes}
@@ -44,7 +43,7 @@ same-length : tie.Need-same-length
 same-length c = search needs
 
 returns : tie.Need-returns
-unfolding displays displaysData promptOf
+unfolding displays promptOf
 returns c =
     let start = c .before .before .before .before .before .before .before .before .before .before .before .before in
     let a = start .args in

@@ -5,7 +5,7 @@ use lib.ListN.{take, drop}
 use borrow.Author.Needs.{needs}
 use Rattle.rules.specs.Screen.{echoAll}
 use Rattle.rules.proofs.Tests.{pick-true, pick-false}
-use Rattle.line.specs.ReadingParts.{displaysData}
+use Rattle.rules.specs.Editing.{displaysData}
 use Rattle.line.specs.With.{lent}
 use Rattle.line.proofs.Works.{then-does}
 use Rattle.line.proofs.Joints.{same-writes, blank-does, here-part, read-counted, read-does, from-same, from-count}

@@ -2,7 +2,7 @@ use mathlib.Core.Path.{refl, sym}
 use mathlib.Core.List.{[]}
 use borrow.Author.Needs.{needs}
 use Rattle.rules.proofs.Tests.{pick-true, pick-false}
-use Rattle.line.specs.StepParts.{echoesIf}
+use Rattle.rules.specs.Steps.{echoesIf}
 use Rattle.line.proofs.Joints.{same-writes, blank-does, here-part}
 use Rattle.line.proofs.Work.echoes_if.Statement.{statement}
 use Rattle.line.proofs.Work.echoes_if.Tie as tie

@@ -1,11 +1,9 @@
+use mathlib.Core.Path.{refl}
 use Rattle.line.proofs.Held.{emptied-counted}
-use Rattle.line.proofs.Joints.{typed-counted}
+use Rattle.line.proofs.Joints.{here-part, typed-counted}
 use borrow.Author.Needs.{needs}
-use mathlib.Core.List.{[], _++_, map}
-use Rattle.rules.specs.State.{withTyped}
-use Rattle.rules.specs.Turns.{cleared, tells, changes, _then_}
 use Rattle.rules.specs.Arrival.{emptiesTyped}
-use Rattle.line.proofs.Works.{told-does, here-does}
+use Rattle.line.proofs.Works.{told-does}
 use Rattle.line.proofs.Arrivals.{emptied-does}
 use Rattle.line.proofs.Work.empties_typed.Statement.{statement}
 use Rattle.line.proofs.Work.empties_typed.Tie as tie
@@ -25,10 +23,7 @@ returns c =
     let next = c .with-typed .ensures in (
       typed-counted self next (start .pre) (emptied-counted (self .flow .typed) (start .pre .typed) e),
       λ l t m.
-          here-does
-          (λ s.
-          tells (map (λ k. cleared (k .char)) (s .typed .typeAhead) ++ map cleared (s .typed .token)) then changes (withTyped [] []))
-          (told-does _ (emptied-does self next e l t m)),
+          here-part refl (told-does _ (emptied-does self next e l t m)),
     )
 
 pub empties-typed-spec : {M : Type 1} → statement M

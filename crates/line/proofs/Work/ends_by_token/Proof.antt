@@ -3,7 +3,7 @@ use native.Mathlib.Omega.{arith}
 use borrow.Author.Needs.{needs}
 use Rattle.line.specs.View.{tokenOf}
 use Rattle.line.specs.With.{lent}
-use Rattle.line.specs.StepParts.{endsByToken}
+use Rattle.rules.specs.Steps.{endsByToken}
 use Rattle.line.proofs.Sizes.{token-byte}
 use Rattle.line.proofs.Works.{then-does}
 use Rattle.line.proofs.Held.{token-length, token-counted, untokened-counted}

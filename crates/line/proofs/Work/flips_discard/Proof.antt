@@ -6,11 +6,11 @@ use Rattle.rules.specs.Choice.{bit}
 use Rattle.rules.specs.Messages.Forms.{plain, discardState}
 use Rattle.rules.specs.Messages.Codec as codec
 use Rattle.rules.specs.State.{withDiscarding}
-use Rattle.rules.specs.Turns.{sends}
-use Rattle.rules.specs.Arrival.{flipsDiscard}
+use Rattle.rules.specs.Arrival.{sendsDiscardState, flipsDiscard}
 use Rattle.message.specs.Found.{heldIn}
 use Rattle.writing.specs.Parts.{partsOf, inside}
-use Rattle.line.proofs.Works.{then-does, told-does, here-does}
+use Rattle.line.proofs.Joints.{here-part}
+use Rattle.line.proofs.Works.{then-does, told-does}
 use Rattle.line.proofs.Arrivals.{terminal-counted, terminal-does}
 use Rattle.line.proofs.Work.flips_discard.Statement.{statement}
 use Rattle.line.proofs.Work.flips_discard.Tie as tie
@@ -28,7 +28,7 @@ same-length : tie.Need-same-length
 same-length c = search needs
 
 returns : tie.Need-returns
-unfolding flipsDiscard heldIn partsOf inside
+unfolding flipsDiscard sendsDiscardState heldIn partsOf inside
 returns c =
     let flipped = c .before .before .before .before .with-terminal .ensures in
     let self = c .before .before .before .before .before .before .before .before .before .before .before .args .self in
@@ -38,7 +38,7 @@ returns c =
       λ k l t.
           told-does _
           (then-does (terminal-does self _ flipped (λ x. withDiscarding (not (x .discarding)) x) refl l t _)
-          (here-does (λ s. sends (plain discardState (bit (not (s .terminal .discarding)) ∷ [])))
+          (here-part refl
           (sent .1 _ _ (λ s. ap (λ n. codec.message (plain discardState (n ∷ []))) kept) refl l t))),
     )
 

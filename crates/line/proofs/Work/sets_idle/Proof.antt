@@ -1,4 +1,5 @@
 use borrow.Author.Needs.{needs}
+use Rattle.rules.specs.Steps.{setsIdle}
 use Rattle.line.proofs.Joints.{read-counted, read-does}
 use Rattle.line.proofs.Joints.{idle-same, idle-count}
 use Rattle.line.proofs.Work.sets_idle.Statement.{statement}
@@ -11,6 +12,7 @@ with-read-requires : tie.Need-with-read-requires
 with-read-requires c κs = search needs
 
 returns : tie.Need-returns
+unfolding setsIdle
 returns c =
     let start = c .before .before .before .before in
     let self = start .args .self in

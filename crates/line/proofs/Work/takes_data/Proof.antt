@@ -6,7 +6,6 @@ use borrow.Author.Tests.{eq-eqb, ne-eqb}
 use Rattle.rules.specs.Steps.{takesData}
 use Rattle.rules.proofs.Sizes.{input-word}
 use Rattle.line.specs.With.{lent}
-use Rattle.line.specs.StepParts.{echoesIf}
 use Rattle.line.proofs.Appends.{end-is}
 use Rattle.line.proofs.Works.{then-does, only-does, not-does, still-does}
 use Rattle.line.proofs.Joints.{completes-as, read-counted, text-does}
@@ -59,7 +58,7 @@ same-length-2 : tie.Need-same-length-2
 same-length-2 c = search needs
 
 returns : tie.Need-returns
-unfolding takesData echoesIf
+unfolding takesData
 returns c =
     let start = c .before .before .before .before .before .before .before .before .before .before .before .before .before .before .before .before .before .before in
     let a = start .args in
@@ -83,7 +82,7 @@ same-length-3 : tie.Need-same-length-3
 same-length-3 c = search needs
 
 returns-2 : tie.Need-returns-2
-unfolding takesData echoesIf
+unfolding takesData
 returns-2 c =
     let start = c .before .before .before .before .before .before .before .before .before .before .before .before in
     let a = start .args in

@@ -9,11 +9,10 @@ use Rattle.rules.specs.Steps.{takesToken}
 use Rattle.rules.proofs.Sizes.{input-word}
 use Rattle.line.specs.View.{readingOf, tokenOf}
 use Rattle.line.specs.With.{lent}
-use Rattle.line.specs.StepParts.{endsByToken}
 use Rattle.line.proofs.Sizes.{token-byte}
 use Rattle.line.proofs.Appends.{end-is}
 use Rattle.line.proofs.Held.{token-counted}
-use Rattle.line.proofs.Joints.{here-part, here-first, here-second}
+use Rattle.line.proofs.Joints.{here-first, here-second}
 use borrow.Author.Needs.{needs}
 use Rattle.line.proofs.Work.takes_token.Statement.{statement}
 use Rattle.line.proofs.Work.takes_token.Tie as tie
@@ -46,7 +45,7 @@ same-length : tie.Need-same-length
 same-length c = search needs
 
 returns : tie.Need-returns
-unfolding takesToken endsByToken
+unfolding takesToken
 returns c =
     let start = c .before .before .before .before .before .before .before .before .before .before .before .before in
     let a = start .args in
@@ -60,7 +59,7 @@ returns c =
             let is = end-is (a .t) (a .text .now) l (a .r) (start .pre .1 .0) in
             let fits : endOf (readingOf (lent (a .t) (a .text .now) l) (a .r)) + length (tokenOf typed) ≤ a .t .«max_length» =
             omega (arith, c .before .before .before .before .before .before .before .before .end .ensures, c .before .before .before .before .before .if1 .taken) in
-            here-first _ refl (le-leb _ _ fits) (here-part refl (ended .1 .1 l x)),
+            here-first _ refl (le-leb _ _ fits) (ended .1 .1 l x),
       ),
     )
 

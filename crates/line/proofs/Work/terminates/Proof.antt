@@ -3,7 +3,6 @@ use native.Mathlib.Omega.{arith}
 use borrow.Author.Needs.{needs}
 use Rattle.rules.specs.Steps.{terminates}
 use Rattle.line.specs.With.{lent}
-use Rattle.line.specs.StepParts.{echoesTerminatorIf}
 use Rattle.line.proofs.Works.{then-does}
 use Rattle.line.proofs.Joints.{completes-as, ended-does}
 use borrow.Author.Needs.{needs}
@@ -37,7 +36,7 @@ same-length-2 : tie.Need-same-length-2
 same-length-2 c = search needs
 
 returns : tie.Need-returns
-unfolding terminates echoesTerminatorIf
+unfolding terminates
 returns c =
     let start = c .before .before .before .before .before .before .before .before .before .before .before .before .before .before .before in
     let a = start .args in

@@ -1,8 +1,7 @@
 use mathlib.Core.Path.{refl}
 use Rattle.rules.specs.Choice.{within}
 use Rattle.rules.specs.Messages.Codec.{definedKind}
-use Rattle.rules.specs.Calls.{isServers}
-use Rattle.line.specs.Rows.{isHosts}
+use Rattle.rules.specs.Calls.{isServers, isHosts}
 use Rattle.line.proofs.refusals.is_hosts.Statement.{statement}
 use Rattle.line.proofs.refusals.is_hosts.Tie as tie
 

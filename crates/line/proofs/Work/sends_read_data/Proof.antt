@@ -1,10 +1,10 @@
 use mathlib.Core.Path.{refl}
 use native.Mathlib.Omega.{arith}
 use borrow.Author.Needs.{needs}
-use Rattle.rules.specs.ReadData.{answerOf}
+use Rattle.rules.specs.ReadData.{sendsReadData, answerOf}
 use Rattle.line.proofs.Joints.{here-part}
-use Rattle.line.proofs.Work.answers.Statement.{statement}
-use Rattle.line.proofs.Work.answers.Tie as tie
+use Rattle.line.proofs.Work.sends_read_data.Statement.{statement}
+use Rattle.line.proofs.Work.sends_read_data.Tie as tie
 
 answer-requires : tie.Need-answer-requires
 answer-requires c κs = search needs
@@ -16,7 +16,7 @@ same-length : tie.Need-same-length
 same-length c = search needs
 
 returns : tie.Need-returns
-unfolding answerOf
+unfolding sendsReadData answerOf
 returns c =
     let sent = c .before .before .send .ensures in
     let start = c .before .before .before .before .before .before .before in
@@ -27,6 +27,6 @@ returns c =
           here-part refl (sent .1 _ (record { held = answer .0; listless = refl; set = omega arith }) (answer .1) k x),
     )
 
-pub answers-spec : {M : Type 1} → statement M
-answers-spec =
+pub sends-read-data-spec : {M : Type 1} → statement M
+sends-read-data-spec =
     tie.close (tie.spec answer-requires send-requires same-length returns)

@@ -3,15 +3,17 @@ use mathlib.Core.Bool.{false}
 use borrow.Author.Needs.{needs}
 use borrow.Author.Tests.{eq-eqb, ne-eqb}
 use Rattle.rules.specs.State.{withDiscarding}
+use Rattle.rules.specs.Host.{stopsDiscarding}
 use Rattle.line.proofs.Works.{still-does, only-does, not-does}
 use Rattle.line.proofs.Arrivals.{terminal-counted, terminal-does}
-use Rattle.line.proofs.Work.keeps_output.Statement.{statement}
-use Rattle.line.proofs.Work.keeps_output.Tie as tie
+use Rattle.line.proofs.Work.stops_discarding.Statement.{statement}
+use Rattle.line.proofs.Work.stops_discarding.Tie as tie
 
 with-terminal-requires : tie.Need-with-terminal-requires
 with-terminal-requires c κs = search needs
 
 returns : tie.Need-returns
+unfolding stopsDiscarding
 returns c =
     let start = c .before .before .before .before in
     let self = start .args .self in
@@ -22,9 +24,10 @@ returns c =
     )
 
 returns-2 : tie.Need-returns-2
+unfolding stopsDiscarding
 returns-2 c =
     let start = c .before in
     (start .pre, λ l t m. not-does _ (ne-eqb (start .args .keeps) 1 (c .if1 .left)) (still-does _ t m))
 
-pub keeps-output-spec : {M : Type 1} → statement M
-keeps-output-spec = tie.close (tie.spec with-terminal-requires returns returns-2)
+pub stops-discarding-spec : {M : Type 1} → statement M
+stops-discarding-spec = tie.close (tie.spec with-terminal-requires returns returns-2)

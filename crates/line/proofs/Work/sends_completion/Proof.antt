@@ -7,13 +7,13 @@ use Rattle.rules.specs.Choice.{bit}
 use Rattle.rules.specs.Messages.Forms.{plain, writeCompletion}
 use Rattle.rules.specs.Messages.Codec as codec
 use Rattle.rules.specs.Screen.{change}
-use Rattle.rules.specs.Turns.{sends}
-use Rattle.rules.specs.Host.{completion}
+use Rattle.rules.specs.Host.{completion, sendsCompletion}
 use Rattle.message.specs.Found.{heldIn}
 use Rattle.writing.specs.Parts.{partsOf, inside}
-use Rattle.line.proofs.Works.{here-does, still-does, only-does, not-does}
-use Rattle.line.proofs.Work.says_completion.Statement.{statement}
-use Rattle.line.proofs.Work.says_completion.Tie as tie
+use Rattle.line.proofs.Joints.{here-part}
+use Rattle.line.proofs.Works.{still-does, only-does, not-does}
+use Rattle.line.proofs.Work.sends_completion.Statement.{statement}
+use Rattle.line.proofs.Work.sends_completion.Tie as tie
 
 bit-of-requires : tie.Need-bit-of-requires
 bit-of-requires c κs = search needs
@@ -43,7 +43,7 @@ same-length : tie.Need-same-length
 same-length c = search needs
 
 returns : tie.Need-returns
-unfolding completion heldIn partsOf inside
+unfolding sendsCompletion completion heldIn partsOf inside
 returns c =
     let start = c .before .before .before .before .before .before .before .before .before .before .before .before .before .before .before in
     let now = start .args .self .flow .terminal in
@@ -54,17 +54,18 @@ returns c =
           let across = c .before .before .before .before .before .before .before .change .ensures ∙ ap (λ s. change (now .screen .column) (s .column)) before in
           let down = c .before .before .before .before .change2 .ensures ∙ ap (λ s. change (now .screen .line) (s .line)) before in
           only-does _ (eq-eqb (start .args .wants) 1 (c .before .before .before .before .before .before .before .before .before .before .before .before .before .if1 .taken))
-          (here-does (λ s. sends (completion x b s))
+          (here-part refl
           (sent .1 _ _ (λ s i. codec.message (plain writeCompletion (lost i ∷ across i ∷ down i ∷ []))) refl l t)),
     )
 
 returns-2 : tie.Need-returns-2
+unfolding sendsCompletion
 returns-2 c =
     let start = c .before .before in
     (start .pre, λ x b some before l t. not-does _ (ne-eqb (start .args .wants) 1 (c .if1 .left)) (still-does _ t _))
 
-pub says-completion-spec : {M : Type 1} → statement M
-says-completion-spec =
+pub sends-completion-spec : {M : Type 1} → statement M
+sends-completion-spec =
     tie.close
     (tie.spec
     bit-of-requires
