@@ -86,7 +86,7 @@ impl Host {
             return writing::put_setting(p.selector, p.first, 127, attributes, 3, area, at);
         }
         let switches = self.switches;
-        let value = message::bit_of(switches.value(p.selector));
+        let value = fields::bit_of(switches.value(p.selector));
         writing::put_setting(p.selector, value, 0, 0, 1, area, at)
     }
 

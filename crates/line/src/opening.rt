@@ -85,7 +85,7 @@ fn hides_lf(f: StartReadFields, s: &[u8]) -> bool
 {
     let part = f.text;
     let text = message::bytes_of(s, part);
-    let first = message::byte_at(text, 0);
+    let first = fields::byte_at(text, 0);
     (f.formats == 1) & (first == LINE_FEED)
 }
 

@@ -1,5 +1,4 @@
 -- Laws that the proofs of the functions apply; Shapes also has those that a caller of `parameter_at` cites.
-pub mod Numbers
 pub mod Pieces
 mod Heads
 mod Reading

@@ -18,7 +18,7 @@ use Rattle.message.specs.declared.lists.Limits.{Limits}
 use Rattle.message.specs.declared.Part.{Part}
 use Rattle.message.specs.Found.{partOf, parametersOf}
 use Rattle.message.specs.Lists.{LimitsAre, ParameterIs, shapeOf, parameterAt, soundFrom, parametersFrom, usedAt, nextFrom}
-use Rattle.message.proofs.Numbers.{byte-behind, number-two}
+use Rattle.fields.proofs.Numbers.{byte-behind, number-two}
 use Rattle.message.proofs.Pieces.{none-behind}
 use Rattle.message.proofs.Walk.{limits-here, size-least, used-here, selected-here, cut-here, cut-end}
 

@@ -12,7 +12,7 @@ use borrow.Author.Tests.{eq-eqb, ne-eqb, ltb-true, ltb-false}
 use Rattle.rules.specs.Messages.Layout.{byteAt}
 use Rattle.rules.specs.Messages.Parameters.{Shape, selector, limitsOf, sizeOf, soundParameter, cleaned, cut}
 use Rattle.rules.proofs.ParameterLists.{cut-cons}
-use Rattle.message.proofs.Numbers.{byte-behind}
+use Rattle.fields.proofs.Numbers.{byte-behind}
 
 -- a byte under its limit; 1 where there is no limit
 pub cleaned-byte : (p ls : List ℕ) (i : ℕ) → byteAt (zipWith _%_ p ls) i ≡ byteAt p i % getD ls i 1

@@ -3,7 +3,6 @@ ghost use mathlib.Core.Path.{_≡_};
 ghost use Rattle.rules.specs.Messages.Codec as codec;
 ghost use Rattle.message.specs.Found.{Finds, asHeld, foundNumber};
 
-mod bytes;
 mod fixed;
 mod listed;
 mod lists;
@@ -11,8 +10,6 @@ mod parts;
 mod start_read;
 mod texts;
 
-pub use crate::bytes::bit_of;
-pub use crate::bytes::byte_at;
 pub use crate::lists::parameter_at;
 pub use crate::lists::whole_list;
 pub use crate::parts::bytes_of;
@@ -147,7 +144,7 @@ pub fn read(s: &[u8]) -> Found
     if !fits {
         return Found::Refused(2);
     }
-    let kind = bytes::byte_at(s, 0);
+    let kind = fields::byte_at(s, 0);
     match kind {
         1 => listed::read_initiate(s),
         2 => start_read::read_start_read(s),

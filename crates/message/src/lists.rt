@@ -6,8 +6,8 @@ ghost use Rattle.rules.specs.Messages.Layout.{byteAt};
 ghost use Rattle.rules.specs.Messages.Parameters.{definedSelector, questionLimits, valueLimits, limitsOf, sizeOf, soundParameter};
 ghost use Rattle.message.specs.Lists.{LimitsAre, ParameterIs, shapeOf, parameterAt, soundFrom};
 use crate::Parameter;
-use crate::bytes::byte_at;
-use crate::bytes::word_at;
+use fields::byte_at;
+use fields::word_at;
 
 // How many bytes a parameter has behind its first two, and what each of the first three of them stays under. 1 stands for a byte
 // that is not there: what is cut by it is 0.

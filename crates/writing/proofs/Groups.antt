@@ -9,7 +9,7 @@ use lib.Seq.{drop-drop}
 use Rattle.rules.specs.Messages.Layout.{Group, flags, byte, byteAt, fieldsIn, numberOf, bytesOf, writeGroups}
 use Rattle.message.specs.declared.Message.{Message}
 use Rattle.message.specs.Found.{heldIn}
-use Rattle.message.proofs.Numbers.{byte-behind}
+use Rattle.fields.proofs.Numbers.{byte-behind}
 use Rattle.writing.specs.Puts.{Puts}
 use Rattle.writing.specs.Front.{frontBytes}
 use Rattle.writing.proofs.Putting.{equals}

@@ -26,7 +26,7 @@ fn put_eight(s: &[u8], p: Part, area: &mut [u8], at: usize) -> usize
     let mut next = at;
     let mut i = 0;
     while i < 8 {
-        next = put_byte(message::byte_at(t, i), area, next);
+        next = put_byte(fields::byte_at(t, i), area, next);
         i += 1;
     }
     next

@@ -2,7 +2,7 @@ use mathlib.Core.Path.{ap, _∙_}
 use lib.ListN.{replicate}
 use borrow.Author.Needs.{needs}
 use Rattle.rules.specs.Messages.Parameters.{questionLimits, valueLimits}
-use Rattle.message.proofs.Numbers.{number-two}
+use Rattle.fields.proofs.Numbers.{number-two}
 use Rattle.message.proofs.Shapes.{is-initiation, is-question, is-setting, limits-by}
 use Rattle.message.proofs.lists.limits_at.Statement.{statement}
 use Rattle.message.proofs.lists.limits_at.Tie as tie

@@ -1,7 +1,11 @@
+use native.Mathlib.Omega.{arith}
 use borrow.Author.Needs.{needs}
-use Rattle.message.proofs.Numbers.{two-bytes}
-use Rattle.message.proofs.bytes.word_at.Statement.{statement}
-use Rattle.message.proofs.bytes.word_at.Tie as tie
+use Rattle.fields.proofs.Numbers.{number-past, two-bytes}
+use Rattle.fields.proofs.word_at.Statement.{statement}
+use Rattle.fields.proofs.word_at.Tie as tie
+
+returns : tie.Need-returns
+returns c = let a = c .before .before .args in number-past 2 (a .at) (a .s .now) (omega arith)
 
 byte-at-requires : tie.Need-byte-at-requires
 byte-at-requires c κs = search needs
@@ -24,15 +28,16 @@ mul-result c = search needs
 add-result : tie.Need-add-result
 add-result c = search needs
 
-returns : tie.Need-returns
-returns c =
-    let a = c .before .before .before .args in
+returns-2 : tie.Need-returns-2
+returns-2 c =
+    let a = c .before .before .before .before .args in
     two-bytes (a .at) (a .s .now) (c .before .byte-at .ensures) (c .byte-at2 .ensures)
 
 pub word-at-spec : {M : Type 1} → statement M
 word-at-spec =
     tie.close
     (tie.spec
+    returns
     byte-at-requires
     cast-low
     add-byte-at
@@ -40,4 +45,4 @@ word-at-spec =
     cast-high
     mul-result
     add-result
-    returns)
+    returns-2)

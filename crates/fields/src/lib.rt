@@ -1,6 +1,5 @@
-// Bytes and numbers in a slice, total: past its end stands 0. Flags as numbers.
+// Fields of a message: numbers in a slice, low byte first, and flags as numbers. All are total: past the end of a slice stands 0.
 ghost use mathlib.Core.Path.{_≡_};
-ghost use Prim.Native.Nat.{_+_, _<_, _^_};
 ghost use Rattle.rules.specs.Choice.{bit};
 ghost use Rattle.rules.specs.Messages.Layout.{byteAt, numberAt};
 
@@ -11,24 +10,27 @@ pub fn byte_at(s: &[u8], at: usize) -> u8
 }
 
 // Two bytes, low byte first.
-pub(crate) fn word_at(s: &[u8], at: usize) -> u16
-    requires { ⌜ at + 1 < 2 ^ 64 ⌝ }
+pub fn word_at(s: &[u8], at: usize) -> u16
     ensures { λ r. ⌜ r ≡ numberAt 2 at (now (s .entry)) ⌝ }
 {
+    if s.len() <= at {
+        return 0;
+    }
     let low = byte_at(s, at) as u16;
     let high = byte_at(s, at + 1) as u16;
     low + 256 * high
 }
 
 // Three bytes, low byte first.
-pub(crate) fn three_at(s: &[u8], at: usize) -> u32
-    requires { ⌜ at + 2 < 2 ^ 64 ⌝ }
+pub fn three_at(s: &[u8], at: usize) -> u32
     ensures { λ r. ⌜ r ≡ numberAt 3 at (now (s .entry)) ⌝ }
 {
+    if s.len() <= at {
+        return 0;
+    }
     let low = byte_at(s, at) as u32;
-    let middle = byte_at(s, at + 1) as u32;
-    let high = byte_at(s, at + 2) as u32;
-    low + 256 * (middle + 256 * high)
+    let rest = word_at(s, at + 1) as u32;
+    low + 256 * rest
 }
 
 // A flag as a number.

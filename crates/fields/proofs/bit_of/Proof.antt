@@ -1,8 +1,8 @@
 use mathlib.Core.Path.{sym}
 use Rattle.rules.specs.Choice.{bit}
 use Rattle.rules.proofs.Tests.{pick-true, pick-false}
-use Rattle.message.proofs.bytes.bit_of.Statement.{statement}
-use Rattle.message.proofs.bytes.bit_of.Tie as tie
+use Rattle.fields.proofs.bit_of.Statement.{statement}
+use Rattle.fields.proofs.bit_of.Tie as tie
 
 returns : tie.Need-returns
 unfolding bit
