@@ -23,7 +23,7 @@ use Rattle.rules.proofs.Outcomes.{refused-sound, readable}
 use Rattle.rules.proofs.Bounds.Calls.{considered-sound}
 use Rattle.rules.proofs.Tests.{pick-true, pick-false, pick-first}
 use Rattle.message.specs.declared.Part as Part
-use Rattle.message.specs.Lists.{parametersFrom}
+use Rattle.parameters.specs.Lists.{parametersFrom}
 use Rattle.message.specs.declared.StartReadFields.{StartReadFields}
 use Rattle.message.specs.Found.{partOf, startReadIn, heldIn}
 use Rattle.writing.specs.Puts.{Puts}

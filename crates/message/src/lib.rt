@@ -5,13 +5,10 @@ ghost use Rattle.message.specs.Found.{Finds, asHeld, foundNumber};
 
 mod fixed;
 mod listed;
-mod lists;
 mod parts;
 mod start_read;
 mod texts;
 
-pub use crate::lists::parameter_at;
-pub use crate::lists::whole_list;
 pub use crate::parts::bytes_of;
 pub use crate::start_read::start_read_test;
 
@@ -123,16 +120,6 @@ pub enum Message {
 pub enum Found {
     Message(Message),
     Refused(u8),
-}
-
-// One parameter of a list: its SELECTOR, the bytes behind it (CHARACTER, MASK and ATTRIBUTES, or a VALUE; 0 where there are
-// fewer), unused bits set to 0, and where the next one begins.
-pub struct Parameter {
-    pub selector: u16,
-    pub first: u8,
-    pub second: u8,
-    pub third: u8,
-    pub next: usize,
 }
 
 // Reads a message without a line: 2, 3 or 5 in that order, else its fields, with parts that lie in the slice.

@@ -26,7 +26,7 @@ use Rattle.message.specs.declared.Message.the-variants.{Initiate, StartRead, Re
 use Rattle.message.specs.declared.Message.the-variants.{WriteCompletion, DiscardState, ReadCharacteristics, Characteristics}
 use Rattle.message.specs.declared.Message.the-variants.{CheckInput, InputCount, InputState, Other}
 use Rattle.message.specs.Found.{partOf, parametersOf, startReadIn, heldIn, placesOf, lies, allLie}
-use Rattle.message.proofs.Walk.{size-taken, size-least}
+use Rattle.parameters.proofs.Walk.{size-taken, size-least}
 use Rattle.writing.specs.Front.{frontTail, frontBytes}
 use Rattle.writing.specs.Parts as parts
 use Rattle.writing.specs.declared.parts.Parts.{Parts}

@@ -3,7 +3,7 @@ ghost use mathlib.Core.Path.{_≡_};
 ghost use mathlib.Core.Bool.{true};
 ghost use Rattle.rules.specs.Choice.{joined};
 ghost use Rattle.message.specs.Found.{partOf};
-ghost use Rattle.message.specs.Lists.{soundFrom, parametersFrom};
+ghost use Rattle.parameters.specs.Lists.{soundFrom, parametersFrom};
 ghost use Rattle.writing.specs.Puts.{Puts};
 ghost use Rattle.writing.specs.Parts.{listBytes};
 use crate::put::put_part;
@@ -18,7 +18,7 @@ fn put_settings(t: &[u8], area: &mut [u8], at: usize) -> usize
     let mut next = at;
     let mut i = 0;
     while i < t.len() {
-        let p = message::parameter_at(11, t, i);
+        let p = parameters::parameter_at(11, t, i);
         let count = p.next - i - 2;
         next = put_setting(p.selector, p.first, p.second, p.third, count, area, next);
         i = p.next;

@@ -1,7 +1,7 @@
 use mathlib.Core.Path.{sym, ap, _∙_}
 use native.Mathlib.Omega.{arith}
 use Rattle.message.specs.Found.{partOf}
-use Rattle.message.specs.Lists.{soundFrom}
+use Rattle.parameters.specs.Lists.{soundFrom}
 use Rattle.writing.specs.Parts.{listBytes}
 use Rattle.writing.proofs.Putting.{equals, joins}
 use Rattle.writing.proofs.Fitting.{bytes-all}

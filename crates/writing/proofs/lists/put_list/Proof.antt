@@ -2,7 +2,7 @@ use mathlib.Core.Path.{sym, ap, _∙_}
 use borrow.Author.Tests.{eq-eqb, ne-eqb}
 use Rattle.rules.specs.Choice.{joined}
 use Rattle.rules.proofs.Tests.{pick-true, pick-false}
-use Rattle.message.specs.Lists.{soundFrom, parametersFrom}
+use Rattle.parameters.specs.Lists.{soundFrom, parametersFrom}
 use Rattle.writing.specs.Parts.{listBytes}
 use Rattle.writing.proofs.Putting.{equals}
 use Rattle.writing.proofs.lists.put_list.Statement.{statement}
