@@ -21,7 +21,7 @@ use crate::start_read::put_start_read;
 use message::Message;
 
 // A message up to its parameter list; nothing of a type that is not known.
-pub fn put_message(m: Message, s: &[u8], area: &mut [u8], at: usize) -> usize
+pub(crate) fn put_message(m: Message, s: &[u8], area: &mut [u8], at: usize) -> usize
     ensures { λ r. ⌜ Puts (frontBytes (heldIn (now (s .entry)) m)) (now (area .entry)) at r (now (area .exit)) ⌝ }
 {
     match m {

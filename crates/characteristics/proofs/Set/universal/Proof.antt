@@ -2,9 +2,9 @@ use mathlib.Core.Path.{refl}
 use native.Mathlib.Omega.{arith}
 use borrow.Author.Needs.{needs}
 use Rattle.rules.specs.StartRead.{universal}
 use Rattle.characteristics.specs.View.{setOf}
-use Rattle.line.proofs.fresh.universal.Statement.{statement}
-use Rattle.line.proofs.fresh.universal.Tie as tie
+use Rattle.characteristics.proofs.Set.universal.Statement.{statement}
+use Rattle.characteristics.proofs.Set.universal.Tie as tie
 
 array-write-bytes : tie.Need-array-write-bytes
 array-write-bytes c = search needs
