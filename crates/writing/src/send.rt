@@ -1,10 +1,8 @@
 // Messages for a line that sends them: each into an area, from a place on.
-ghost use mathlib.Core.List.{_++_};
-ghost use Rattle.rules.specs.Messages.Layout.{bytesOf};
 ghost use Rattle.message.specs.Found.{heldIn};
 ghost use Rattle.writing.specs.Puts.{Puts};
 ghost use Rattle.writing.specs.Front.{frontBytes, settingBytes};
-ghost use Rattle.writing.specs.Parts.{partsOf, sizeOf};
+ghost use Rattle.writing.specs.Framed.{Frames};
 use crate::heads::put_initiate;
 use crate::heads::put_input_count;
 use crate::heads::put_out_of_band;
@@ -53,10 +51,9 @@ pub(crate) fn put_message(m: Message, s: &[u8], area: &mut [u8], at: usize) -> u
     }
 }
 
-// The same behind its length in two bytes.
+// The same behind its length in two bytes: a whole message, or the front of one whose parameter list the caller puts.
 pub fn put_framed(m: Message, s: &[u8], area: &mut [u8], at: usize) -> usize
-    ensures { λ r.
-        ⌜ Puts (bytesOf 2 (sizeOf (partsOf m)) ++ frontBytes (heldIn (now (s .entry)) m)) (now (area .entry)) at r (now (area .exit)) ⌝ }
+    ensures { λ r. ⌜ Frames (now (s .entry)) m (now (area .entry)) at r (now (area .exit)) ⌝ }
 {
     let p = parts_of(m);
     let size = size_of(p);
