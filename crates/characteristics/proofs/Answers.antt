@@ -21,7 +21,7 @@ use Rattle.rules.proofs.Bounds.Sent.{framed-length}
 use Rattle.parameters.specs.declared.Parameter.{Parameter}
 use Rattle.parameters.specs.Lists.{ParameterIs, shapeOf, parameterAt, parametersFrom, usedAt}
 use Rattle.parameters.proofs.Shapes.{parameters-end}
-use Rattle.writing.specs.Front.{settingBytes}
+use Rattle.parameters.specs.Lists.{settingBytes}
 use Rattle.writing.proofs.Settings.{selector-bytes}
 use Rattle.characteristics.specs.Lists.{questionsIn, answersFrom, answerTo}
 use Rattle.characteristics.proofs.Sizes.{message-area}

@@ -10,7 +10,7 @@ use Rattle.rules.specs.Characteristics.{isCarried}
 use Rattle.parameters.specs.declared.Parameter.{Parameter}
 use Rattle.parameters.specs.Lists.{ParameterIs, parametersFrom}
 use Rattle.parameters.proofs.Shapes.{parameters-end}
-use Rattle.writing.proofs.Putting.{first-byte}
+use Rattle.areas.proofs.Putting.{first-byte}
 
 -- one of a table passes
 module _ (test : ℕ → Bool) (table : List ℕ) (i : ℕ) where

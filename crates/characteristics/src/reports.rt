@@ -10,7 +10,7 @@ ghost use Rattle.rules.specs.State.{State, withHost};
 ghost use Rattle.rules.specs.Characteristics.{switchOf, reported};
 ghost use Rattle.rules.specs.Calls.{carriesQuestions};
 ghost use Rattle.parameters.specs.Lists.{ParameterIs, usedAt};
-ghost use Rattle.writing.specs.Puts.{Puts};
+ghost use Rattle.areas.specs.Puts.{Puts};
 ghost use Rattle.characteristics.specs.View.{switchesOf, hostOf};
 ghost use Rattle.characteristics.specs.Lists.{questionsIn, answersFrom, answerTo, reportBytes};
 use crate::Host;
@@ -83,11 +83,11 @@ impl Host {
     {
         if p.selector == selectors::CHARACTER_ATTRIBUTES {
             let attributes = self.attribute(p.first);
-            return writing::put_setting(p.selector, p.first, 127, attributes, 3, area, at);
+            return parameters::put_setting(p.selector, p.first, 127, attributes, 3, area, at);
         }
         let switches = self.switches;
         let value = fields::bit_of(switches.value(p.selector));
-        writing::put_setting(p.selector, value, 0, 0, 1, area, at)
+        parameters::put_setting(p.selector, value, 0, 0, 1, area, at)
     }
 
     // The answers to all questions, in order.

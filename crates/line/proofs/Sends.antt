@@ -15,7 +15,7 @@ use Rattle.rules.specs.Turns.{sends}
 use Rattle.rules.specs.Calls.{framed, sentBytes, mapText, messageBytes}
 use Rattle.writing.specs.Parts as parts
 use Rattle.writing.specs.Parts.{inside}
-use Rattle.writing.specs.Puts.{Puts}
+use Rattle.areas.specs.Puts.{Puts}
 use Rattle.line.specs.declared.Work.{Work}
 use Rattle.line.specs.With.{afterSent}
 use Rattle.line.specs.declared.Line.{Line}

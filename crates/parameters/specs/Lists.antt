@@ -2,11 +2,11 @@
 use mathlib.Core.Path.{_≡_}
 use Prim.Native.Nat.{ℕ, zero, _+_, _<_}
 use mathlib.Core.Bool.{Bool}
-use mathlib.Core.List.{List, _∷_, map}
+use mathlib.Core.List.{List, [], _∷_, _++_, map}
 use lib.Dec.{ltb, eqb}
 use lib.ListN.{length, getD, take, drop}
 use Rattle.rules.specs.Choice.{pick, all}
-use Rattle.rules.specs.Messages.Layout.{byteAt}
+use Rattle.rules.specs.Messages.Layout.{byteAt, bytesOf}
 use Rattle.rules.specs.Messages.Parameters.{Shape, initiation, question, setting, selector, sizeOf, soundParameter, cleaned, cut}
 use Rattle.rules.specs.Messages.Forms as forms
 use Rattle.parameters.specs.declared.Parameter.{Parameter}
@@ -54,3 +54,7 @@ pub record ParameterIs (kind at : ℕ) (s : List ℕ) (p : Parameter) : Type 0 w
   pub further : at < length s → at < p .next
   -- the list from here on is this parameter and the list from the next one on
   pub list : at < length s → parametersFrom kind at s ≡ usedAt kind at s ∷ parametersFrom kind (p .next) s
+
+-- a parameter of a Characteristics: its selector, and so many of these bytes
+unfoldable pub settingBytes : ℕ → ℕ → ℕ → ℕ → ℕ → List ℕ
+settingBytes id first second third count = bytesOf 2 id ++ take count (first ∷ second ∷ third ∷ [])

@@ -1,4 +1,4 @@
-// Parameter lists. `kind` is the type of the message that a list stands in: 1, 10 or 11.
+// Parameter lists: a walk of one, and a parameter into an area. `kind` is the type of the message that a list stands in: 1, 10 or 11.
 ghost use mathlib.Core.Path.{_≡_};
 ghost use Prim.Native.Nat.{_%_, _<_, _≤_};
 ghost use lib.ListN.{length, drop};
@@ -11,6 +11,9 @@ use fields::byte_at;
 use fields::word_at;
 
 mod limits;
+mod put;
+
+pub use crate::put::put_setting;
 
 // One parameter of a list: its SELECTOR, the bytes behind it (CHARACTER, MASK and ATTRIBUTES, or a VALUE; 0 where there are
 // fewer), unused bits set to 0, and where the next one begins.

@@ -1,7 +1,6 @@
 -- The head of a message, group by group: from the bytes that the code puts to those that the definition has.
 use mathlib.Core.Path.{_≡_, refl, sym, ap, ap₂, _∙_}
 use Prim.Native.Nat.{ℕ, suc, _+_, _*_, _-_, _<_, _≤_}
-use native.Mathlib.Nat.{mod-eq-of-lt}
 use native.Mathlib.Omega.{arith}
 use mathlib.Core.List.{List, [], _∷_, _++_}
 use lib.ListN.{length, drop, replicate}
@@ -10,9 +9,9 @@ use Rattle.rules.specs.Messages.Layout.{Group, flags, byte, byteAt, fieldsIn, n
 use Rattle.message.specs.declared.Message.{Message}
 use Rattle.message.specs.Found.{heldIn}
 use Rattle.fields.proofs.Numbers.{byte-behind}
-use Rattle.writing.specs.Puts.{Puts}
+use Rattle.areas.specs.Puts.{Puts}
 use Rattle.writing.specs.Front.{frontBytes}
-use Rattle.writing.proofs.Putting.{equals}
+use Rattle.areas.proofs.Putting.{equals, one-byte}
 
 -- the bytes of these groups with these fields
 pub record Head (gs : List Group) (vs bytes : List ℕ) : Type 0 where
@@ -25,10 +24,6 @@ no-more = record { same = refl }
 one-field : (w : ℕ) (vs : List ℕ) (v : ℕ) → numberOf (w ∷ []) (v ∷ vs) ≡ v
 unfolding numberOf
 one-field w vs v = omega arith
-
-pub one-byte : {v : ℕ} → v < 256 → bytesOf 1 v ≡ v ∷ []
-unfolding fieldsIn
-one-byte h = ap (λ b. b ∷ []) (mod-eq-of-lt h)
 
 module _ {gs : List Group} {vs bytes : List ℕ} where
   -- bytes that hold no field

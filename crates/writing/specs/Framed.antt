@@ -10,7 +10,7 @@ use Rattle.rules.specs.Messages.Forms as forms
 use Rattle.rules.specs.Messages.Codec.{message, setSize}
 use Rattle.message.specs.declared.Message.{Message}
 use Rattle.message.specs.Found.{heldIn}
-use Rattle.writing.specs.Puts.{Puts}
+use Rattle.areas.specs.Puts.{Puts}
 use Rattle.writing.specs.Front.{frontBytes}
 use Rattle.writing.specs.Parts.{partsOf, sizeOf, inside}
 

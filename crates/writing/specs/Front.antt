@@ -1,7 +1,7 @@
 -- The bytes of a message before its parameter list.
 use Prim.Native.Nat.{ℕ, _%_}
 use mathlib.Core.List.{List, [], _∷_, _++_}
-use lib.ListN.{length, take}
+use lib.ListN.{length}
 use Rattle.rules.specs.Messages.Layout.{bytesOf, writeGroups}
 use Rattle.rules.specs.Messages.Forms.{Message, Tail, nothing, text, setAndText, list, formOf}
 use Rattle.rules.specs.Messages.Codec.{Held, message, other}
@@ -33,7 +33,3 @@ abbrev pub writeFlags : WriteFields → List ℕ
 writeFlags f =
     f .lock ∷ f .newline ∷ f .«keeps_output» ∷ f .first ∷ f .last ∷ f .prefix ∷ f .postfix ∷ f .«wants_completion» ∷
     f .transparent ∷ []
-
--- a parameter of a Characteristics
-unfoldable pub settingBytes : ℕ → ℕ → ℕ → ℕ → ℕ → List ℕ
-settingBytes selector first second third count = bytesOf 2 selector ++ take count (first ∷ second ∷ third ∷ [])

@@ -1,4 +1,3 @@
-pub mod Puts
 pub mod Front
 pub mod Parts
 pub mod Framed

@@ -11,7 +11,6 @@ mod start_read;
 pub use crate::front::copy;
 pub use crate::front::write;
 pub use crate::send::put_framed;
-pub use crate::send::put_setting;
 
 // The number of a refusal, or 0 and how many bytes stand in front of the area.
 pub struct Written {

@@ -4,11 +4,11 @@ ghost use mathlib.Core.Bool.{true};
 ghost use Rattle.rules.specs.Choice.{joined};
 ghost use Rattle.message.specs.Found.{partOf};
 ghost use Rattle.parameters.specs.Lists.{soundFrom, parametersFrom};
-ghost use Rattle.writing.specs.Puts.{Puts};
+ghost use Rattle.areas.specs.Puts.{Puts};
 ghost use Rattle.writing.specs.Parts.{listBytes};
 use crate::put::put_part;
-use crate::send::put_setting;
 use message::Part;
+use parameters::put_setting;
 
 // The parameters of a Characteristics, unused bits set to 0.
 fn put_settings(t: &[u8], area: &mut [u8], at: usize) -> usize

@@ -1,67 +1,12 @@
-// Bytes and numbers into an area, from a place on; the answer is the next place. Where there is no room, nothing changes.
-ghost use mathlib.Core.List.{[], _∷_, _++_};
-ghost use Rattle.rules.specs.Messages.Layout.{bytesOf};
+// The bytes of a part of a slice into an area.
 ghost use Rattle.message.specs.Found.{partOf};
-ghost use Rattle.writing.specs.Puts.{Puts};
+ghost use Rattle.areas.specs.Puts.{Puts};
+use areas::put_bytes;
 use message::Part;
 
-pub(crate) fn put_byte(b: u8, area: &mut [u8], at: usize) -> usize
-    ensures { λ r. ⌜ Puts (b ∷ []) (now (area .entry)) at r (now (area .exit)) ⌝ }
-{
-    if at < area.len() {
-        area[at] = b;
-        return at + 1;
-    }
-    at
-}
-
-// Two bytes.
-pub(crate) fn put_pair(first: u8, second: u8, area: &mut [u8], at: usize) -> usize
-    ensures { λ r. ⌜ Puts (bytesOf 1 first ++ bytesOf 1 second) (now (area .entry)) at r (now (area .exit)) ⌝ }
-{
-    let next = put_byte(first, area, at);
-    put_byte(second, area, next)
-}
-
-// A number in so many bytes, low byte first.
-pub(crate) fn put_number(count: u8, n: u32, area: &mut [u8], at: usize) -> usize
-    ensures { λ r. ⌜ Puts (bytesOf count n) (now (area .entry)) at r (now (area .exit)) ⌝ }
-{
-    let mut left = count;
-    let mut rest = n;
-    let mut next = at;
-    while 0 < left {
-        next = put_byte((rest % 256) as u8, area, next);
-        rest /= 256;
-        left -= 1;
-    }
-    next
-}
-
-// The bytes of a slice.
-pub(crate) fn put_bytes(s: &[u8], area: &mut [u8], at: usize) -> usize
-    ensures { λ r. ⌜ Puts (now (s .entry)) (now (area .entry)) at r (now (area .exit)) ⌝ }
-{
-    let mut next = at;
-    let mut i = 0;
-    while i < s.len() {
-        next = put_byte(s[i], area, next);
-        i += 1;
-    }
-    next
-}
-
-// The bytes of a part of a slice.
 pub(crate) fn put_part(s: &[u8], p: Part, area: &mut [u8], at: usize) -> usize
     ensures { λ r. ⌜ Puts (partOf (now (s .entry)) p) (now (area .entry)) at r (now (area .exit)) ⌝ }
 {
     let t = message::bytes_of(s, p);
     put_bytes(t, area, at)
-}
-
-// Two bytes, low byte first.
-pub(crate) fn put_word(n: u16, area: &mut [u8], at: usize) -> usize
-    ensures { λ r. ⌜ Puts (bytesOf 2 n) (now (area .entry)) at r (now (area .exit)) ⌝ }
-{
-    put_number(2, n as u32, area, at)
 }

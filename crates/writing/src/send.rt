@@ -1,7 +1,7 @@
 // Messages for a line that sends them: each into an area, from a place on.
 ghost use Rattle.message.specs.Found.{heldIn};
-ghost use Rattle.writing.specs.Puts.{Puts};
-ghost use Rattle.writing.specs.Front.{frontBytes, settingBytes};
+ghost use Rattle.areas.specs.Puts.{Puts};
+ghost use Rattle.writing.specs.Front.{frontBytes};
 ghost use Rattle.writing.specs.Framed.{Frames};
 use crate::heads::put_initiate;
 use crate::heads::put_input_count;
@@ -11,11 +11,9 @@ use crate::heads::put_write;
 use crate::heads::put_write_completion;
 use crate::parts::parts_of;
 use crate::parts::size_of;
-use crate::put::put_bytes;
-use crate::put::put_number;
-use crate::put::put_pair;
-use crate::put::put_word;
 use crate::start_read::put_start_read;
+use areas::put_number;
+use areas::put_pair;
 use message::Message;
 
 // A message up to its parameter list; nothing of a type that is not known.
@@ -59,24 +57,4 @@ pub fn put_framed(m: Message, s: &[u8], area: &mut [u8], at: usize) -> usize
     let size = size_of(p);
     let next = put_number(2, size, area, at);
     put_message(m, s, area, next)
-}
-
-// One parameter of a Characteristics: its SELECTOR, and as many bytes of its value as it has.
-pub fn put_setting(
-    selector: u16,
-    first: u8,
-    second: u8,
-    third: u8,
-    count: usize,
-    area: &mut [u8],
-    at: usize,
-) -> usize
-    ensures { λ r. ⌜ Puts (settingBytes selector first second third count) (now (area .entry)) at r (now (area .exit)) ⌝ }
-{
-    let value = [first, second, third];
-    let next = put_word(selector, area, at);
-    if count < 3 {
-        return put_bytes(&value[..count], area, next);
-    }
-    put_bytes(&value, area, next)
 }

@@ -4,12 +4,12 @@ ghost use Prim.Native.Nat.{_+_, _*_};
 ghost use Rattle.rules.specs.Messages.Layout.{numberOf};
 ghost use Rattle.message.specs.declared.Message.the-variants as variants;
 ghost use Rattle.message.specs.Found.{heldIn, flagWidths, flagsOf};
-ghost use Rattle.writing.specs.Puts.{Puts};
+ghost use Rattle.areas.specs.Puts.{Puts};
 ghost use Rattle.writing.specs.Front.{frontBytes, startReadWords};
-use crate::put::put_byte;
-use crate::put::put_number;
 use crate::put::put_part;
-use crate::put::put_word;
+use areas::put_byte;
+use areas::put_number;
+use areas::put_word;
 use message::StartReadFields;
 
 // The flags of a Start Read, four at a time. A Write begins alike: two bits, and three flags of one.

@@ -10,7 +10,7 @@ use Rattle.rules.proofs.Tests.{pick-true, pick-false}
 use Rattle.message.specs.Found.{heldIn}
 use Rattle.writing.specs.Front.{frontBytes, frontTail}
 use Rattle.writing.specs.Parts.{partsOf}
-use Rattle.writing.proofs.Putting.{nothing, equals, joins}
+use Rattle.areas.proofs.Putting.{nothing, equals, joins}
 use Rattle.characteristics.specs.View.{hostOf}
 use Rattle.characteristics.specs.Lists.{answersFrom, reportBytes}
 use Rattle.characteristics.proofs.Answers.{answer-bytes, own-size}

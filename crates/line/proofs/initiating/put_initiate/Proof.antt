@@ -1,6 +1,6 @@
 use mathlib.Core.Path.{ap, sym, _∙_}
 use borrow.Author.Needs.{needs}
-use Rattle.writing.proofs.Putting.{equals, joins}
+use Rattle.areas.proofs.Putting.{equals, joins}
 use Rattle.line.proofs.Sizes.{message-size, input-size}
 use Rattle.line.proofs.Initiates.{parameter, our-bytes}
 use Rattle.line.proofs.initiating.put_initiate.Statement.{statement}

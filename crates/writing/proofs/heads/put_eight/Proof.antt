@@ -2,7 +2,7 @@ use Prim.Native.Nat.{_-_}
 use native.Mathlib.Omega.{arith}
 use lib.ListN.{drop, replicate}
 use Rattle.rules.specs.Messages.Layout.{byte, writeGroups}
-use Rattle.writing.proofs.Putting.{Left, equals, all-left, turn, none-left}
+use Rattle.areas.proofs.Putting.{Left, equals, all-left, turn, none-left}
 use Rattle.writing.proofs.Groups.{first-of-run, no-run}
 use mathlib.Core.Path.{ap}
 use Rattle.writing.proofs.heads.put_eight.Statement.{statement}

@@ -4,7 +4,7 @@ use Rattle.rules.specs.Messages.Layout.{fieldsIn}
 use Rattle.rules.specs.Messages.Forms.{forms, formOf}
 use Rattle.message.specs.Found.{heldIn}
 use Rattle.writing.specs.Front.{frontBytes, frontTail}
-use Rattle.writing.proofs.Putting.{nothing, joins}
+use Rattle.areas.proofs.Putting.{nothing, joins}
 use Rattle.writing.proofs.Groups.{headed, none-first, field-first, others}
 use borrow.Author.Needs.{needs}
 use Rattle.writing.proofs.heads.put_initiate.Statement.{statement}

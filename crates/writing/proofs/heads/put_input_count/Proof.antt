@@ -5,7 +5,7 @@ use Rattle.writing.proofs.Groups.{headed, none-first, field-first, no-m
 use Rattle.rules.specs.Messages.Forms.{forms, formOf}
 use Rattle.message.specs.Found.{heldIn}
 use Rattle.writing.specs.Front.{frontBytes, frontTail}
-use Rattle.writing.proofs.Putting.{joins}
+use Rattle.areas.proofs.Putting.{joins}
 use Rattle.writing.proofs.heads.put_input_count.Statement.{statement}
 use Rattle.writing.proofs.heads.put_input_count.Tie as tie
 

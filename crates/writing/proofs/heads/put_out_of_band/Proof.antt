@@ -5,7 +5,7 @@ use Rattle.writing.proofs.Groups.{headed, field-first, no-more}
 use Rattle.rules.specs.Messages.Forms.{forms, formOf}
 use Rattle.message.specs.Found.{heldIn}
 use Rattle.writing.specs.Front.{frontBytes, frontTail}
-use Rattle.writing.proofs.Putting.{joins}
+use Rattle.areas.proofs.Putting.{joins}
 use Rattle.writing.proofs.heads.put_out_of_band.Statement.{statement}
 use Rattle.writing.proofs.heads.put_out_of_band.Tie as tie
 

@@ -8,7 +8,7 @@ use Rattle.writing.proofs.Groups.{headed, flags-first, field-first, no-
 use Rattle.rules.specs.Messages.Forms.{forms, formOf}
 use Rattle.message.specs.Found.{heldIn}
 use Rattle.writing.specs.Front.{frontBytes, frontTail}
-use Rattle.writing.proofs.Putting.{joins}
+use Rattle.areas.proofs.Putting.{joins}
 use borrow.Author.Needs.{needs}
 use Rattle.writing.proofs.heads.put_read_data.Statement.{statement}
 use Rattle.writing.proofs.heads.put_read_data.Tie as tie

@@ -6,7 +6,7 @@ use Rattle.writing.proofs.Groups.{headed, flags-first, field-first, no-
 use Rattle.rules.specs.Messages.Forms.{forms, formOf}
 use Rattle.message.specs.Found.{heldIn}
 use Rattle.writing.specs.Front.{frontBytes, frontTail}
-use Rattle.writing.proofs.Putting.{joins}
+use Rattle.areas.proofs.Putting.{joins}
 use Rattle.writing.proofs.heads.put_write.Statement.{statement}
 use Rattle.writing.proofs.heads.put_write.Tie as tie
 

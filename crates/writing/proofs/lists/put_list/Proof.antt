@@ -4,7 +4,7 @@ use Rattle.rules.specs.Choice.{joined}
 use Rattle.rules.proofs.Tests.{pick-true, pick-false}
 use Rattle.parameters.specs.Lists.{soundFrom, parametersFrom}
 use Rattle.writing.specs.Parts.{listBytes}
-use Rattle.writing.proofs.Putting.{equals}
+use Rattle.areas.proofs.Putting.{equals}
 use Rattle.writing.proofs.lists.put_list.Statement.{statement}
 use Rattle.writing.proofs.lists.put_list.Tie as tie
 

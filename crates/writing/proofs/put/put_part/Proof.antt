@@ -1,4 +1,4 @@
-use Rattle.writing.proofs.Putting.{equals}
+use Rattle.areas.proofs.Putting.{equals}
 use Rattle.writing.proofs.put.put_part.Statement.{statement}
 use Rattle.writing.proofs.put.put_part.Tie as tie
 

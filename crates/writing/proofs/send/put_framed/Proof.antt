@@ -1,7 +1,7 @@
 use mathlib.Core.Path.{ap, _∙_}
 use Rattle.rules.specs.Messages.Layout.{bytesOf}
 use Rattle.writing.specs.Parts.{sizeOf}
-use Rattle.writing.proofs.Putting.{equals, joins}
+use Rattle.areas.proofs.Putting.{equals, joins}
 use Rattle.writing.proofs.Lengths.{sent-framed}
 use Rattle.writing.proofs.send.put_framed.Statement.{statement}
 use Rattle.writing.proofs.send.put_framed.Tie as tie

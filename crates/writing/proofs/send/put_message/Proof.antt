@@ -3,7 +3,7 @@ use Rattle.rules.specs.Messages.Layout.{fieldsIn}
 use Rattle.rules.specs.Messages.Forms.{forms, formOf}
 use Rattle.message.specs.Found.{heldIn}
 use Rattle.writing.specs.Front.{frontBytes, frontTail}
-use Rattle.writing.proofs.Putting.{nothing}
+use Rattle.areas.proofs.Putting.{nothing}
 use Rattle.writing.proofs.Groups.{headed, held-as, none-first, field-first, no-more}
 use borrow.Author.Needs.{needs}
 use Rattle.writing.proofs.send.put_message.Statement.{statement}

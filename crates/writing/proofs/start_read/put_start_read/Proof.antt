@@ -8,7 +8,7 @@ use Rattle.writing.proofs.Groups.{headed, flags-first, field-first, no-
 use Rattle.rules.specs.Messages.Forms.{forms, formOf}
 use Rattle.message.specs.Found.{heldIn}
 use Rattle.writing.specs.Front.{frontBytes, frontTail}
-use Rattle.writing.proofs.Putting.{equals, joins}
+use Rattle.areas.proofs.Putting.{equals, joins}
 use borrow.Author.Needs.{needs}
 use Rattle.writing.proofs.start_read.put_start_read.Statement.{statement}
 use Rattle.writing.proofs.start_read.put_start_read.Tie as tie

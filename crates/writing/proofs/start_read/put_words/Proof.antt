@@ -1,5 +1,5 @@
 use mathlib.Core.Path.{_∙_}
-use Rattle.writing.proofs.Putting.{joins}
+use Rattle.areas.proofs.Putting.{joins}
 use Rattle.writing.proofs.start_read.put_words.Statement.{statement}
 use Rattle.writing.proofs.start_read.put_words.Tie as tie
 

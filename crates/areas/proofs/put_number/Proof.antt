@@ -1,8 +1,8 @@
 use native.Mathlib.Omega.{arith}
 use Rattle.rules.specs.Messages.Layout.{bytesOf}
-use Rattle.writing.proofs.Putting.{Left, all-left, turn, none-left, first-digit, no-digits}
-use Rattle.writing.proofs.put.put_number.Statement.{statement}
-use Rattle.writing.proofs.put.put_number.Tie as tie
+use Rattle.areas.proofs.Putting.{Left, all-left, turn, none-left, first-digit, no-digits}
+use Rattle.areas.proofs.put_number.Statement.{statement}
+use Rattle.areas.proofs.put_number.Tie as tie
 
 abbrev Inv-loop : tie.InvT-loop
 Inv-loop count n area₀ at left₀ rest₀ next₀ area left rest next = Left (bytesOf count n) area₀ at (bytesOf left rest) area next
@@ -28,8 +28,7 @@ loop-less c = omega arith
 loop-again : tie.Need-loop-again Inv-loop μ-loop
 loop-again c =
     let a = c .before .before .before .before .before in
-    turn (first-digit (a .loop .left) (a .loop .rest) (c .before .before .before .before .loop-test .taken)) (a .loop .inv)
-    (c .before .before .put-byte .ensures)
+    turn (first-digit (a .loop .left) (a .loop .rest) (omega arith)) (a .loop .inv) (c .before .before .put-byte .ensures)
 
 same-length : tie.Need-same-length Inv-loop μ-loop
 same-length c = c .before .loop .inv .same

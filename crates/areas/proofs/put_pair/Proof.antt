@@ -1,9 +1,8 @@
 use mathlib.Core.Path.{sym, _∙_}
 use native.Mathlib.Omega.{arith}
-use Rattle.writing.proofs.Putting.{equals, joins}
-use Rattle.writing.proofs.Groups.{one-byte}
-use Rattle.writing.proofs.put.put_pair.Statement.{statement}
-use Rattle.writing.proofs.put.put_pair.Tie as tie
+use Rattle.areas.proofs.Putting.{equals, joins, one-byte}
+use Rattle.areas.proofs.put_pair.Statement.{statement}
+use Rattle.areas.proofs.put_pair.Tie as tie
 
 put-byte-requires : tie.Need-put-byte-requires
 put-byte-requires c κs = tt

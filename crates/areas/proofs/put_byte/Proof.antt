@@ -1,7 +1,7 @@
-use Rattle.writing.proofs.Putting.{stored, lost}
+use Rattle.areas.proofs.Putting.{stored, lost}
 use borrow.Author.Needs.{needs}
-use Rattle.writing.proofs.put.put_byte.Statement.{statement}
-use Rattle.writing.proofs.put.put_byte.Tie as tie
+use Rattle.areas.proofs.put_byte.Statement.{statement}
+use Rattle.areas.proofs.put_byte.Tie as tie
 
 slice-write-area : tie.Need-slice-write-area
 slice-write-area c = search needs

@@ -1,6 +1,7 @@
 -- What putting in parts comes to.
 use mathlib.Core.Path.{_≡_, refl, sym, ap, _∙_}
 use Prim.Native.Nat.{ℕ, suc, _+_, _-_, _/_, _%_, _<_, _≤_}
+use native.Mathlib.Nat.{mod-eq-of-lt}
 use native.Mathlib.Numerals.{add-one}
 use native.Mathlib.Omega.{arith}
 use mathlib.Core.List.{List, [], _∷_, _++_}
@@ -11,7 +12,7 @@ use Rattle.rules.specs.Area.{put, puts, spot}
 use Rattle.rules.specs.Messages.Layout.{fieldsIn, bytesOf}
 use Rattle.rules.proofs.Tests.{pick-true, pick-false}
 use Rattle.rules.proofs.Areas.{puts-append}
-use Rattle.writing.specs.Puts.{Puts}
+use Rattle.areas.specs.Puts.{Puts}
 
 module _ {before : List ℕ} {at : ℕ} where
   pub nothing : Puts [] before at at before
@@ -57,6 +58,11 @@ module _ {all before : List ℕ} {at : ℕ} where
   pub none-left : {bytes area : List ℕ} {next : ℕ} → bytes ≡ [] → Left all before at bytes area next → Puts all before at next area
   unfolding puts
   none-left {bytes} {area} {next} e l = record { area = ap (λ bs. puts bs (spot area next)) (sym e) ∙ l .whole; same = l .same }
+
+-- A number of one byte.
+pub one-byte : {v : ℕ} → v < 256 → bytesOf 1 v ≡ v ∷ []
+unfolding fieldsIn
+one-byte h = ap (λ b. b ∷ []) (mod-eq-of-lt h)
 
 -- The first byte of a number, and of a slice from a place on.
 pub first-digit : (left n : ℕ) → 0 < left → bytesOf left n ≡ (n % 256 ∷ []) ++ bytesOf (left - 1) (n / 256)

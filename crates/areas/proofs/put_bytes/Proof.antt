@@ -1,9 +1,9 @@
 use Prim.Native.Nat.{_-_}
 use native.Mathlib.Omega.{arith}
 use lib.ListN.{length, drop, drop-of-length-le}
-use Rattle.writing.proofs.Putting.{Left, all-left, turn, none-left, first-byte}
-use Rattle.writing.proofs.put.put_bytes.Statement.{statement}
-use Rattle.writing.proofs.put.put_bytes.Tie as tie
+use Rattle.areas.proofs.Putting.{Left, all-left, turn, none-left, first-byte}
+use Rattle.areas.proofs.put_bytes.Statement.{statement}
+use Rattle.areas.proofs.put_bytes.Tie as tie
 
 abbrev Inv-loop : tie.InvT-loop
 Inv-loop s area₀ at next₀ i₀ area next i = Left s area₀ at (drop i s) area next

@@ -4,10 +4,10 @@ use native.Mathlib.Omega.{arith}
 use lib.Seq.{take-all, length-take-le}
 use borrow.Author.Needs.{needs}
 use Rattle.rules.specs.Messages.Layout.{bytesOf}
-use Rattle.writing.specs.Front.{settingBytes}
-use Rattle.writing.proofs.Putting.{equals, joins}
-use Rattle.writing.proofs.send.put_setting.Statement.{statement}
-use Rattle.writing.proofs.send.put_setting.Tie as tie
+use Rattle.parameters.specs.Lists.{settingBytes}
+use Rattle.areas.proofs.Putting.{equals, joins}
+use Rattle.parameters.proofs.put.put_setting.Statement.{statement}
+use Rattle.parameters.proofs.put.put_setting.Tie as tie
 
 put-word-requires : tie.Need-put-word-requires
 put-word-requires c κs = tt
