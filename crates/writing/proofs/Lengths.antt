@@ -27,7 +27,7 @@ use Rattle.message.specs.declared.Message.the-variants.{WriteCompletion, Discar
 use Rattle.message.specs.declared.Message.the-variants.{CheckInput, InputCount, InputState, Other}
 use Rattle.message.specs.Found.{partOf, parametersOf, startReadIn, heldIn, placesOf, lies, allLie}
 use Rattle.parameters.proofs.Walk.{size-taken, size-least}
-use Rattle.writing.specs.Front.{frontTail, frontBytes}
+use Rattle.fronts.specs.Front.{frontTail, frontBytes}
 use Rattle.writing.specs.Parts as parts
 use Rattle.writing.specs.declared.parts.Parts.{Parts}
 use Rattle.writing.specs.Parts.{partsOf, inside}

@@ -37,7 +37,7 @@ use Rattle.parameters.proofs.Shapes.{is-setting}
 use Rattle.message.proofs.Lists.{list-from}
 use Rattle.writing.specs.declared.Written.{Written}
 use Rattle.areas.specs.Puts.{Puts}
-use Rattle.writing.specs.Front.{frontTail, frontBytes}
+use Rattle.fronts.specs.Front.{frontTail, frontBytes}
 use Rattle.writing.specs.declared.parts.Parts.{Parts}
 use Rattle.writing.specs.Parts.{partsOf, sizeOf, inside, listBytes}
 use Rattle.writing.specs.Fits.{FitsIn}

@@ -11,7 +11,7 @@ use Rattle.rules.specs.Messages.Codec.{message, setSize}
 use Rattle.message.specs.declared.Message.{Message}
 use Rattle.message.specs.Found.{heldIn}
 use Rattle.areas.specs.Puts.{Puts}
-use Rattle.writing.specs.Front.{frontBytes}
+use Rattle.fronts.specs.Front.{frontBytes}
 use Rattle.writing.specs.Parts.{partsOf, sizeOf, inside}
 
 -- a message that has no parameters, whose parts lie in the slice, and what it is to the rules

@@ -1,12 +1,9 @@
 // Writing the fourteen messages into a lent area.
 mod fits;
 mod front;
-mod heads;
 mod lists;
 mod parts;
-mod put;
 mod send;
-mod start_read;
 
 pub use crate::front::copy;
 pub use crate::front::write;

@@ -6,7 +6,7 @@ ghost use Rattle.message.specs.Found.{partOf};
 ghost use Rattle.parameters.specs.Lists.{soundFrom, parametersFrom};
 ghost use Rattle.areas.specs.Puts.{Puts};
 ghost use Rattle.writing.specs.Parts.{listBytes};
-use crate::put::put_part;
+use areas::put_bytes;
 use message::Part;
 use parameters::put_setting;
 
@@ -31,9 +31,9 @@ pub(crate) fn put_list(kind: u8, list: Part, s: &[u8], area: &mut [u8], at: usiz
     requires { ⌜ (kind ≡ 11 → soundFrom 11 0 (partOf (now s) list) ≡ true) ⌝ }
     ensures { λ r. ⌜ Puts (listBytes kind (partOf (now (s .entry)) list)) (now (area .entry)) at r (now (area .exit)) ⌝ }
 {
+    let t = message::bytes_of(s, list);
     if kind == 11 {
-        let t = message::bytes_of(s, list);
         return put_settings(t, area, at);
     }
-    put_part(s, list, area, at)
+    put_bytes(t, area, at)
 }

@@ -8,7 +8,7 @@ use Rattle.rules.specs.Messages.Forms.{forms, formOf}
 use Rattle.rules.specs.State.{fresh}
 use Rattle.rules.proofs.Tests.{pick-true, pick-false}
 use Rattle.message.specs.Found.{heldIn}
-use Rattle.writing.specs.Front.{frontBytes, frontTail}
+use Rattle.fronts.specs.Front.{frontBytes, frontTail}
 use Rattle.writing.specs.Parts.{partsOf}
 use Rattle.areas.proofs.Putting.{nothing, equals, joins}
 use Rattle.characteristics.specs.View.{hostOf}
