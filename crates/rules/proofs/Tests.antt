@@ -6,7 +6,7 @@ use mathlib.Core.List.{List, [], _∷_, _++_, map, List·Memᴰ, List·Memᴰ·h
 use lib.Dec.{leb, eqb}
 use lib.ListN.{getD, set, take, drop, take-append-drop}
 use borrow.Author.Tests.{leb-true, le-leb, eqb-true, eq-eqb}
-use Rattle.rules.specs.Choice.{pick, within, isEmpty, all, any, joined, same}
+use Rattle.rules.specs.Choice.{pick, Row, firstOf, within, isEmpty, all, any, joined, same}
 
 -- The choice.
 module _ {A : Type 0} where
@@ -50,6 +50,22 @@ module _ {A : Type 0} where
   unfolding pick
   pick-second true no-a e = absurd (no-a e)
   pick-second false no-a e = (refl, e)
+
+-- The first row that applies.
+module _ {A : Type 0} (answer : ℕ → A) (otherwise : A) (r : Row) (rows : List Row) where
+  pub row-applies : r .applies ≡ true → firstOf answer otherwise (r ∷ rows) ≡ answer (r .number)
+  unfolding firstOf
+  row-applies e = pick-true _ _ e
+
+  pub row-passed : r .applies ≡ false → firstOf answer otherwise (r ∷ rows) ≡ firstOf answer otherwise rows
+  unfolding firstOf
+  row-passed e = pick-false _ _ e
+
+  -- an answer that is not this row's came from the rows behind it
+  pub row-behind : {x : A} → (answer (r .number) ≡ x → ⊥) → firstOf answer otherwise (r ∷ rows) ≡ x →
+      (r .applies ≡ false) × (firstOf answer otherwise rows ≡ x)
+  unfolding firstOf
+  row-behind other e = pick-second (r .applies) other e
 
 -- Both tests.
 pub both : {a b : Bool} → a ≡ true → b ≡ true → a && b ≡ true

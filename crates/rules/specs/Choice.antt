@@ -1,4 +1,4 @@
--- The small words the rules are written in: a choice by a test, tests of numbers, and lists of them.
+-- The small words the rules are written in: a choice by a test, the first row of a table that applies, tests of numbers, and lists of them.
 use Prim.Native.Nat.{ℕ}
 use mathlib.Core.Bool.{Bool, true, false, _&&_, _||_}
 use mathlib.Core.List.{List, [], _∷_, _++_}
@@ -8,6 +8,20 @@ use lib.Dec.{leb, eqb}
 unfoldable pub pick : {A : Type 0} → Bool → A → A → A
 pick true a b = a
 pick false a b = b
+
+-- A row of a table: its number is given when its test holds.
+pub record Row : Type 0 where
+  pub number : ℕ
+  pub applies : Bool
+
+infix 68 _when_
+abbrev pub _when_ : ℕ → Bool → Row
+number when test = record { number = number; applies = test }
+
+-- What the first row that applies answers with its number; where none applies, this.
+unfoldable pub firstOf : {A : Type 0} → (ℕ → A) → A → List Row → A
+firstOf answer otherwise [] = otherwise
+firstOf answer otherwise (r ∷ rows) = pick (r .applies) (answer (r .number)) (firstOf answer otherwise rows)
 
 -- low to high, both included
 unfoldable pub within : ℕ → ℕ → ℕ → Bool

@@ -25,7 +25,7 @@ use Rattle.rules.specs.TwoRuns
 use Rattle.rules.specs.TwoRuns.Examples
 
 unfoldable pub openChoice : Unit {0}
-unfolding Choice.pick Choice.within Choice.bit Choice.isEmpty Choice.all Choice.any Choice.joined Choice.same
+unfolding Choice.pick Choice.firstOf Choice.within Choice.bit Choice.isEmpty Choice.all Choice.any Choice.joined Choice.same
 openChoice = tt
 
 unfoldable pub openNumbers : Unit {0}
