@@ -24,11 +24,11 @@ use borrow.Author.Tests.{not-false}
 use Rattle.rules.proofs.Bounds.Calls.{considered-sound}
 use Rattle.rules.proofs.Tests.{pick-true, pick-false, row-behind}
 use Rattle.message.specs.declared.Part as Part
-use Rattle.message.specs.Lists.{parametersFrom}
+use Rattle.parameters.specs.Lists.{parametersFrom}
 use Rattle.message.specs.declared.StartReadFields.{StartReadFields}
 use Rattle.message.specs.Found.{partOf, startReadIn, heldIn}
-use Rattle.writing.specs.Puts.{Puts}
-use Rattle.writing.proofs.Putting.{equals}
+use Rattle.areas.specs.Puts.{Puts}
+use Rattle.areas.proofs.Putting.{equals}
 use Rattle.characteristics.specs.declared.Set.{Set}
 use Rattle.line.specs.declared.Terms.{Terms}
 use Rattle.characteristics.specs.Lists.{answerTo, reportBytes, questionsIn, settingsIn}

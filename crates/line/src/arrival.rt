@@ -133,7 +133,7 @@ impl Work {
         let flow = self.flow;
         let mut known = flow.terminal;
         known.discarding = !known.discarding;
-        let kept = message::bit_of(!known.discarding);
+        let kept = fields::bit_of(!known.discarding);
         let next = self.with_terminal(known);
         next.sends_plain(messages, Message::DiscardState { kept })
     }
