@@ -11,15 +11,6 @@ Inv-loop at bytes buffer₀ next₀ i₀ buffer next i = length buffer ≡ lengt
 abbrev μ-loop : tie.MeasureT-loop
 μ-loop at bytes buffer₀ next₀ i₀ buffer next i = length bytes - i
 
-put-requires : tie.Need-put-requires Inv-loop μ-loop
-put-requires c κs = search needs
-
-same-length : tie.Need-same-length Inv-loop μ-loop
-same-length c = search needs
-
-returns : tie.Need-returns Inv-loop μ-loop
-returns c = search needs
-
 loop-holds : tie.Need-loop-holds Inv-loop μ-loop
 loop-holds c = search needs
 
@@ -38,11 +29,11 @@ loop-less c = search needs
 loop-again : tie.Need-loop-again Inv-loop μ-loop
 loop-again c = search needs
 
-same-length-2 : tie.Need-same-length-2 Inv-loop μ-loop
-same-length-2 c = search needs
+same-length : tie.Need-same-length Inv-loop μ-loop
+same-length c = search needs
 
-returns-2 : tie.Need-returns-2 Inv-loop μ-loop
-returns-2 c = search needs
+returns : tie.Need-returns Inv-loop μ-loop
+returns c = search needs
 
 pub put-hex-spec : {M : Type 1} → statement M
 put-hex-spec =
@@ -50,14 +41,11 @@ put-hex-spec =
     (tie.spec
     Inv-loop
     μ-loop
-    put-requires
-    same-length
-    returns
     loop-holds
     shared-slice-read-put-byte
     put-byte-requires
     add-i
     loop-less
     loop-again
-    same-length-2
-    returns-2)
+    same-length
+    returns)
