@@ -11,8 +11,11 @@ act-after-initiate-requires c κs = search needs
 
 returns : tie.Need-returns
 unfolding arrives
-returns c = (λ s l begun band.
-    meets-as refl (meets-told _ (meets-first _ refl (sym begun ∙ c .before .if1 .taken) (c .act-after-initiate .ensures .0 s l band))), c .act-after-initiate .ensures .1)
+returns c = (
+  λ s l begun band.
+      meets-as refl (meets-told _ (meets-first _ refl (sym begun ∙ c .before .if1 .taken) (c .act-after-initiate .ensures .0 s l band))),
+  c .act-after-initiate .ensures .1,
+)
 
 returns-2 : tie.Need-returns-2
 unfolding arrives

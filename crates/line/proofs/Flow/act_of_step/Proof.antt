@@ -27,10 +27,12 @@ returns-2 : tie.Need-returns-2
 unfolding steps stepsWhile
 returns-2 c =
     let a = c .before .before .args in
-    let pending = not-false (a .self .pending) (c .before .if1 .left) in
-    (λ s l bounded held taken.
-    meets-pending (stepsWhile codes) pending
-    (meets-first _ refl (sym held ∙ c .if2 .taken) (met (pending-room (onFlow (a .self) (lent (a .t) (l .text) l)) bounded pending))), refl)
+    let pending = not-false (a .self .pending) (c .before .if1 .left) in (
+      λ s l bounded held taken.
+          meets-pending (stepsWhile codes) pending
+          (meets-first _ refl (sym held ∙ c .if2 .taken) (met (pending-room (onFlow (a .self) (lent (a .t) (l .text) l)) bounded pending))),
+      refl,
+    )
 
 act-without-key-requires : tie.Need-act-without-key-requires
 act-without-key-requires c κs = search needs
@@ -39,13 +41,15 @@ returns-3 : tie.Need-returns-3
 unfolding steps stepsWhile
 returns-3 c =
     let a = c .before .before .before .before .before .args in
-    let pending = not-false (a .self .pending) (c .before .before .before .before .if1 .left) in
-    (λ s l bounded held taken.
-    let line = onFlow (a .self) (lent (a .t) (l .text) l) in
-    let none = isEmpty-nil _ (keys-empty (a .self .typed .waiting) (l .keys) ∙ eq-eqb _ 0 (c .before .if3 .taken)) in
-    meets-pending (stepsWhile codes) pending
-    (meets-second _ refl (sym held ∙ c .before .before .before .if2 .left)
-    (meets-as (ap (λ ks. takesFirst codes ks (readingOf line (a .self .reading)) (view line)) none) (c .act-without-key .ensures .0 s line))), c .act-without-key .ensures .1)
+    let pending = not-false (a .self .pending) (c .before .before .before .before .if1 .left) in (
+      λ s l bounded held taken.
+          let line = onFlow (a .self) (lent (a .t) (l .text) l) in
+          let none = isEmpty-nil _ (keys-empty (a .self .typed .waiting) (l .keys) ∙ eq-eqb _ 0 (c .before .if3 .taken)) in
+          meets-pending (stepsWhile codes) pending
+          (meets-second _ refl (sym held ∙ c .before .before .before .if2 .left)
+          (meets-as (ap (λ ks. takesFirst codes ks (readingOf line (a .self .reading)) (view line)) none) (c .act-without-key .ensures .0 s line))),
+      c .act-without-key .ensures .1,
+    )
 
 returns-4 : tie.Need-returns-4
 unfolding steps stepsWhile takesFirst
@@ -54,18 +58,20 @@ returns-4 c =
     let a = start .args in
     let f = a .self in
     let pending = not-false (f .pending) (c .before .before .before .if1 .left) in
-    let waiting = f .typed .waiting in
-    (λ s l bounded held taken.
-    let line = onFlow f (lent (a .t) (l .text) l) in
-    let can : CanTakeKey f (a .t) = record {
-      room = pending-room line bounded pending;
-      waits = omega (arith, c .if3 .left);
-      short = token-short (f .typed) (start .pre) (sym held ∙ c .before .before .if2 .left);
-    } in
-    let head = first-key waiting (l .keys) (omega (arith, c .if3 .left)) in
-    meets-pending (stepsWhile codes) pending
-    (meets-second _ refl (sym held ∙ c .before .before .if2 .left)
-    (meets-as (ap (λ ks. takesFirst codes ks (readingOf line (f .reading)) (view line)) head) (meets-told _ (taken can)))), refl)
+    let waiting = f .typed .waiting in (
+      λ s l bounded held taken.
+          let line = onFlow f (lent (a .t) (l .text) l) in
+          let can : CanTakeKey f (a .t) = record {
+            room = pending-room line bounded pending;
+            waits = omega (arith, c .if3 .left);
+            short = token-short (f .typed) (start .pre) (sym held ∙ c .before .before .if2 .left);
+          } in
+          let head = first-key waiting (l .keys) (omega (arith, c .if3 .left)) in
+          meets-pending (stepsWhile codes) pending
+          (meets-second _ refl (sym held ∙ c .before .before .if2 .left)
+          (meets-as (ap (λ ks. takesFirst codes ks (readingOf line (f .reading)) (view line)) head) (meets-told _ (taken can)))),
+      refl,
+    )
 
 pub act-of-step-spec : {M : Type 1} → statement M
 act-of-step-spec =

@@ -25,20 +25,24 @@ unfolding ticks ticksWhile only
 returns-2 c =
     let start = c .before .before .before .before .before .before .before in
     let a = start .args in
-    let pending = not-false (a .self .pending) (c .before .before .before .before .before .before .if1 .left) in
-    (λ s l held.
-    let quiet = nothing-waits (a .self .typed) (start .pre) held (l .keys) (a .t .timed) (ltb 0 (a .t .timeout)) in
-    meets-pending (ticksWhile codes) pending (meets-first _ refl (sym quiet ∙ c .before .if2 .taken) (c .act-of-idling .ensures .0 s l)), c .act-of-idling .ensures .1)
+    let pending = not-false (a .self .pending) (c .before .before .before .before .before .before .if1 .left) in (
+      λ s l held.
+          let quiet = nothing-waits (a .self .typed) (start .pre) held (l .keys) (a .t .timed) (ltb 0 (a .t .timeout)) in
+          meets-pending (ticksWhile codes) pending (meets-first _ refl (sym quiet ∙ c .before .if2 .taken) (c .act-of-idling .ensures .0 s l)),
+      c .act-of-idling .ensures .1,
+    )
 
 returns-3 : tie.Need-returns-3
 unfolding ticks ticksWhile only
 returns-3 c =
     let start = c .before .before .before .before .before .before in
     let a = start .args in
-    let pending = not-false (a .self .pending) (c .before .before .before .before .before .if1 .left) in
-    (λ s l held.
-    let quiet = nothing-waits (a .self .typed) (start .pre) held (l .keys) (a .t .timed) (ltb 0 (a .t .timeout)) in
-    meets-pending (ticksWhile codes) pending (meets-second _ refl (sym quiet ∙ c .if2 .left) (met tt)), refl)
+    let pending = not-false (a .self .pending) (c .before .before .before .before .before .if1 .left) in (
+      λ s l held.
+          let quiet = nothing-waits (a .self .typed) (start .pre) held (l .keys) (a .t .timed) (ltb 0 (a .t .timeout)) in
+          meets-pending (ticksWhile codes) pending (meets-second _ refl (sym quiet ∙ c .if2 .left) (met tt)),
+      refl,
+    )
 
 pub act-of-tick-spec : {M : Type 1} → statement M
 act-of-tick-spec =
