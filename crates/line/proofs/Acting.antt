@@ -11,7 +11,7 @@ use Rattle.rules.specs.Numbers.{inputSize, typeAheadSize}
 use Rattle.rules.specs.Messages.Codec as codec
 use Rattle.rules.specs.Messages.Codec.{read, soundLength}
 use Rattle.rules.specs.Calls as rules
-use Rattle.rules.specs.Calls.{areRoomy, refusals, considered, messageBytes}
+use Rattle.rules.specs.Calls.{areRoomy, refusals, received, messageBytes}
 use Rattle.rules.proofs.Tests.{row-applies}
 use Rattle.rules.proofs.Outcomes.{refused-sound}
 use Rattle.line.specs.declared.Line.{Line}
@@ -22,8 +22,8 @@ use Rattle.line.specs.declared.acts.Act.the-variants.{Nothing, Stores, S
 use Rattle.line.specs.declared.acts.Act.the-variants.{TakesToken, Takes, TimesOut, Idles, Obeys}
 use Rattle.line.specs.declared.events.HostMessage.{HostMessage}
 use Rattle.line.specs.declared.events.Event.{Event}
-use Rattle.line.specs.Events.{Admitted, eventPart, eventOf}
-use Rattle.line.specs.Rows.{rowOf}
+use Rattle.line.specs.Events.{eventPart}
+use Rattle.line.specs.Refusals.{rowOf}
 use Rattle.line.specs.Answers.{Answers, refusal}
 use Rattle.line.specs.declared.Answer.{Answer}
 use Rattle.line.specs.Bounded.{Counted, CountedFlow, Bounded}
@@ -32,10 +32,27 @@ use Rattle.line.specs.KeyParts.{keysAfter}
 use Rattle.line.specs.HostMessages.{Accepted}
 use Rattle.line.specs.Promise.{Progress, on, Does}
 use Rattle.line.specs.Acts.{actPart, Ready, Fits, Done, Meets}
+use Rattle.line.proofs.Evented.{eventOf, Admitted}
 use Rattle.line.proofs.KeyArrays.{after-length}
 use Rattle.line.proofs.Answering.{begun, begunWork, refused, cramped}
 use Rattle.line.proofs.Accepts.{startables}
 use Rattle.line.proofs.Meeting.{act-answers}
+
+-- it is an act other than none
+abbrev pub Moves : Act → Type 0
+Moves Nothing = ⊥
+Moves (Stores c) = Unit {0}
+Moves (StoresQuoted c) = Unit {0}
+Moves (SendsOutOfBand c) = Unit {0}
+Moves (ClearsAtOnce c) = Unit {0}
+Moves Quotes = Unit {0}
+Moves Clears = Unit {0}
+Moves FlipsDiscard = Unit {0}
+Moves TakesToken = Unit {0}
+Moves (Takes k) = Unit {0}
+Moves TimesOut = Unit {0}
+Moves (Idles idle) = Unit {0}
+Moves (Obeys m) = Unit {0}
 
 -- An act by its case.
 module _ (s : List ℕ) (t : Terms) (l : Line) (w : Work) {text a m : List ℕ} {r : Work} {text′ a′ m′ : List ℕ} {x y : Act} where
@@ -65,7 +82,7 @@ still-areas d = (ap (λ x. x .area) (d .shows), ap (λ x. x .area) (d .sends))
 
 -- no message of no bytes is accepted
 none-accepted : (l : Line) (m : HostMessage) → Accepted l [] m → ⊥
-unfolding considered refusals soundLength within
+unfolding received refusals soundLength within
 none-accepted l m a =
     let short : soundLength 0 ≡ false = refl in
     refused-sound (sym (row-applies codec.refused (read []) _ _ (ap not short)) ∙ a .taken)

@@ -22,7 +22,7 @@ use Rattle.line.specs.declared.Line.{Line}
 use Rattle.line.specs.View.{inputOf, promptOf, readingOf}
 use Rattle.line.specs.With.{lent}
 use Rattle.line.specs.Bounded.{CountedReading}
-use Rattle.line.proofs.Held.{empty-take}
+use Rattle.line.proofs.TokenBytes.{empty-take}
 use Rattle.line.specs.ReadingParts.{Appends, ShownFrom}
 
 pub input-length : (n : ℕ) (text : List ℕ) → n ≤ length text → length (inputOf n text) ≡ n

@@ -14,14 +14,14 @@ use Rattle.rules.specs.Turns.{Part, still, sends, _then_}
 use Rattle.rules.specs.StartRead.Acceptance as rules
 use Rattle.rules.specs.Characteristics.{withParameters, report}
 use Rattle.rules.specs.Host.{ourInitiate, initiates, reports, setsCharacteristics, obeys}
-use Rattle.rules.specs.Calls.{areRoomy, isTimely, isPending, carriesQuestions, refusals, considered, messageBytes}
+use Rattle.rules.specs.Calls.{areRoomy, isTimely, isPending, carriesQuestions, refusals, received, messageBytes}
 use Rattle.rules.specs.Area.{puts, spot}
 use Rattle.rules.specs.Messages.Codec as codec
 use Rattle.rules.specs.Messages.Codec.{Held, refused, fieldsAs, read}
 use Rattle.rules.specs.Messages.Layout.{byteAt}
 use Rattle.rules.proofs.Outcomes.{refused-sound, readable}
 use borrow.Author.Tests.{not-false}
-use Rattle.rules.proofs.Bounds.Calls.{considered-sound}
+use Rattle.rules.proofs.Bounds.Calls.{received-sound}
 use Rattle.rules.proofs.Tests.{pick-true, pick-false, row-behind}
 use Rattle.message.specs.declared.Part as Part
 use Rattle.message.specs.Lists.{parametersFrom}
@@ -39,11 +39,11 @@ use Rattle.line.specs.declared.events.HostMessage.{HostMessage}
 use Rattle.line.specs.declared.events.HostMessage.the-variants.{Initiate, StartRead, Unread, ClearInput, Write, ReadCharacteristics, Characteristics, CheckInput}
 use Rattle.line.specs.View.{view, hostOf, pendingOf, readingOf}
 use Rattle.line.specs.declared.events.Event.the-variants.{Host}
-use Rattle.line.specs.Events.{eventPart, eventOf}
+use Rattle.line.specs.Events.{eventPart}
 use Rattle.line.specs.declared.acts.Act.{Act}
 use Rattle.line.specs.declared.acts.Act.the-variants.{Obeys}
 use Rattle.line.specs.Acts.{Done}
-use Rattle.line.specs.Answers.{Answers, doneAnswer}
+use Rattle.line.specs.Answers.{Answers}
 use Rattle.rules.specs.Calls as calls
 use Rattle.line.specs.Bounded.{Counted, CountedFlow, Bounded}
 use Rattle.line.specs.With.{onFlow, lent}
@@ -53,9 +53,9 @@ use Rattle.line.specs.Promise.{Progress, on, Does}
 use Rattle.line.proofs.Works.{then-does, here-does, changes-does, only-does, not-does}
 use Rattle.line.proofs.Joints.{for-equal}
 use Rattle.line.proofs.Sends.{sent-does}
-use Rattle.line.proofs.Answering.{begun, begunWork, answered}
-use Rattle.line.proofs.Evented.{event-answers, event-bytes}
-use Rattle.line.proofs.Considered.{true-false}
+use Rattle.line.proofs.Answering.{doneAnswer, begun, begunWork, answered}
+use Rattle.line.proofs.Evented.{eventOf, event-answers, event-bytes}
+use Rattle.line.proofs.ReceivedMessage.{true-false}
 use Rattle.line.proofs.Accepts.{questions-known}
 
 -- a part with nothing behind it
@@ -109,12 +109,12 @@ set-counted s l next CheckInput c e = subst Counted (sym e) c
 -- A Start Read comes with no read pending.
 module _ (l : Line) (s : List ℕ) (f : StartReadFields) (a : Accepted l s (StartRead f)) where
   start-timely : isTimely forms.startRead (view l) ≡ true
-  unfolding considered refusals heldIn startReadIn fieldsAs
+  unfolding received refusals heldIn startReadIn fieldsAs
   start-timely =
       let sized = row-behind refused (read s) _ _ refused-sound (a .taken) in
       let kind = row-behind refused (read s) _ _ refused-sound (sized .1) in
       let time = row-behind refused (read s) _ _ refused-sound (kind .1) in
-      let fields = readable s (a .fields) (considered-sound (view l) s (a .fields) (a .taken) .0) .fields in
+      let fields = readable s (a .fields) (received-sound (view l) s (a .fields) (a .taken) .0) .fields in
       let same : byteAt s 0 ≡ forms.startRead = ap (λ x. x .kind) fields ∙ sym (ap held-kind (a .held)) in
       ap (λ k. isTimely k (view l)) (sym same) ∙ not-false (isTimely (byteAt s 0) (view l)) (time .0)
 
@@ -144,8 +144,8 @@ module _ (s : List ℕ) (l : Line) (f : StartReadFields) (a : Accepted l s (Star
       let none = no-read l s f a in
       λ i. withRead ((ap (λ p. pendingOf p (readingOf opened (l .flow .reading))) none ∙ sym (ap (λ p. pendingOf p (readingOf l (l .flow .reading))) none)) i) (view l)
 
-  read-begins : readingOf opened (readingAt s f (l .flow .terminal .screen .column)) ≡ rules.readingOf codes x (view l)
-  unfolding rules.readingOf startReadIn dataIn
+  read-begins : readingOf opened (readingAt s f (l .flow .terminal .screen .column)) ≡ rules.openedRead codes x (view l)
+  unfolding rules.openedRead startReadIn dataIn
   read-begins = λ i.
       record {
         terms = o .terms i;
@@ -158,7 +158,7 @@ module _ (s : List ℕ) (l : Line) (f : StartReadFields) (a : Accepted l s (Star
 
   module _ (t before t′ m′ text′ : List ℕ) (r : Work) where
     begins-does : Does (rules.begins codes x (readingOf opened (readingAt s f (l .flow .terminal .screen .column)))) (on opened (begunWork l 0)) t before (on (lent T text′ opened) r) t′ m′ →
-        Does (rules.begins codes x (rules.readingOf codes x (view l))) (begun l) t before (on (lent T text′ opened) r) t′ m′
+        Does (rules.begins codes x (rules.openedRead codes x (view l))) (begun l) t before (on (lent T text′ opened) r) t′ m′
     begins-does d = at-view unseen (for-equal (rules.begins codes x) read-begins d)
 
     remembers-does : Does (rules.remembersSet codes x) (on (lent T text′ opened) r) t′ m′ (on (lent T text′ (onOpened T S X Z l)) r) t′ m′
@@ -181,7 +181,7 @@ module _ (s : List ℕ) (l : Line) (f : StartReadFields) (a : Accepted l s (Star
         Does (rules.startsRead codes x) (begun l) t before (on (lent T text′ (onOpened T S X Z l)) r) t′ m′
     unfolding rules.startsRead
     start-does d =
-        here-does (λ z. rules.begins codes x (rules.readingOf codes x z) then rules.remembersSet codes x) (then-does (begins-does d) remembers-does)
+        here-does (λ z. rules.begins codes x (rules.openedRead codes x z) then rules.remembersSet codes x) (then-does (begins-does d) remembers-does)
 
 -- nothing was set or reported before the call's work
 begun-as : {p : Part ℕ} {r : Progress} {t t′ m′ before mid : List ℕ} (l next : Line) (place : ℕ) → next ≡ l → NoReport before place mid →

@@ -129,8 +129,8 @@ module _ {s : List ℕ} {f : StartReadFields} (k : Startable s f) where
     abbrev opened : Line
     opened = onOpened terms chosen (placed (l .text) typed shown full (pieces-fit p d)) last l
 
-    opened-terms : termsOf opened ≡ rules.termsOf codes (startReadIn s f) (view l)
-    unfolding rules.termsOf startReadIn promptIn
+    opened-terms : termsOf opened ≡ rules.openedTerms codes (startReadIn s f) (view l)
+    unfolding rules.openedTerms startReadIn promptIn
     opened-terms =
         let room = pieces-fit p d in
         let prompt = placed-prompt (l .text) typed shown full room ∙ p in

@@ -1,5 +1,5 @@
 -- Events: what each is of the rules, and what is seen of the line before it. A host message stands in a slice.
-use Prim.Native.Nat.{ℕ, _<_}
+use Prim.Native.Nat.{ℕ}
 use mathlib.Core.Path.{_≡_}
 use mathlib.Core.List.{List}
 use lib.ListN.{getD}
@@ -8,7 +8,6 @@ use Rattle.rules.specs.Turns.{Part}
 use Rattle.rules.specs.Arrival.{arrives}
 use Rattle.rules.specs.StartRead.{inSet}
 use Rattle.rules.specs.Steps.{raisedBy, steps, ticks}
-use Rattle.rules.specs.Calls as rules
 use Rattle.message.specs.Found.{heldIn}
 use Rattle.characteristics.specs.View.{setOf}
 use Rattle.line.specs.declared.Line.{Line}
@@ -18,13 +17,6 @@ use Rattle.line.specs.declared.events.Event.the-variants.{Key, Tick, Ste
 use Rattle.line.specs.View.{keyOf, readingOf}
 use Rattle.line.specs.Bounded.{Bounded}
 use Rattle.line.specs.HostMessages.{messageOf, Accepted, obeysHeld}
-
--- a key is a byte, and a message is one that the line accepts
-abbrev pub Admitted : Line → List ℕ → Event → Type 0
-Admitted l s (Key c) = c < 256
-Admitted l s Tick = Unit {0}
-Admitted l s Step = Unit {0}
-Admitted l s (Host m) = Accepted l s m
 
 -- what a step looks at
 pub record SeesStep (l : Line) (seen : Seen) : Type 0 where
@@ -45,9 +37,3 @@ eventPart s (Key c) = arrives codes c
 eventPart s Tick = ticks codes
 eventPart s Step = steps codes
 eventPart s (Host m) = obeysHeld (heldIn s (messageOf m))
-
-unfoldable pub eventOf : List ℕ → Event → rules.Event ℕ
-eventOf s (Key c) = rules.key c
-eventOf s Tick = rules.tick
-eventOf s Step = rules.step
-eventOf s (Host m) = rules.message s

@@ -7,6 +7,7 @@ use lib.Dec.{eqb}
 use lib.ListN.{length, take, drop}
 use Rattle.rules.specs.Numbers.{inputSize}
 use Rattle.rules.specs.Choice.{pick, bit}
+use Rattle.rules.specs.Messages.Codec.{setSize}
 use Rattle.rules.specs.State.{codes}
 use Rattle.rules.specs.StartRead.Acceptance as rules
 use Rattle.rules.specs.StartRead.Acceptance.{hidesLF}
@@ -26,7 +27,7 @@ pub record Startable (s : List ℕ) (f : StartReadFields) : Type 0 where
   pub prompt : f .«end_of_prompt» ≤ f .«end_of_data»
   pub within : f .«end_of_data» ≤ f .«max_length»
   pub largest : f .«max_length» ≤ inputSize
-  pub set : length (partOf s (f .set)) ≤ 32
+  pub set : length (partOf s (f .set)) ≤ setSize
 
 -- the prompt as it is displayed, and what the text has behind it
 unfoldable pub promptIn : List ℕ → StartReadFields → List ℕ
@@ -84,7 +85,7 @@ onOpened terms set text last l =
 -- the line with all that a Start Read fixes for its read
 pub record Opens (s : List ℕ) (f : StartReadFields) (l next : Line) : Type 0 where
   pub same : next ≡ onOpened (next .terms) (next .set) (next .text) (next .«last_set») l
-  pub terms : termsOf next ≡ rules.termsOf codes (startReadIn s f) (view l)
+  pub terms : termsOf next ≡ rules.openedTerms codes (startReadIn s f) (view l)
   pub input : inputOf (f .«end_of_data» - f .«end_of_prompt») (next .text) ≡ dataIn s f
   pub prompting : next .terms .«auto_prompt» ≡ l .switches .prompting
   pub last : setOf (next .«last_set») ≡ pick (eqb (f .«set_choice») 1) (partOf s (f .set)) (setOf (l .«last_set»))

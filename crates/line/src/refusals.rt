@@ -13,7 +13,7 @@ ghost use Rattle.line.specs.View.{view};
 ghost use Rattle.line.specs.Bounded.{Counted};
 ghost use Rattle.line.specs.HostMessages.{messageOf};
 ghost use Rattle.line.specs.Answers.{refusal};
-ghost use Rattle.line.specs.Rows.{rowOf, firstRow, earlyRow};
+ghost use Rattle.line.specs.Refusals.{rowOf, firstRow, earlyRow};
 use crate::Answer;
 use crate::Line;
 use crate::events::HostMessage;

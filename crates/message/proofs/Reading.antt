@@ -7,7 +7,7 @@ use mathlib.Core.List.{List, [], _∷_, map}
 use lib.Dec.{eqb, leb}
 use lib.ListN.{length, drop-of-length-le, length-drop}
 use borrow.Author.Tests.{le-leb, lt-leb, leb-true, leb-false}
-use Rattle.rules.specs.Choice.{pick, isEmpty, all}
+use Rattle.rules.specs.Choice.{pick, isEmpty, allAre}
 use Rattle.rules.specs.Messages.Layout.{byteAt, sizeOf}
 use Rattle.rules.specs.Messages.Parameters.{Shape, cleaned, cut}
 use Rattle.rules.specs.Messages.Forms.{Message, Tail, nothing, text, list, formOf, startRead, readData, write}
@@ -156,8 +156,8 @@ module _ (kind : ℕ) (s : List ℕ) where
     pub fixed-sound : byteAt s 0 ≡ kind → isFree kind ≡ true → length s ≡ head →
         {vs : List ℕ} → Head (formOf kind .head) 1 s vs → {m : declared.Message} → heldIn s m ≡ bare kind vs → placesOf m ≡ [] →
         Finds s (readAs kind s) (found.Message m)
-    unfolding behindHead isEmpty setIn parametersIn textIn all
+    unfolding behindHead isEmpty setIn parametersIn textIn allAre
     fixed-sound k e h {vs} v held none =
         let empty = drop-of-length-le s {i = head} (omega arith) in
-        read-sound (record { fields = held ∙ ap message (fields-are k v nothing is); inside = λ _. ap (all (lies (length s))) none })
+        read-sound (record { fields = held ∙ ap message (fields-are k v nothing is); inside = λ _. ap (allAre (lies (length s))) none })
         (omega arith) (nothing-behind ∙ ap isEmpty empty) (free-defined k e)

@@ -6,7 +6,7 @@ use mathlib.Core.Bool.{Bool, true}
 use mathlib.Core.List.{List, [], _∷_, _++_, map}
 use lib.Dec.{leb}
 use lib.ListN.{length, take, drop}
-use Rattle.rules.specs.Choice.{pick, all}
+use Rattle.rules.specs.Choice.{pick, allAre}
 use Rattle.rules.specs.Numbers.{accepted, unsound}
 use Rattle.rules.specs.Messages.Layout.{byteAt, fieldsIn, numberAt}
 use Rattle.rules.specs.Messages.Parameters.{Shape, initiation, question, setting, cleaned, cut}
@@ -121,7 +121,7 @@ abbrev pub lies : ℕ → Part → Bool
 lies size p = leb (p .start + p .len) size
 
 abbrev pub allLie : ℕ → Message → Bool
-allLie size m = all (lies size) (placesOf m)
+allLie size m = allAre (lies size) (placesOf m)
 
 -- what reading gives, as what can be held
 unfoldable pub asHeld : Outcome (forms.Message ℕ) → Outcome Held

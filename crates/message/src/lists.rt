@@ -3,7 +3,7 @@ ghost use mathlib.Core.Path.{_≡_};
 ghost use Prim.Native.Nat.{_%_, _<_, _≤_};
 ghost use lib.ListN.{length, getD, drop, replicate};
 ghost use Rattle.rules.specs.Messages.Layout.{byteAt};
-ghost use Rattle.rules.specs.Messages.Parameters.{definedSelector, questionLimits, valueLimits, limitsOf, sizeOf, soundParameter};
+ghost use Rattle.rules.specs.Messages.Parameters.{definedSelector, questionLimits, valueLimits, limitsOf, parameterSize, soundParameter};
 ghost use Rattle.message.specs.Lists.{LimitsAre, ParameterIs, shapeOf, parameterAt, soundFrom};
 use crate::Parameter;
 use crate::bytes::byte_at;
@@ -103,7 +103,7 @@ fn defined_at(kind: u8, s: &[u8], at: usize) -> bool
 // How long the parameter that begins at a place should be.
 fn size_at(kind: u8, s: &[u8], at: usize) -> usize
     requires { ⌜ at < length (now s) ⌝ }
-    ensures { λ r. ⌜ (r ≡ sizeOf (shapeOf kind) (drop at (now (s .entry)))) × (2 ≤ r) × (r ≤ 257) ⌝ }
+    ensures { λ r. ⌜ (r ≡ parameterSize (shapeOf kind) (drop at (now (s .entry)))) × (2 ≤ r) × (r ≤ 257) ⌝ }
 {
     let l = limits_at(kind, s, at);
     2 + l.0 as usize

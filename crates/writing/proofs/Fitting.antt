@@ -6,7 +6,7 @@ use mathlib.Core.List.{List, [], _∷_}
 use lib.Dec.{leb, ltb}
 use lib.ListN.{length}
 use borrow.Author.Tests.{lt-ltb}
-use Rattle.rules.specs.Choice.{pick, isEmpty, all}
+use Rattle.rules.specs.Choice.{pick, isEmpty, allAre}
 use Rattle.rules.specs.Messages.Layout.{byteAt, widthsOf, fits}
 use Rattle.rules.specs.Messages.Forms.{forms, formOf}
 use Rattle.rules.specs.Messages.Codec.{allBytes, definedFields, fitsTail, fitsAs, fitsHeld}
@@ -24,7 +24,7 @@ use Rattle.writing.proofs.Lengths.{parts-length}
 
 -- the bytes of a slice are bytes, and so are those of a part
 pub bytes-all : (s : List ℕ) → ((i : ℕ) → byteAt s i < 256) → allBytes s ≡ true
-unfolding allBytes all
+unfolding allBytes allAre
 bytes-all [] h = refl
 bytes-all (b ∷ s) h = both (lt-ltb b 256 (h zero)) (bytes-all s (λ i. h (suc i)))
 

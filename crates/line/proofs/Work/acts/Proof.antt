@@ -3,10 +3,10 @@ use mathlib.Core.Path.{refl, sym, _∙_, subst}
 use Rattle.line.specs.With.{lent}
 use Rattle.rules.specs.Numbers.{typeAheadSize}
 use Rattle.rules.specs.Arrival.{stores}
-use Rattle.line.specs.Acts.{Fits, Moves}
+use Rattle.line.specs.Acts.{Fits}
 use Rattle.line.proofs.Works.{still-does}
 use Rattle.line.proofs.Arrivals.{plain-key}
-use Rattle.line.proofs.Acting.{done-as}
+use Rattle.line.proofs.Acting.{Moves, done-as}
 use borrow.Author.Needs.{needs}
 use Rattle.line.proofs.Work.acts.Statement.{statement}
 use Rattle.line.proofs.Work.acts.Tie as tie
