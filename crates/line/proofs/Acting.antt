@@ -7,7 +7,7 @@ use mathlib.Core.Bool.{Bool, true, false, not}
 use Rattle.rules.specs.Choice.{pick, firstOf, within, joined}
 use Rattle.rules.specs.Turns.{still}
 use Rattle.rules.specs.Area.{puts}
-use Rattle.rules.specs.Numbers.{inputSize, typeAheadSize}
+use Rattle.rules.specs.Numbers.{inputSize, typeAheadSize, accepted, smallArea}
 use Rattle.rules.specs.Messages.Codec as codec
 use Rattle.rules.specs.Messages.Codec.{read, soundLength}
 use Rattle.rules.specs.Calls as rules
@@ -146,7 +146,7 @@ module _ (e : Event) (l : Line) (b : Bounded l) (t m : List ℕ) (admitted : Adm
     acted : (x : Bool) → roomy ≡ x → Answers (eventOf [] e) l t m (told keys′ text′ r (rowOf x)) t′ m′
     unfolding rowOf firstOf pick
     acted true y =
-        subst (λ z. Answers (eventOf [] e) l t m (told z text′ r 0) t′ m′) (sym k)
+        subst (λ z. Answers (eventOf [] e) l t m (told z text′ r accepted) t′ m′) (sym k)
         (act-answers e [] t m l b admitted (sym size ∙ y) (h y) _ t′ m′ (keyed-does l a (h y .ready) (b .counted .keys) d) (done-counted l a text′ r (b .counted) full f))
     acted false y =
         let n = none y in
@@ -155,9 +155,9 @@ module _ (e : Event) (l : Line) (b : Bounded l) (t m : List ℕ) (admitted : Adm
         let keys : keys′ ≡ l .keys = k ∙ ap (λ z. keysAfter z (l .flow .typed .waiting) (l .keys)) n in
         let areas = still-areas still in
         let answer : told keys′ text′ r 1 ≡ refusal 1 l = λ i. told (keys i) (same n .1 i) (same n .0 i) 1 in
-        subst (λ z. Answers (eventOf [] e) l t m (told keys′ text′ r 1) z m′) (sym (areas .0))
-        (subst (λ z. Answers (eventOf [] e) l t m (told keys′ text′ r 1) t z) (sym (areas .1))
-        (refused (eventOf [] e) l t m 1 b (cramped (eventOf [] e) l t m (sym size ∙ y)) answer))
+        subst (λ z. Answers (eventOf [] e) l t m (told keys′ text′ r smallArea) z m′) (sym (areas .0))
+        (subst (λ z. Answers (eventOf [] e) l t m (told keys′ text′ r smallArea) t z) (sym (areas .1))
+        (refused (eventOf [] e) l t m smallArea b (cramped (eventOf [] e) l t m (sym size ∙ y)) answer))
 
     pub keyed-answers : Answers (eventOf [] e) l t m (told keys′ text′ r (rowOf roomy)) t′ m′
     keyed-answers = acted roomy refl

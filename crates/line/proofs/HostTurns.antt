@@ -8,11 +8,10 @@ use lib.Dec.{eqb}
 use lib.ListN.{length}
 use Rattle.rules.specs.Choice.{pick, joined}
 use Rattle.rules.specs.Numbers.{inputSize, typeAheadSize}
-use Rattle.rules.specs.State.{Reading, codes, withHost, withRead, withBegun, withLastSet}
+use Rattle.rules.specs.State.{Reading, codes, withHost, withRead, withLastSet}
 use Rattle.rules.specs.Messages.Forms as forms
 use Rattle.rules.specs.Turns.{Part, still, sends, _then_}
 use Rattle.rules.specs.StartRead.Acceptance as rules
-use Rattle.rules.specs.Characteristics.{withParameters, report}
 use Rattle.rules.specs.Host.{ourInitiate, initiates, reports, setsCharacteristics, obeys}
 use Rattle.rules.specs.Calls.{areRoomy, isTimely, isPending, carriesQuestions, refusals, received, messageBytes}
 use Rattle.rules.specs.Area.{puts, spot}
@@ -24,7 +23,6 @@ use borrow.Author.Tests.{not-false}
 use Rattle.rules.proofs.Bounds.Calls.{received-sound}
 use Rattle.rules.proofs.Tests.{pick-true, pick-false, row-behind}
 use Rattle.message.specs.declared.Part as Part
-use Rattle.message.specs.Lists.{parametersFrom}
 use Rattle.message.specs.declared.StartReadFields.{StartReadFields}
 use Rattle.message.specs.Found.{partOf, startReadIn, heldIn}
 use Rattle.writing.specs.Puts.{Puts}
@@ -47,11 +45,11 @@ use Rattle.line.specs.Answers.{Answers}
 use Rattle.rules.specs.Calls as calls
 use Rattle.line.specs.Bounded.{Counted, CountedFlow, Bounded}
 use Rattle.line.specs.With.{onFlow, lent}
-use Rattle.line.specs.Starts.{dataIn, readingAt, onOpened, Opens}
+use Rattle.line.specs.Starts.{readingAt, onOpened, Opens}
 use Rattle.line.specs.HostMessages.{messageOf, Accepted, obeysHeld, flowPart, Prompts, onInitiated, Sets, SetBy, NoReport, Reported}
 use Rattle.line.specs.Promise.{Progress, on, Does}
 use Rattle.line.proofs.Works.{then-does, here-does, changes-does, only-does, not-does}
-use Rattle.line.proofs.Joints.{for-equal}
+use Rattle.line.proofs.Joints.{here-part, for-equal}
 use Rattle.line.proofs.Sends.{sent-does}
 use Rattle.line.proofs.Answering.{doneAnswer, begun, begunWork, answered}
 use Rattle.line.proofs.Evented.{eventOf, event-answers, event-bytes}
@@ -145,13 +143,13 @@ module _ (s : List ℕ) (l : Line) (f : StartReadFields) (a : Accepted l s (Star
       λ i. withRead ((ap (λ p. pendingOf p (readingOf opened (l .flow .reading))) none ∙ sym (ap (λ p. pendingOf p (readingOf l (l .flow .reading))) none)) i) (view l)
 
   read-begins : readingOf opened (readingAt s f (l .flow .terminal .screen .column)) ≡ rules.openedRead codes x (view l)
-  unfolding rules.openedRead startReadIn dataIn
+  unfolding rules.openedRead startReadIn
   read-begins = λ i.
       record {
         terms = o .terms i;
-        input = (o .input ∙ sym (map-id (dataIn s f))) i;
+        input = (o .input ∙ sym (map-id (rules.dataBehind (startReadIn s f)))) i;
         lowWater = f .«low_water»;
-        hidden = rules.hidesLF x && eqb (f .«end_of_prompt») 0;
+        hidden = rules.hidesInput x;
         from = l .flow .terminal .screen .column;
         idle = 0;
       }
@@ -170,7 +168,7 @@ module _ (s : List ℕ) (l : Line) (f : StartReadFields) (a : Accepted l s (Star
         by-choice true e =
             let set = o .last ∙ pick-true _ _ e in
             only-does _ e
-            (changes-does t′ m′ (λ z. withHost (withLastSet (partOf s (f .set)) (z .host)) z)
+            (changes-does t′ m′ _
             (λ i. withHost (withLastSet (set i) (view opened .host)) (view (onFlow (r .flow) (lent T text′ opened)))) refl refl)
         by-choice false e =
             let set = o .last ∙ pick-false _ _ e in
@@ -220,7 +218,7 @@ module _ (s t before mid t′ m′ text′ : List ℕ) (l next : Line) (place : 
       Does initiates (begun l) t before (on (lent (next .terms) text′ next) r) t′ m′
   unfolding initiates
   initiate-turns e i d =
-      then-does (changes-does t before (λ z. withHost (withBegun true (z .host)) z) (ap view e) refl refl) (begun-as next next place refl i d)
+      then-does (changes-does t before _ (ap view e) refl refl) (begun-as next next place refl i d)
 
   report-turns : (p : Part.Part) → Accepted l s (ReadCharacteristics p) → next ≡ l →
       Puts (reportBytes (hostOf next) (partOf s p)) before 0 place mid →
@@ -231,7 +229,7 @@ module _ (s t before mid t′ m′ text′ : List ℕ) (l next : Line) (place : 
       let known = subst (λ z. carriesQuestions (view z) (questionsIn (partOf s p)) ≡ true) (sym e) (questions-known l s p a) in
       let bytes = report-carried (hostOf next) (partOf s p) (view next) known in
       subst (λ z. Does (reports (questionsIn (partOf s p))) (begun z) t before (on (lent (next .terms) text′ next) r) t′ m′) e
-      (here-does (λ z. sends (report (z .host) (questionsIn (partOf s p))))
+      (here-part refl
       (still-behind (sent-does {w = begunWork next 0} {v = begunWork next place} _ (equals bytes puts) refl next t) d))
 
   settings-turns : (p : Part.Part) → Sets (partOf s p) l next → NoReport before place mid →
@@ -240,7 +238,7 @@ module _ (s t before mid t′ m′ text′ : List ℕ) (l next : Line) (place : 
   unfolding obeys pick setsCharacteristics
   settings-turns p e i d =
       let seen = ap view (e .same) ∙ (λ j. withHost (e .settings j) (view l)) in
-      still-behind (changes-does t before (λ z. withHost (withParameters (parametersFrom 11 0 (partOf s p)) (z .host)) z) seen refl refl)
+      still-behind (changes-does t before _ seen refl refl)
       (begun-as next next place refl i d)
 
   pub host-does : (m : HostMessage) → Accepted l s m → length (l .keys) ≡ typeAheadSize → length (next .keys) ≡ typeAheadSize → SetBy s m l next →

@@ -6,7 +6,7 @@ use mathlib.Core.List.{List, [], _∷_, _++_, map, List·Memᴰ, List·Memᴰ·h
 use lib.Dec.{leb, eqb}
 use lib.ListN.{getD, set, take, drop, take-append-drop}
 use borrow.Author.Tests.{leb-true, le-leb, eqb-true, eq-eqb}
-use Rattle.rules.specs.Choice.{pick, Row, firstOf, within, isEmpty, allAre, anyIs, joined, same}
+use Rattle.rules.specs.Choice.{pick, Row, firstOf, within, isEmpty, allAre, joined, same}
 
 -- The choice.
 module _ {A : Type 0} where

@@ -73,10 +73,11 @@ module _ {C : Type 0} where
   quotes c =
       tells (control quote c ∷ []) then changes (λ s. withTerminal (withQuoting true (s .terminal)) s)
 
-  -- rule 3, code 15; Discard State says 1 where output is not discarded
+  -- Discard State says 1 where output is not discarded
   unfoldable pub sendsDiscardState : Part C
   sendsDiscardState = here (λ s. sends (plain forms.discardState (bit (not (s .terminal .discarding)) ∷ [])))
 
+  -- rule 3, code 15
   unfoldable pub flipsDiscard : C → Part C
   flipsDiscard c =
       tells (control discard c ∷ []) then
@@ -109,7 +110,7 @@ module _ {C : Type 0} (chars : Characters C) where
   unfoldable pub clearsBy : C → Part C
   clearsBy c = tells (control clear c ∷ []) then clearRule rubbingOut
 
-  -- rule 2, hello
+  -- rule 2, hello; discard control is 0
   unfoldable pub sendsOutOfBand : C → Part C
   sendsOutOfBand c =
       tells (control outOfBand c ∷ []) then sends (plain forms.outOfBand (0 ∷ chars .code c ∷ []))

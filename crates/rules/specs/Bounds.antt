@@ -7,8 +7,9 @@ use mathlib.Core.Option.{Option, none, some}
 use lib.Dec.{ltb}
 use lib.ListN.{length}
 use Rattle.rules.specs.Choice.{allAre}
-use Rattle.rules.specs.Numbers.{inputSize, typeAheadSize, tokenSize, terminalArea, messageArea, topColumn, topDropped}
+use Rattle.rules.specs.Numbers.{codeCount, inputSize, typeAheadSize, tokenSize, terminalArea, messageArea, topColumn, topDropped}
 use Rattle.rules.specs.Messages.Forms.{Message}
+use Rattle.rules.specs.Messages.Parameters.{sevenBits}
 use Rattle.rules.specs.Messages.Codec.{setSize, sound, allBytes, read}
 use Rattle.rules.specs.State.{Host, Terminal, Typed, Terms, Reading, State, codes}
 use Rattle.rules.specs.Editing.{endOf}
@@ -16,10 +17,10 @@ use Rattle.rules.specs.Calls.{Event, key, step, tick, message, Answer, s
 
 -- an attribute has seven bits
 unfoldable pub isAttribute : ℕ → Bool
-isAttribute a = ltb a 128
+isAttribute a = ltb a sevenBits
 
 pub record BoundedHost (h : Host) : Type 0 where
-  pub table : length (h .attributes) ≡ 256
+  pub table : length (h .attributes) ≡ codeCount
   pub attributes : allAre isAttribute (h .attributes) ≡ true
   pub setLength : length (h .lastSet) ≤ setSize
   pub setBytes : allBytes (h .lastSet) ≡ true

@@ -7,10 +7,10 @@ use lib.Dec.{leb, eqb}
 use lib.ListN.{length, drop}
 use Rattle.rules.specs.Choice.{pick, Row, _when_, firstOf, allAre, joined}
 use Rattle.rules.specs.Numbers.{terminalArea, messageArea, accepted, smallArea, wrongLength, wrongType, wrongTime, unsound, notCarried}
-use Rattle.rules.specs.Messages.Layout.{byteAt, bytesOf}
+use Rattle.rules.specs.Messages.Layout.{bytesOf}
 use Rattle.rules.specs.Messages.Parameters.{selector}
 use Rattle.rules.specs.Messages.Forms as forms
-use Rattle.rules.specs.Messages.Forms.{Message, formOf}
+use Rattle.rules.specs.Messages.Forms.{Message, typeIn, formOf}
 use Rattle.rules.specs.Messages.Codec.{Outcome, refused, sound, soundLength, definedKind, read, bytesAs}
 use Rattle.rules.specs.Messages.Fields.{lock, newline, prefix, postfix, transparent}
 use Rattle.rules.specs.StartRead.{startOfDisplay, continues, vertical}
@@ -117,8 +117,8 @@ module _ {C : Type 0} where
   unfoldable pub refusals : State C → List ℕ → List Row
   refusals s bytes =
       wrongLength when not (soundLength (length bytes)) ∷
-      wrongType when not (isHosts (byteAt bytes 0)) ∷
-      wrongTime when not (isTimely (byteAt bytes 0) s) ∷
+      wrongType when not (isHosts (typeIn bytes)) ∷
+      wrongTime when not (isTimely (typeIn bytes) s) ∷
       unsound when isRefused (read bytes) ∷
       notCarried when not (carries s (read bytes)) ∷
       []

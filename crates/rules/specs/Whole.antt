@@ -85,7 +85,7 @@ unfolding Arrival.isImmediateClear Arrival.isHello Arrival.idleAgain Arrival.kee
 openArrival = tt
 
 unfoldable pub openAcceptance : Unit {0}
-unfolding Acceptance.chosen Acceptance.hidesLF Acceptance.openedTerms Acceptance.openedRead Acceptance.remembersSet Acceptance.clearsFirst Acceptance.feedsLine Acceptance.autoPrompts Acceptance.completesIfFull Acceptance.begins Acceptance.startsRead
+unfolding Acceptance.chosen Acceptance.hidesLF Acceptance.shownPrompt Acceptance.dataBehind Acceptance.hidesInput Acceptance.openedTerms Acceptance.openedRead Acceptance.remembersSet Acceptance.clearsFirst Acceptance.feedsLine Acceptance.autoPrompts Acceptance.completesIfFull Acceptance.begins Acceptance.startsRead
 openAcceptance = tt
 
 unfoldable pub openSteps : Unit {0}

@@ -16,7 +16,7 @@ use Rattle.rules.specs.State.{State, codes, withFrom}
 use Rattle.rules.specs.Editing.{endOf}
 use Rattle.rules.specs.StartRead as fields
 use Rattle.rules.specs.StartRead.{universal, chosenSet}
-use Rattle.rules.specs.StartRead.Acceptance.{hidesLF, openedTerms, openedRead, remembersSet, clearsFirst, feedsLine, autoPrompts, completesIfFull, begins, startsRead}
+use Rattle.rules.specs.StartRead.Acceptance.{shownPrompt, dataBehind, hidesInput, hidesLF, openedTerms, openedRead, remembersSet, clearsFirst, feedsLine, autoPrompts, completesIfFull, begins, startsRead}
 use Rattle.rules.specs.Bounds.{BoundedTerms, BoundedRead}
 use Rattle.rules.proofs.Tests.{pick-case}
 use Rattle.rules.proofs.Bounds.Bytes.{bytes-drop}
@@ -37,7 +37,7 @@ chosenSet-bounded last m h k = pick-case SetBounded _ (λ y. h) λ n. pick-case 
 
 module _ (m : Message ℕ) (known : Startable m) {s : State ℕ} (h : Steady BoundedRead s) where
   terms-bounded : BoundedTerms (openedTerms codes m s)
-  unfolding openedTerms
+  unfolding openedTerms shownPrompt
   terms-bounded =
       let front = take (fields.endOfPrompt m) (m .text) in
       let n = length-take (fields.endOfPrompt m) (m .text) in
@@ -55,11 +55,11 @@ module _ (m : Message ℕ) (known : Startable m) {s : State ℕ} (h : Steady Bou
 
   -- what stands behind the prompt
   input-bytes : allBytes (openedRead codes m s .input) ≡ true
-  unfolding openedRead
+  unfolding openedRead dataBehind hidesInput
   input-bytes = rw map-same (bytes-drop (fields.endOfPrompt m) (m .text) (known .textBytes))
 
   input-length : fields.endOfPrompt m + length (openedRead codes m s .input) ≡ fields.endOfData m
-  unfolding openedRead
+  unfolding openedRead dataBehind hidesInput
   input-length =
       let back = drop (fields.endOfPrompt m) (m .text) in
       let n = length-map back (codes .given) in
@@ -69,14 +69,14 @@ module _ (m : Message ℕ) (known : Startable m) {s : State ℕ} (h : Steady Bou
       omega arith
 
   reading-answerable : Answerable (openedRead codes m s)
-  unfolding openedRead
+  unfolding openedRead dataBehind hidesInput
   reading-answerable = let n = input-length in record { input = omega arith; lowWater = omega arith; bytes = input-bytes }
 
   abbrev full : Bool
   full = eqb (fields.endOfData m) (fields.maxLength m)
 
   reading-bounded : (column : ℕ) → column ≤ topColumn → Unless full (some (withFrom column (openedRead codes m s)))
-  unfolding openedRead openedTerms endOf
+  unfolding openedRead dataBehind hidesInput openedTerms shownPrompt endOf
   reading-bounded column top n =
       let end = input-length in
       let more = eqb-false (fields.endOfData m) (fields.maxLength m) n in
@@ -90,7 +90,7 @@ module _ (m : Message ℕ) (known : Startable m) {s : State ℕ} (h : Steady Bou
       }
 
   begins-good : Good BoundedRead (2 + 8 * inputSize) (10 + inputSize) (begins codes m (openedRead codes m s) s)
-  unfolding begins clearsFirst feedsLine autoPrompts completesIfFull openedRead openedTerms
+  unfolding begins clearsFirst feedsLine autoPrompts completesIfFull openedRead dataBehind hidesInput openedTerms shownPrompt
   begins-good =
       let r = openedRead codes m s in
       let t = terms-bounded in

@@ -4,7 +4,6 @@ use Prim.Native.Nat.{ℕ}
 use native.Mathlib.Omega.{arith}
 use mathlib.Core.Bool.{true}
 use mathlib.Core.List.{List, [], _∷_}
-use lib.ListN.{length}
 use borrow.Author.Tests.{ltb-true, not-false}
 use Rattle.rules.specs.Choice.{firstOf, allAre}
 use Rattle.rules.specs.Messages.Forms.{Message}

@@ -11,7 +11,6 @@ use borrow.Author.Tests.{ltb-true, leb-true, leb-false, eqb-false, not-false}
 use Rattle.rules.specs.Choice.{pick}
 use Rattle.rules.specs.Numbers.{inputSize, tokenSize}
 use Rattle.rules.specs.Messages.Codec.{allBytes}
-use Rattle.rules.specs.Screen.{echoTerminator}
 use Rattle.rules.specs.State.{Key, Reading, State, codes, raised, withIdle}
 use Rattle.rules.specs.Token.{Place, empty, invalid, placeFrom, isFinished, standing, isWhole}
 use Rattle.rules.specs.Turns.{Fate, edited}

@@ -4,7 +4,7 @@ use Prim.Native.Nat.{ℕ}
 use mathlib.Core.List.{map-map}
 use Rattle.rules.specs.Messages.Forms.{Message}
 use Rattle.rules.specs.State.{Characters, Reading, State}
-use Rattle.rules.specs.StartRead.Acceptance.{openedTerms, openedRead, remembersSet, clearsFirst, feedsLine, autoPrompts, completesIfFull, begins, startsRead}
+use Rattle.rules.specs.StartRead.Acceptance.{shownPrompt, dataBehind, hidesInput, openedTerms, openedRead, remembersSet, clearsFirst, feedsLine, autoPrompts, completesIfFull, begins, startsRead}
 use Rattle.rules.proofs.Erasure.Maps.{Maps, mapReading, mapState}
 use Rattle.rules.proofs.Erasure.Parts.{Erases, erases-here, erases-writes, erases-changes, erases-then, erases-only}
 use Rattle.rules.proofs.Erasure.ReadData.{erase-completes}
@@ -13,7 +13,7 @@ use Rattle.rules.proofs.Erasure.Arrival.{erase-emptiesTyped}
 
 module _ {C D : Type 0} {f : C → D} {cs : Characters C} {ds : Characters D} (m : Maps f cs ds) (n : Message ℕ) where
   erase-openedRead : (s : State C) → mapReading f (openedRead cs n s) ≡ openedRead ds n (mapState f s)
-  unfolding openedRead openedTerms
+  unfolding openedRead dataBehind hidesInput openedTerms shownPrompt
   erase-openedRead s = simp (map-map, m .given)
 
   erase-remembersSet : Erases f (remembersSet cs n) (remembersSet ds n)

@@ -13,7 +13,7 @@ use Rattle.rules.specs.Arrival.{rubbingOut, arrives}
 use Rattle.rules.specs.TwoRuns.{preloaded}
 use Rattle.rules.specs.ReadData.{checksInput}
 use Rattle.rules.specs.StartRead.{endOfPrompt}
-use Rattle.rules.specs.StartRead.Acceptance.{openedTerms, openedRead, remembersSet, clearsFirst, feedsLine, autoPrompts, completesIfFull, begins, startsRead}
+use Rattle.rules.specs.StartRead.Acceptance.{shownPrompt, dataBehind, hidesInput, openedTerms, openedRead, remembersSet, clearsFirst, feedsLine, autoPrompts, completesIfFull, begins, startsRead}
 use Rattle.rules.specs.Characteristics.{report}
 use Rattle.rules.specs.Host.{ourInitiate, initiates, completion, stopsDiscarding, writesUnlessDiscarding, sendsCompletion, writesOut, reports, setsCharacteristics, obeys}
 use Rattle.rules.specs.Calls.{Event, key, step, tick, message, Call, Answer, refuses, does, received, answersMessage, answers, answer}
@@ -53,7 +53,7 @@ module _ {changed : ℕ → Bool} where
   remembersSet-agrees m = agrees-only refl (agrees-host _)
 
   startsRead-agrees : (m : Message ℕ) → Agreeing {changed = changed} (λ chars. startsRead chars m)
-  unfolding startsRead openedRead openedTerms
+  unfolding startsRead openedRead dataBehind hidesInput openedTerms shownPrompt
   startsRead-agrees m s =
       let r = openedRead first-chars m s in
       agrees-then (begins-agrees m r (λ e. given-both changed (drop (endOfPrompt m) (m .text)))) (remembersSet-agrees m) s

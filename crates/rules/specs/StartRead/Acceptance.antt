@@ -1,7 +1,7 @@
 -- Page 01, "Start Read": what acceptance does.
 use Prim.Native.Nat.{ℕ}
 use mathlib.Core.Bool.{Bool, _&&_}
-use mathlib.Core.List.{[], _∷_, map}
+use mathlib.Core.List.{List, [], _∷_, map}
 use lib.Dec.{eqb}
 use lib.ListN.{take, drop}
 use Rattle.rules.specs.Choice.{pick, isOn, bit}
@@ -23,6 +23,17 @@ chosen n characteristic = pick (eqb n fields.asCharacteristic) characteristic (e
 -- with F, a first DATA byte LF is never displayed
 unfoldable pub hidesLF : Message ℕ → Bool
 hidesLF m = isOn (fields.formats m) && eqb (byteAt (m .text) 0) LF
+
+-- the prompt, DATA before END-OF-PROMPT, as it is displayed, and what DATA has behind it
+unfoldable pub shownPrompt : Message ℕ → List ℕ
+shownPrompt m = drop (bit (hidesLF m)) (take (fields.endOfPrompt m) (m .text))
+
+unfoldable pub dataBehind : Message ℕ → List ℕ
+dataBehind m = drop (fields.endOfPrompt m) (m .text)
+
+-- without a prompt it is the input's first character that is hidden
+unfoldable pub hidesInput : Message ℕ → Bool
+hidesInput m = hidesLF m && eqb (fields.endOfPrompt m) 0
 
 module _ {C : Type 0} where
   -- C clears type-ahead and any held token
@@ -53,7 +64,7 @@ module _ {C : Type 0} (chars : Characters C) where
         set = chosenSet (s .host .lastSet) m;
         maxLength = fields.maxLength m;
         endOfPrompt = fields.endOfPrompt m;
-        prompt = drop (bit (hidesLF m)) (take (fields.endOfPrompt m) (m .text));
+        prompt = shownPrompt m;
         column = s .terminal .screen .column;
         line = s .terminal .screen .line;
       }
@@ -62,9 +73,9 @@ module _ {C : Type 0} (chars : Characters C) where
   openedRead m s =
       record {
         terms = openedTerms m s;
-        input = map (chars .given) (drop (fields.endOfPrompt m) (m .text));
+        input = map (chars .given) (dataBehind m);
         lowWater = fields.lowWater m;
-        hidden = hidesLF m && eqb (fields.endOfPrompt m) 0;
+        hidden = hidesInput m;
         from = s .terminal .screen .column;
         idle = 0;
       }
