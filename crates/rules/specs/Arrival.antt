@@ -61,7 +61,7 @@ module _ {C : Type 0} where
 
   -- rule 4, with the limit of type-ahead
   unfoldable pub stores : ℕ → Bool → C → Part C
-  stores limit quoted c s = pick (ltb (length (s .typed .typeAhead)) limit) (keeps quoted c) (drops c) s
+  stores limit quoted c = here (λ s. pick (ltb (length (s .typed .typeAhead)) limit) (keeps quoted c) (drops c))
 
   -- rule 1
   unfoldable pub storesQuoted : C → Part C
@@ -137,17 +137,17 @@ module _ {C : Type 0} (chars : Characters C) where
 
   -- the first rule that applies is the only one
   unfoldable pub byFirstRule : C → Part C
-  byFirstRule c s =
+  byFirstRule c =
+      here (λ s.
       pick (s .terminal .quoting) (storesQuoted c)
       (pick (isHello (attributeOf c s)) (sendsOutOfBand c)
       (pick (isImmediateClear (attributeOf c s)) (clearsAtOnce c)
       (pick (passesControls (s .read)) (stores typeAheadSize false c)
-      (controlled c))))
-      s
+      (controlled c)))))
 
   -- before Initiate only rule 4 applies
   unfoldable pub arrives : C → Part C
-  arrives c s =
-      (tells (arrived c (isHello (attributeOf c s) || isImmediateClear (attributeOf c s)) ∷ []) then
+  arrives c =
+      here (λ s.
+      tells (arrived c (isHello (attributeOf c s) || isImmediateClear (attributeOf c s)) ∷ []) then
       pick (s .host .begun) (byFirstRule c) (stores typeAheadSize false c))
-      s

@@ -1,4 +1,4 @@
--- Page 01, "Bench cases": the starred ones as one table, and what it is for a row to hold.
+-- Page 01, "Bench cases": the starred ones as one table, and what it is for a case to hold.
 use Prim.Native.Nat.{ℕ, suc}
 use mathlib.Core.Bool.{Bool, true, false, _&&_}
 use mathlib.Core.List.{List, [], _∷_, _++_}
@@ -20,13 +20,13 @@ pub record Exchange : Type 0 where
   pub messages : List ℕ
   pub dropped : ℕ
 
-pub data Row : Type 0 where
+pub data Case : Type 0 where
   -- these bytes read as these fields
-  reads : List ℕ → Message ℕ → Row
+  reads : List ℕ → Message ℕ → Case
   -- these bytes, read without a line and written again, give this number and these bytes
-  copies : List ℕ → ℕ → List ℕ → Row
+  copies : List ℕ → ℕ → List ℕ → Case
   -- these calls, from a fresh line, answer this
-  runs : List Exchange → Row
+  runs : List Exchange → Case
 
 -- equal lists of lists
 unfoldable pub sameAll : List (List ℕ) → List (List ℕ) → Bool
@@ -63,13 +63,13 @@ unfoldable pub runsAs : State ℕ → List Exchange → Bool
 runsAs s [] = true
 runsAs s (e ∷ es) = let a = answer codes (e .call) s in answersAs e a && runsAs (a .turn .state) es
 
-unfoldable pub holds : Row → Bool
+unfoldable pub holds : Case → Bool
 holds (reads bytes m) = readsAs m (read bytes)
 holds (copies bytes number again) = endsIn number again (copyOf (read bytes))
 holds (runs es) = runsAs fresh es
 
 -- the places of the rows that do not hold, counted from a number
-unfoldable pub failures : ℕ → List Row → List ℕ
+unfoldable pub failures : ℕ → List Case → List ℕ
 failures n [] = []
 failures n (r ∷ rs) = pick (holds r) [] (n ∷ []) ++ failures (suc n) rs
 
@@ -121,7 +121,7 @@ abbrev pub recognising : Exchange
 recognising = told (0x0B ∷ 0x00 ∷ 0x06 ∷ 0x02 ∷ 0x01 ∷ []) accepted [] []
 
 -- the numbers of a Start Read by name, and in the order of its head
-pub record Head : Type 0 where
+pub record StartReadNumbers : Type 0 where
   pub underflow : ℕ
   pub clears : ℕ
   pub formats : ℕ
@@ -141,20 +141,20 @@ pub record Head : Type 0 where
   pub startOfDisplay : ℕ
   pub lowWater : ℕ
 
-abbrev pub headOf : Head → List ℕ
-headOf h =
+abbrev pub inOrder : StartReadNumbers → List ℕ
+inOrder h =
     h .underflow ∷ h .clears ∷ h .formats ∷ h .vertical ∷ h .continues ∷ h .raises ∷ h .disables ∷ h .silent ∷ h .terminatorEcho ∷ h .timed ∷
     h .setChoice ∷ h .escapes ∷ h .maxLength ∷ h .endOfData ∷ h .timeout ∷ h .endOfPrompt ∷ h .startOfDisplay ∷ h .lowWater ∷ []
 
 -- The starred cases in order; D and H have two rows each.
-unfoldable pub starred : List Row
+unfoldable pub starred : List Case
 starred =
     -- A: UU 1, T 1, ZZ 2, 80 characters, prompt "? "
     reads startA
     (record {
       kind = startRead;
       numbers =
-          headOf
+          inOrder
           (record {
             underflow = 1;
             clears = 0;
@@ -224,7 +224,7 @@ starred =
     asked terminalArea messageArea (key 0x30) accepted (0x07 ∷ []) [] 1 ∷ [])) ∷ []
 
 -- Rows of our own, for the mistakes that page 01 warns of and the starred cases do not show.
-unfoldable pub warned : List Row
+unfoldable pub warned : List Case
 warned =
     -- waiting for one more key after the buffer is full
     runs

@@ -61,7 +61,7 @@ module _ {C : Type 0} where
   endsRead = changes (withRead none)
 
   unfoldable pub checksInput : Part C
-  checksInput s = sends (plain inputCount (waitingCount (s .typed) ∷ [])) s
+  checksInput = here (λ s. sends (plain inputCount (waitingCount (s .typed) ∷ [])))
 
 module _ {C : Type 0} (chars : Characters C) where
   abbrev pub tokenCodes : State C → List ℕ
@@ -91,10 +91,9 @@ module _ {C : Type 0} (chars : Characters C) where
 
   -- a completion drops a partial token
   unfoldable pub losesPartial : Part C
-  losesPartial s =
-      only (isPartial (tokenCodes s))
-      (tells (map lost (s .typed .token)) then changes (withToken []))
-      s
+  losesPartial =
+      here (λ s.
+      only (isPartial (tokenCodes s)) (tells (map lost (s .typed .token)) then changes (withToken [])))
 
   unfoldable pub sendsReadData : ℕ → ℕ → Reading C → Part C
   sendsReadData code ending r = here (λ s. sends (answerOf code ending r s))
@@ -112,4 +111,4 @@ module _ {C : Type 0} (chars : Characters C) where
       (completes byUnread noEnding r))
 
   unfoldable pub unreads : Message ℕ → Part C
-  unreads m s = unreadsWhile (s .read) m s
+  unreads m = here (λ s. unreadsWhile (s .read) m)

@@ -121,12 +121,12 @@ module _ {C : Type 0} (chars : Characters C) where
 
   -- the rules in order
   unfoldable pub takes : Key C → Reading C → Part C
-  takes k r s =
+  takes k r =
+      here (λ s.
       pick (isPartial (tokenCodes chars s)) (addsToToken (k .char) r)
       (pick (k .quoted) (takesData (k .char) r)
       (pick (beginsToken (chars .code (k .char)) r) (addsToToken (k .char) r)
-      (takesPlain (raisedBy r (k .char)) r)))
-      s
+      (takesPlain (raisedBy r (k .char)) r))))
 
   -- one key is taken from type-ahead; with type-ahead empty a read with Q and TIMEOUT 0 completes
   unfoldable pub takesFirst : List (Key C) → Reading C → Part C
@@ -142,7 +142,7 @@ module _ {C : Type 0} (chars : Characters C) where
   stepsWhile (some r) = here (λ s. pick (isWhole (tokenCodes chars s)) (takesToken r) (takesFirst (s .typed .typeAhead) r))
 
   unfoldable pub steps : Part C
-  steps s = stepsWhile (s .read) s
+  steps = here (λ s. stepsWhile (s .read))
 
   -- Tick: idle rises by one; at TIMEOUT the read completes
   unfoldable pub idles : Reading C → Part C
@@ -160,4 +160,4 @@ module _ {C : Type 0} (chars : Characters C) where
       (idles r))
 
   unfoldable pub ticks : Part C
-  ticks s = ticksWhile (s .read) s
+  ticks = here (λ s. ticksWhile (s .read))

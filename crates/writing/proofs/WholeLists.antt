@@ -17,7 +17,7 @@ use Rattle.rules.proofs.Tests.{both, halves, pick-same, all-cons, all-joined}
 use Rattle.rules.proofs.ParameterLists.{Cleanable, initiation-cleanable, question-cleanable, setting-cleanable}
 use Rattle.rules.proofs.ParameterLists.{joined-cut, limits-cleaned, selector-cleaned, count-cleaned, cut-cleaned-fits, cut-cleaned-sound}
 use Rattle.message.specs.declared.Part.{Part}
-use Rattle.message.specs.Found.{partOf, parametersOf, withList}
+use Rattle.message.specs.Found.{partOf, parametersOf, listMessage}
 use Rattle.message.specs.Lists.{shapeOf, soundFrom}
 use Rattle.writing.proofs.Lengths.{cut-short, cleaned-length}
 use Rattle.writing.proofs.Fitting.{part-bytes}
@@ -95,17 +95,17 @@ run-fits (suc n) (b ∷ l) e =
 
 -- The three messages with a list.
 module _ (s : List ℕ) (p : Part) (bytes : allBytes s ≡ true) where
-  pub question-fits : soundFrom 10 0 (partOf s p) ≡ fitsHeld (withList 10 [] (parametersOf question s p))
+  pub question-fits : soundFrom 10 0 (partOf s p) ≡ fitsHeld (listMessage 10 [] (parametersOf question s p))
   unfolding soundFrom shapeOf fitsHeld fitsAs formOf forms widthsOf fits fitsTail definedFields pick isEmpty parametersOf
   question-fits = simp (list-fits question question-cleanable question-keeps (partOf s p) (part-bytes s p bytes), and-true)
 
-  pub setting-fits : soundFrom 11 0 (partOf s p) ≡ fitsHeld (withList 11 [] (parametersOf setting s p))
+  pub setting-fits : soundFrom 11 0 (partOf s p) ≡ fitsHeld (listMessage 11 [] (parametersOf setting s p))
   unfolding soundFrom shapeOf fitsHeld fitsAs formOf forms widthsOf fits fitsTail definedFields pick isEmpty parametersOf
   setting-fits = simp (list-fits setting setting-cleanable setting-keeps (partOf s p) (part-bytes s p bytes), and-true)
 
   pub initiate-fits : {v e m n : ℕ} (revision : Part) → v < 256 → e < 256 → m < 256 → {t : Bool} → n ≡ length (partOf s revision) →
       t ≡ soundFrom 1 0 (partOf s p) →
-      eqb n 8 && t ≡ fitsHeld (withList 1 (v ∷ e ∷ m ∷ partOf s revision) (parametersOf initiation s p))
+      eqb n 8 && t ≡ fitsHeld (listMessage 1 (v ∷ e ∷ m ∷ partOf s revision) (parametersOf initiation s p))
   unfolding soundFrom shapeOf fitsHeld fitsAs formOf forms widthsOf fits fitsTail definedFields pick isEmpty parametersOf
   initiate-fits {v} {e} {m} revision v< e< m< size whole =
       let eight = ap (λ k. eqb k 8) size ∙ run-fits 8 (partOf s revision) (part-bytes s revision bytes) in
