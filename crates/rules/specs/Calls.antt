@@ -145,6 +145,7 @@ module _ {C : Type 0} (chars : Characters C) where
   answers tick s = does (ticks chars) s
   answers (message bytes) s = answersMessage (received s bytes) s
 
+  -- row 1 comes first, whatever the event
   unfoldable pub answer : Call C → State C → Answer C
   answer c s = firstOf refuses (answers (c .event)) (smallArea when not (areRoomy (c .terminal) (c .messages)) ∷ []) s
 

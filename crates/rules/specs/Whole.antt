@@ -1,4 +1,4 @@
--- One name that opens the rules' definitions, for what is proved by computing: a part for each file, and the whole. Area and Bounds have no part.
+-- One name that opens the rules' definitions, for what is proved by computing: a part for each file, and the whole. Area and Bounds have no part, and Messages/Fields needs none.
 use mathlib.Core.List.{zipWith}
 use Rattle.rules.specs.Choice
 use Rattle.rules.specs.Numbers
