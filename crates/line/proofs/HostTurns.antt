@@ -48,7 +48,7 @@ use Rattle.line.specs.With.{onFlow, lent}
 use Rattle.line.specs.Starts.{readingAt, onOpened, Opens}
 use Rattle.line.specs.HostMessages.{messageOf, Accepted, obeysHeld, flowPart, Prompts, onInitiated, Sets, SetBy, NoReport, Reported}
 use Rattle.line.specs.Promise.{Progress, on, Does}
-use Rattle.line.proofs.Works.{then-does, here-does, changes-does, only-does, not-does}
+use Rattle.line.proofs.Works.{then-does, changes-does, only-does, not-does}
 use Rattle.line.proofs.Joints.{here-part, for-equal}
 use Rattle.line.proofs.Sends.{sent-does}
 use Rattle.line.proofs.Answering.{doneAnswer, begun, begunWork, answered}
@@ -178,8 +178,7 @@ module _ (s : List ℕ) (l : Line) (f : StartReadFields) (a : Accepted l s (Star
     pub start-does : Does (rules.begins codes x (readingOf opened (readingAt s f (l .flow .terminal .screen .column)))) (on opened (begunWork l 0)) t before (on (lent T text′ opened) r) t′ m′ →
         Does (rules.startsRead codes x) (begun l) t before (on (lent T text′ (onOpened T S X Z l)) r) t′ m′
     unfolding rules.startsRead
-    start-does d =
-        here-does (λ z. rules.begins codes x (rules.openedRead codes x z) then rules.remembersSet codes x) (then-does (begins-does d) remembers-does)
+    start-does d = here-part refl (then-does (begins-does d) remembers-does)
 
 -- nothing was set or reported before the call's work
 begun-as : {p : Part ℕ} {r : Progress} {t t′ m′ before mid : List ℕ} (l next : Line) (place : ℕ) → next ≡ l → NoReport before place mid →
