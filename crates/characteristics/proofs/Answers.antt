@@ -18,10 +18,10 @@ use Rattle.rules.specs.Characteristics.{switchOf, reported, report}
 use Rattle.rules.specs.Calls.{framed, sentBytes, carriesQuestions}
 use Rattle.rules.proofs.Tests.{halves, pick-true, pick-false}
 use Rattle.rules.proofs.Bounds.Sent.{framed-length}
-use Rattle.message.specs.declared.Parameter.{Parameter}
-use Rattle.message.specs.Lists.{ParameterIs, shapeOf, parameterAt, parametersFrom, usedAt}
-use Rattle.message.proofs.Shapes.{parameters-end}
-use Rattle.writing.specs.Front.{settingBytes}
+use Rattle.parameters.specs.declared.Parameter.{Parameter}
+use Rattle.parameters.specs.Lists.{ParameterIs, shapeOf, parameterAt, parametersFrom, usedAt}
+use Rattle.parameters.proofs.Shapes.{parameters-end}
+use Rattle.parameters.specs.Lists.{settingBytes}
 use Rattle.writing.proofs.Settings.{selector-bytes}
 use Rattle.characteristics.specs.Lists.{questionsIn, answersFrom, answerTo}
 use Rattle.characteristics.proofs.Sizes.{message-area}

@@ -12,7 +12,8 @@ use Rattle.rules.proofs.Tests.{pick-true}
 use Rattle.message.specs.declared.Part.{Part}
 use Rattle.message.specs.declared.Message.the-variants.{ReadCharacteristics, Characteristics}
 use Rattle.message.specs.Found.{heldIn, partOf, listMessage}
-use Rattle.message.proofs.Shapes.{is-question, is-setting, list-from}
+use Rattle.parameters.proofs.Shapes.{is-question, is-setting}
+use Rattle.message.proofs.Lists.{list-from}
 use Rattle.characteristics.specs.Lists.{settingsIn, questionsIn, answerTo, reportBytes}
 
 pub held-settings : (s : List ℕ) (p : Part) → heldIn s (Characteristics p) ≡ message (settingsIn (partOf s p))

@@ -9,9 +9,9 @@ use Rattle.rules.specs.Messages.Parameters.{selector, characterAttributes}
 use Rattle.rules.specs.State.{Host, Switches, withSwitches, withAttributes}
 use Rattle.rules.specs.Characteristics.{masked, withAttribute, withSwitch, withParameter, withParameters}
 use Rattle.rules.proofs.Tests.{pick-true, pick-false}
-use Rattle.message.specs.declared.Parameter.{Parameter}
-use Rattle.message.specs.Lists.{ParameterIs, parametersFrom, usedAt}
-use Rattle.message.proofs.Shapes.{parameters-end}
+use Rattle.parameters.specs.declared.Parameter.{Parameter}
+use Rattle.parameters.specs.Lists.{ParameterIs, parametersFrom, usedAt}
+use Rattle.parameters.proofs.Shapes.{parameters-end}
 use Rattle.characteristics.specs.declared.Host as declared
 use Rattle.characteristics.specs.View.{Kept}
 

@@ -7,10 +7,10 @@ use lib.ListN.{length, getD, drop, drop-of-length-le}
 use Rattle.rules.specs.Choice.{allAre, anyIs}
 use Rattle.rules.specs.Messages.Parameters.{selector}
 use Rattle.rules.specs.Characteristics.{isCarried}
-use Rattle.message.specs.declared.Parameter.{Parameter}
-use Rattle.message.specs.Lists.{ParameterIs, parametersFrom}
-use Rattle.message.proofs.Shapes.{parameters-end}
-use Rattle.writing.proofs.Putting.{first-byte}
+use Rattle.parameters.specs.declared.Parameter.{Parameter}
+use Rattle.parameters.specs.Lists.{ParameterIs, parametersFrom}
+use Rattle.parameters.proofs.Shapes.{parameters-end}
+use Rattle.areas.proofs.Putting.{first-byte}
 
 -- one of a table passes
 module _ (test : ℕ → Bool) (table : List ℕ) (i : ℕ) where

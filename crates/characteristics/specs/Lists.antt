@@ -7,7 +7,7 @@ use Rattle.rules.specs.Messages.Forms.{Message}
 use Rattle.rules.specs.State.{Host, fresh, withHost}
 use Rattle.rules.specs.Characteristics.{reported, report}
 use Rattle.rules.specs.Calls.{framed, sentBytes, carriesQuestions}
-use Rattle.message.specs.Lists.{parametersFrom}
+use Rattle.parameters.specs.Lists.{parametersFrom}
 
 -- a message of each type, by its list
 abbrev pub settingsIn : List ℕ → Message ℕ

@@ -9,8 +9,8 @@ ghost use Rattle.rules.specs.State as rules;
 ghost use Rattle.rules.specs.State.{State, withHost};
 ghost use Rattle.rules.specs.Characteristics.{switchOf, reported};
 ghost use Rattle.rules.specs.Calls.{carriesQuestions};
-ghost use Rattle.message.specs.Lists.{ParameterIs, usedAt};
-ghost use Rattle.writing.specs.Puts.{Puts};
+ghost use Rattle.parameters.specs.Lists.{ParameterIs, usedAt};
+ghost use Rattle.areas.specs.Puts.{Puts};
 ghost use Rattle.characteristics.specs.View.{switchesOf, hostOf};
 ghost use Rattle.characteristics.specs.Lists.{questionsIn, answersFrom, answerTo, reportBytes};
 use crate::Host;
@@ -19,8 +19,8 @@ use crate::selectors;
 use crate::settings::all_carried;
 use crate::settings::chosen;
 use message::Message;
-use message::Parameter;
 use message::Part;
+use parameters::Parameter;
 
 // How many bytes the answer to one question takes.
 fn size_of_one(n: u16) -> usize
@@ -39,7 +39,7 @@ fn answer_size(list: &[u8]) -> usize
     let mut size = 4;
     let mut at = 0;
     while at < list.len() {
-        let p = message::parameter_at(10, list, at);
+        let p = parameters::parameter_at(10, list, at);
         size += size_of_one(p.selector);
         if rules::MESSAGE_AREA < size {
             return rules::MESSAGE_AREA + 1;
@@ -83,11 +83,11 @@ impl Host {
     {
         if p.selector == selectors::CHARACTER_ATTRIBUTES {
             let attributes = self.attribute(p.first);
-            return writing::put_setting(p.selector, p.first, 127, attributes, 3, area, at);
+            return parameters::put_setting(p.selector, p.first, 127, attributes, 3, area, at);
         }
         let switches = self.switches;
-        let value = message::bit_of(switches.value(p.selector));
-        writing::put_setting(p.selector, value, 0, 0, 1, area, at)
+        let value = fields::bit_of(switches.value(p.selector));
+        parameters::put_setting(p.selector, value, 0, 0, 1, area, at)
     }
 
     // The answers to all questions, in order.
@@ -98,7 +98,7 @@ impl Host {
         let mut next = at;
         let mut i = 0;
         while i < list.len() {
-            let p = message::parameter_at(10, list, i);
+            let p = parameters::parameter_at(10, list, i);
             next = self.put_answer(p, area, next);
             i = p.next;
         }

@@ -1,10 +1,23 @@
 // Termination sets.
 ghost use mathlib.Core.Path.{_≡_};
+ghost use Rattle.rules.specs.StartRead as sets;
 ghost use Rattle.rules.specs.StartRead.{inSet};
-ghost use Rattle.characteristics.specs.View.{setOf};
+ghost use Rattle.characteristics.specs.View.{setOf, CountedSet};
 use crate::Set;
 
 impl Set {
+    // The universal set: codes 0 to 31 except 8, 9, 18, 21, 23.
+    pub fn universal() -> Set
+        ensures { λ r. ⌜ (setOf r ≡ sets.universal) × CountedSet r ⌝ }
+    {
+        let mut bytes = [0u8; 32];
+        bytes[0] = 0b1111_1111;
+        bytes[1] = 0b1111_1100;
+        bytes[2] = 0b0101_1011;
+        bytes[3] = 0b1111_1111;
+        Set { bytes, len: 4 }
+    }
+
     // A code is in the set: its bit is 1, in a byte that the set has.
     pub fn has(self, c: u8) -> bool
         ensures { λ r. ⌜ r ≡ inSet (setOf self) c ⌝ }

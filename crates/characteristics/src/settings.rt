@@ -5,7 +5,7 @@ ghost use Prim.Native.Nat.{ℕ};
 ghost use Rattle.rules.specs.Choice.{pick, allAre};
 ghost use Rattle.rules.specs.Messages.Parameters.{selector};
 ghost use Rattle.rules.specs.Characteristics.{isCarried, withSwitch, withParameter, withParameters, carriesSettings};
-ghost use Rattle.message.specs.Lists.{ParameterIs, parametersFrom, usedAt};
+ghost use Rattle.parameters.specs.Lists.{ParameterIs, parametersFrom, usedAt};
 ghost use Rattle.characteristics.specs.View.{switchesOf, hostOf, Kept};
 ghost use Rattle.characteristics.specs.Lists.{settingsIn};
 use crate::Host;
@@ -13,7 +13,7 @@ use crate::Switches;
 use crate::attributes::any_deferred_clear;
 use crate::attributes::with_attribute;
 use crate::selectors;
-use message::Parameter;
+use parameters::Parameter;
 
 // One of the five.
 fn is_carried(selector: u16) -> bool
@@ -32,7 +32,7 @@ pub(crate) fn all_carried(kind: u8, list: &[u8]) -> bool
 {
     let mut at = 0;
     while at < list.len() {
-        let p = message::parameter_at(kind, list, at);
+        let p = parameters::parameter_at(kind, list, at);
         if !is_carried(p.selector) {
             return false;
         }
@@ -99,7 +99,7 @@ impl Host {
         let mut host = self;
         let mut at = 0;
         while at < list.len() {
-            let p = message::parameter_at(11, list, at);
+            let p = parameters::parameter_at(11, list, at);
             host = host.with_setting(p);
             at = p.next;
         }

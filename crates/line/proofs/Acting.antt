@@ -1,7 +1,9 @@
 -- An act that is done: from what it does to the flow and the text to what the rules do.
 use mathlib.Core.Path.{_≡_, refl, sym, ap, _∙_, subst}
-use Prim.Native.Nat.{ℕ, _≤_}
-use mathlib.Core.List.{List, []}
+use Prim.Native.Nat.{ℕ}
+use mathlib.Core.List.{List, [], _∷_}
+use types.Run.{OneOf, miss}
+use denote.Enum.Declared.{tagOf}
 use lib.ListN.{length}
 use mathlib.Core.Bool.{Bool, true, false, not}
 use Rattle.rules.specs.Choice.{pick, firstOf, within, joined}
@@ -31,15 +33,22 @@ use Rattle.line.specs.With.{onKeys, lent}
 use Rattle.line.specs.KeyParts.{keysAfter}
 use Rattle.line.specs.HostMessages.{Accepted}
 use Rattle.line.specs.Promise.{Progress, on, Does}
-use Rattle.line.specs.Acts.{actPart, Ready, Fits, Done, Meets}
+use Rattle.line.specs.Acts.{actPart, callsOf, Ready, Fits, Done, Meets}
+use Rattle.line.proofs.acts.Act.{the-type}
+use Rattle.line.proofs.ReceivedMessage.{true-false}
 use Rattle.line.proofs.Evented.{eventOf, Admitted}
 use Rattle.line.proofs.KeyArrays.{after-length}
 use Rattle.line.proofs.Answering.{begun, begunWork, refused, cramped}
 use Rattle.line.proofs.Accepts.{startables}
 use Rattle.line.proofs.Meeting.{act-answers}
 
--- it is an act other than none
-abbrev pub Moves : Act → Type 0
+-- An act by its case.
+module _ (s : List ℕ) (t : Terms) (l : Line) (w : Work) {text a m : List ℕ} {r : Work} {text′ a′ m′ : List ℕ} {x y : Act} where
+  pub done-as : x ≡ y → Done s y t l w text a m r text′ a′ m′ → Done s x t l w text a m r text′ a′ m′
+  done-as e h = subst (λ z. Done s z t l w text a m r text′ a′ m′) (sym e) h
+
+-- acts other than none
+abbrev Moves : Act → Type 0
 Moves Nothing = ⊥
 Moves (Stores c) = Unit {0}
 Moves (StoresQuoted c) = Unit {0}
@@ -54,10 +63,46 @@ Moves TimesOut = Unit {0}
 Moves (Idles idle) = Unit {0}
 Moves (Obeys m) = Unit {0}
 
--- An act by its case.
-module _ (s : List ℕ) (t : Terms) (l : Line) (w : Work) {text a m : List ℕ} {r : Work} {text′ a′ m′ : List ℕ} {x y : Act} where
-  pub done-as : x ≡ y → Done s y t l w text a m r text′ a′ m′ → Done s x t l w text a m r text′ a′ m′
-  done-as e h = subst (λ z. Done s z t l w text a m r text′ a′ m′) (sym e) h
+pub moved : {x y : Act} → x ≡ y → Moves y → x ≡ Nothing → ⊥
+moved e m n = subst Moves (sym e ∙ n) m
+
+-- the arms that a call leaves over
+abbrev keyRest : List ℕ
+keyRest = 0 ∷ 8 ∷ 9 ∷ 10 ∷ 11 ∷ 12 ∷ []
+
+abbrev stepRest : List ℕ
+stepRest = 0 ∷ 1 ∷ 2 ∷ 3 ∷ 4 ∷ 5 ∷ 6 ∷ 7 ∷ 11 ∷ 12 ∷ []
+
+abbrev tickRest : List ℕ
+tickRest = 0 ∷ 1 ∷ 2 ∷ 3 ∷ 4 ∷ 5 ∷ 6 ∷ 7 ∷ 8 ∷ 9 ∷ 12 ∷ []
+
+abbrev hostRest : List ℕ
+hostRest = 0 ∷ 1 ∷ 2 ∷ 3 ∷ 4 ∷ 5 ∷ 6 ∷ 7 ∷ 8 ∷ 9 ∷ 10 ∷ 11 ∷ []
+
+-- an act that a call may meet and for which it has no arm is none
+pub record Rest (a : Act) : Type 0 where
+  pub key : callsOf a .key ≡ true → OneOf keyRest (tagOf the-type a) → a ≡ Nothing
+  pub step : callsOf a .step ≡ true → OneOf stepRest (tagOf the-type a) → a ≡ Nothing
+  pub tick : callsOf a .tick ≡ true → OneOf tickRest (tagOf the-type a) → a ≡ Nothing
+  pub host : callsOf a .host ≡ true → OneOf hostRest (tagOf the-type a) → a ≡ Nothing
+
+foreign : {A B : Type 0} → false ≡ true → A → B
+foreign e = absurd (true-false (sym e))
+
+pub rest : (a : Act) → Rest a
+rest Nothing = record { key = λ k h. refl; step = λ k h. refl; tick = λ k h. refl; host = λ k h. refl }
+rest (Stores c) = record { key = λ k h. absurd (miss keyRest 1 tt h); step = foreign; tick = foreign; host = foreign }
+rest (StoresQuoted c) = record { key = λ k h. absurd (miss keyRest 2 tt h); step = foreign; tick = foreign; host = foreign }
+rest (SendsOutOfBand c) = record { key = λ k h. absurd (miss keyRest 3 tt h); step = foreign; tick = foreign; host = foreign }
+rest (ClearsAtOnce c) = record { key = λ k h. absurd (miss keyRest 4 tt h); step = foreign; tick = foreign; host = foreign }
+rest Quotes = record { key = λ k h. absurd (miss keyRest 5 tt h); step = foreign; tick = foreign; host = foreign }
+rest Clears = record { key = λ k h. absurd (miss keyRest 6 tt h); step = foreign; tick = foreign; host = foreign }
+rest FlipsDiscard = record { key = λ k h. absurd (miss keyRest 7 tt h); step = foreign; tick = foreign; host = foreign }
+rest TakesToken = record { key = foreign; step = λ k h. absurd (miss stepRest 8 tt h); tick = foreign; host = foreign }
+rest (Takes j) = record { key = foreign; step = λ k h. absurd (miss stepRest 9 tt h); tick = foreign; host = foreign }
+rest TimesOut = record { key = foreign; step = λ k h. absurd (miss stepRest 10 tt h); tick = λ k h. absurd (miss tickRest 10 tt h); host = foreign }
+rest (Idles idle) = record { key = foreign; step = foreign; tick = λ k h. absurd (miss tickRest 11 tt h); host = foreign }
+rest (Obeys m) = record { key = foreign; step = foreign; tick = foreign; host = λ k h. absurd (miss hostRest 12 tt h) }
 
 -- what is ready fits
 pub fits : (s : List ℕ) (l : Line) (a : Act) → Ready s l a → Fits s (l .flow) (l .terms) a
@@ -132,8 +177,8 @@ module _ (e : Event) (l : Line) (b : Bounded l) (t m : List ℕ) (admitted : Adm
   asks true k = fits [] l a (h k .ready)
   asks false k = subst (Fits [] (l .flow) (l .terms)) (sym (none k)) tt
 
-  pub keyed-fits : CountedFlow (l .flow) × ((length (l .text) ≡ inputSize) × ((l .terms .«prompt_len» ≤ inputSize) × Fits [] (l .flow) (l .terms) a))
-  keyed-fits = (b .counted .flow, (b .counted .text, (b .counted .shown, asks roomy refl)))
+  pub keyed-fits : Fits [] (l .flow) (l .terms) a
+  keyed-fits = asks roomy refl
 
   module _ (r : Work) (keys′ text′ t′ m′ : List ℕ) (k : keys′ ≡ keysAfter a (l .flow .typed .waiting) (l .keys)) (f : CountedFlow (r .flow))
       (full : length text′ ≡ inputSize) (d : Done [] a (l .terms) l (begunWork l 0) (l .text) t m r text′ t′ m′)

@@ -14,7 +14,7 @@ use Rattle.message.specs.declared.Message.{Message}
 use Rattle.message.specs.declared.Message.the-variants.{Initiate}
 use Rattle.message.specs.Found.{partOf, heldIn}
 use Rattle.writing.specs.Parts.{partsOf, sizeOf}
-use Rattle.writing.specs.Front.{frontTail, frontBytes}
+use Rattle.fronts.specs.Front.{frontTail, frontBytes}
 
 -- its head, with places for eight bytes and for the parameters behind them
 abbrev pub head : Message

@@ -12,9 +12,12 @@ use Rattle.rules.specs.Area.{puts, spot}
 use Rattle.rules.specs.Calls.{areRoomy, messageBytes}
 use Rattle.line.specs.declared.Line.{Line}
 use Rattle.line.specs.declared.acts.Act.{Act}
+use Rattle.line.specs.declared.acts.Act.the-variants.{Nothing, Obeys}
+use Rattle.line.specs.declared.events.HostMessage.{HostMessage}
 use Rattle.line.specs.declared.events.Event.{Event}
+use Rattle.line.specs.declared.events.Event.the-variants.{Key, Tick, Step, Host}
 use Rattle.line.specs.declared.events.Seen.{Seen}
-use Rattle.line.specs.Events.{Sees, eventPart}
+use Rattle.line.specs.Events.{Sees, isActOf, eventPart}
 use Rattle.line.specs.Answers.{Answers}
 use Rattle.line.specs.Bounded.{Counted, Bounded}
 use Rattle.line.proofs.Evented.{eventOf, Admitted, event-answers, event-bytes}
@@ -86,6 +89,19 @@ module _ {rule : Part ℕ} {s : List ℕ} {w r : Progress} {a : Act} {t t′ m m
 module _ (s : List ℕ) (l : Line) (seen : Seen) {a : Act} {e f : Event} where
   pub event-meets : e ≡ f → Sees s l seen e → (Sees s l seen f → Meets (eventPart s f) s l a) → Meets (eventPart s e) s l a
   event-meets h b k = subst (λ x. Meets (eventPart s x) s l a) (sym h) (k (subst (Sees s l seen) h b))
+
+pub kind-as : (a : Act) {e f : Event} → e ≡ f → isActOf f a ≡ true → isActOf e a ≡ true
+kind-as a h k = ap (λ x. isActOf x a) h ∙ k
+
+pub host-kind : {e : Event} (m : HostMessage) → e ≡ Host m → isActOf e (Obeys m) ≡ true
+host-kind m h = kind-as (Obeys m) h refl
+
+-- none is an act of every event
+pub none-of : (e : Event) → isActOf e Nothing ≡ true
+none-of (Key c) = refl
+none-of Tick = refl
+none-of Step = refl
+none-of (Host m) = refl
 
 -- The answer to an event is that of the act which it meets.
 module _ (e : Event) (s t m : List ℕ) (l : Line) (b : Bounded l) (admitted : Admitted l s e) (room : areRoomy (length t) (length m) ≡ true)

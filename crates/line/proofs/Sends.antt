@@ -7,21 +7,15 @@ use borrow.Author.Tests.{le-leb}
 use Rattle.rules.proofs.Tests.{both}
 use Rattle.rules.proofs.Bounds.Sent.{mapText-same}
 use mathlib.Core.Bool.{true}
-use mathlib.Core.List.{List, [], _∷_, _++_, append-nil}
-use lib.ListN.{length}
+use mathlib.Core.List.{List, [], _∷_, append-nil}
 use Rattle.rules.specs.Choice.{joined}
 use Rattle.rules.specs.Area.{puts, spot}
-use Rattle.rules.specs.Messages.Layout as layout
 use Rattle.rules.specs.Messages.Forms as forms
 use Rattle.rules.specs.Turns.{sends}
 use Rattle.rules.specs.Calls.{framed, sentBytes, mapText, messageBytes}
-use Rattle.message.specs.declared.Message.{Message}
-use Rattle.message.specs.Found.{heldIn}
 use Rattle.writing.specs.Parts as parts
-use Rattle.writing.specs.Parts.{partsOf, inside}
-use Rattle.writing.specs.Front.{frontBytes}
-use Rattle.writing.specs.Puts.{Puts}
-use Rattle.writing.proofs.Lengths.{Sendable, sent-framed}
+use Rattle.writing.specs.Parts.{inside}
+use Rattle.areas.specs.Puts.{Puts}
 use Rattle.line.specs.declared.Work.{Work}
 use Rattle.line.specs.With.{afterSent}
 use Rattle.line.specs.declared.Line.{Line}
@@ -48,12 +42,6 @@ sent-does {w} {v} {n} {a} {a′} x p e l t =
 
 pub sent-counted : (w : Work) {v : Work} {n : ℕ} → v ≡ afterSent n w → CountedFlow (w .flow) → CountedFlow (v .flow)
 sent-counted w e c = rw e c
-
-module _ {w v : Work} (m : Message) (s : List ℕ) {a a′ : List ℕ} {n : ℕ}
-    (p : Puts (layout.bytesOf 2 (parts.sizeOf (partsOf m)) ++ frontBytes (heldIn s m)) a (w .sent) n a′) where
-  pub sends-does : v ≡ afterSent n w → (x : forms.Message ℕ) → Sendable s m x → inside (length s) (partsOf m) ≡ true → (l : Line) (t : List ℕ) →
-      Does (sends x) (on l w) t a (on l v) t a′
-  sends-does e x k i l t = sent-does x (rw (sent-framed k i) at p) e l t
 
 -- a text in front of a slice lies inside it
 pub text-inside : (n size : ℕ) → n ≤ size → inside size (parts.withText 3 8 (record { start = 0; len = n })) ≡ true

@@ -1,9 +1,9 @@
 -- Acts: which part of the rules each is, and what an event meets.
 use Prim.Native.Nat.{ℕ, _<_}
 use mathlib.Core.Path.{_≡_}
-use mathlib.Core.Bool.{false}
+use mathlib.Core.Bool.{Bool, true, false}
 use mathlib.Core.List.{List}
-use lib.ListN.{length, drop}
+use lib.ListN.{length, getD, drop}
 use Rattle.rules.specs.Numbers.{typeAheadSize, tokenSize}
 use Rattle.rules.specs.State as rules
 use Rattle.rules.specs.State.{State, codes, withIdle}
@@ -23,7 +23,7 @@ use Rattle.line.specs.declared.acts.Taken.the-variants.{Token, Terminato
 use Rattle.line.specs.declared.acts.Act.{Act}
 use Rattle.line.specs.declared.acts.Act.the-variants.{Nothing, Stores, StoresQuoted, SendsOutOfBand, ClearsAtOnce, Quotes, Clears, FlipsDiscard}
 use Rattle.line.specs.declared.acts.Act.the-variants.{TakesToken, Takes, TimesOut, Idles, Obeys}
-use Rattle.line.specs.View.{view, keysOf, readingOf}
+use Rattle.line.specs.View.{view, keyOf, keysOf, readingOf}
 use Rattle.line.specs.ReadingParts.{HasRoom, idling}
 use Rattle.line.specs.With.{onFlow, onKeys, lent}
 use Rattle.line.specs.KeyParts.{keysAfter, shifted}
@@ -72,6 +72,28 @@ pub record CanTakeKey (f : Flow) (t : Terms) : Type 0 where
   pub waits : 0 < f .typed .waiting
   pub short : f .typed .«token_len» < tokenSize
 
+-- the calls that may meet an act
+pub record Calls : Type 0 where
+  pub key : Bool
+  pub step : Bool
+  pub tick : Bool
+  pub host : Bool
+
+abbrev pub callsOf : Act → Calls
+callsOf Nothing = record { key = true; step = true; tick = true; host = true }
+callsOf (Stores c) = record { key = true; step = false; tick = false; host = false }
+callsOf (StoresQuoted c) = record { key = true; step = false; tick = false; host = false }
+callsOf (SendsOutOfBand c) = record { key = true; step = false; tick = false; host = false }
+callsOf (ClearsAtOnce c) = record { key = true; step = false; tick = false; host = false }
+callsOf Quotes = record { key = true; step = false; tick = false; host = false }
+callsOf Clears = record { key = true; step = false; tick = false; host = false }
+callsOf FlipsDiscard = record { key = true; step = false; tick = false; host = false }
+callsOf TakesToken = record { key = false; step = true; tick = false; host = false }
+callsOf (Takes k) = record { key = false; step = true; tick = false; host = false }
+callsOf TimesOut = record { key = false; step = true; tick = true; host = false }
+callsOf (Idles idle) = record { key = false; step = false; tick = true; host = false }
+callsOf (Obeys m) = record { key = false; step = false; tick = false; host = true }
+
 -- what is known of the line once an act is chosen
 abbrev pub Ready : List ℕ → Line → Act → Type 0
 Ready s l Nothing = Unit {0}
@@ -102,6 +124,12 @@ pub record Meets (rule : Part ℕ) (s : List ℕ) (l : Line) (a : Act) : Type 0 
   pub same : effectOf (rule (view l)) ≡ effectOf (actPart s l a (view l))
   pub ready : Ready s l a
 
+-- how the first key of a line is taken, where it can be
+abbrev pub TakesFirst : List ℕ → Line → Taken → Type 0
+TakesFirst s l k =
+    CanTakeKey (l .flow) (l .terms) →
+    Meets (takesKey l then steps.takes codes (keyOf (getD (l .keys) 0 0)) (idleAtZero l)) s l (Takes k)
+
 -- what is known of a call that has taken the first key
 pub record HasTakenKey (w v : Work) : Type 0 where
   pub counted : CountedFlow (v .flow)
@@ -110,7 +138,7 @@ pub record HasTakenKey (w v : Work) : Type 0 where
   pub reading : v .flow .reading ≡ idling 0 (w .flow .reading)
   pub token : v .flow .typed .«token_len» ≡ w .flow .typed .«token_len»
 
--- what `Work::acts` asks: `Ready`, of a message only the Start Read test
+-- what the acts of a call ask: `Ready`, of a message only the Start Read test
 abbrev pub Fits : List ℕ → Flow → Terms → Act → Type 0
 Fits s f t Nothing = Unit {0}
 Fits s f t (Stores c) = c < 256
@@ -158,7 +186,7 @@ PromptsBy t l TimesOut = Unit {0}
 PromptsBy t l (Idles idle) = Unit {0}
 PromptsBy t l (Obeys m) = Prompts t l m
 
--- What `Work::acts` promises on a line: `flowAct`, from the line with these terms and this text to the one with its keys moved and its text changed.
+-- What the acts of a call promise on a line: `flowAct`, from the line with these terms and this text to the one with its keys moved and its text changed.
 abbrev pub Done : List ℕ → Act → Terms → Line → Work → List ℕ → List ℕ → List ℕ → Work → List ℕ → List ℕ → List ℕ → Type 0
 Done s act t l w text terminal messages r text′ terminal′ messages′ =
     length (l .keys) ≡ typeAheadSize → PromptsBy t l act →

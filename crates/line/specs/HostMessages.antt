@@ -15,8 +15,8 @@ use Rattle.rules.specs.StartRead.Acceptance.{begins}
 use Rattle.rules.specs.Host.{ourInitiate, writesOut, obeys}
 use Rattle.rules.specs.Characteristics.{withParameters}
 use Rattle.rules.specs.Calls.{received}
-use Rattle.writing.specs.Puts.{Puts}
-use Rattle.message.specs.Lists.{parametersFrom}
+use Rattle.areas.specs.Puts.{Puts}
+use Rattle.parameters.specs.Lists.{parametersFrom}
 use Rattle.characteristics.specs.Lists.{reportBytes}
 use Rattle.characteristics.specs.View.{CountedHost, hostOf as hostView}
 use Rattle.characteristics.specs.declared.Host.{Host}

@@ -1,6 +1,7 @@
 // A key arrives; the clear rule.
 ghost use mathlib.Core.List.{List};
 ghost use mathlib.Core.Path.{_≡_};
+ghost use mathlib.Core.Bool.{true};
 ghost use lib.ListN.{length, getD};
 ghost use Prim.Native.Nat.{ℕ, _+_, _≤_, _<_, min};
 ghost use Rattle.rules.specs.Numbers.{inputSize, typeAheadSize, topDropped};
@@ -12,7 +13,7 @@ ghost use Rattle.line.specs.Bounded.{CountedFlow, CountedReading};
 ghost use Rattle.line.specs.With.{onFlow, lent};
 ghost use Rattle.line.specs.KeyParts.{stored};
 ghost use Rattle.line.specs.Promise.{on, Does, DoesOn};
-ghost use Rattle.line.specs.Acts.{Meets};
+ghost use Rattle.line.specs.Acts.{callsOf, Meets};
 use crate::Flow;
 use crate::Reading;
 use crate::Terms;
@@ -133,7 +134,7 @@ impl Work {
         let flow = self.flow;
         let mut known = flow.terminal;
         known.discarding = !known.discarding;
-        let kept = message::bit_of(!known.discarding);
+        let kept = fields::bit_of(!known.discarding);
         let next = self.with_terminal(known);
         next.sends_plain(messages, Message::DiscardState { kept })
     }
@@ -251,7 +252,8 @@ impl Work {
 
 // Rule 3, then 4.
 fn act_of_control(c: u8) -> Act
-    ensures { λ a. ⌜ ((s : List ℕ) (l : Line) → Meets (rules.controlled codes c) s l a) ⌝ }
+    ensures rule { λ a. ⌜ ((s : List ℕ) (l : Line) → Meets (rules.controlled codes c) s l a) ⌝ }
+    ensures kind { λ a. ⌜ callsOf a .key ≡ true ⌝ }
 {
     if c == QUOTE {
         return Act::Quotes;
@@ -268,7 +270,8 @@ fn act_of_control(c: u8) -> Act
 impl Flow {
     // Rules 1 to 4: the first that applies is the only one.
     fn act_after_initiate(self, c: u8, attribute: u8, t: Terms) -> Act
-        ensures { λ a. ⌜ ((s : List ℕ) (l : Line) → attribute ≡ getD (l .attributes) c 0 → Meets (rules.byFirstRule codes c) s (onFlow self (lent t (l .text) l)) a) ⌝ }
+        ensures rule { λ a. ⌜ ((s : List ℕ) (l : Line) → attribute ≡ getD (l .attributes) c 0 → Meets (rules.byFirstRule codes c) s (onFlow self (lent t (l .text) l)) a) ⌝ }
+        ensures kind { λ a. ⌜ callsOf a .key ≡ true ⌝ }
     {
         let known = self.terminal;
         if known.quoting {
@@ -289,7 +292,8 @@ impl Flow {
 
     // The arrival rules; before Initiate only rule 4 applies.
     pub(crate) fn act_of_key(self, c: u8, initiated: bool, attribute: u8, t: Terms) -> Act
-        ensures { λ a. ⌜ ((s : List ℕ) (l : Line) → initiated ≡ l .initiated → attribute ≡ getD (l .attributes) c 0 → Meets (rules.arrives codes c) s (onFlow self (lent t (l .text) l)) a) ⌝ }
+        ensures rule { λ a. ⌜ ((s : List ℕ) (l : Line) → initiated ≡ l .initiated → attribute ≡ getD (l .attributes) c 0 → Meets (rules.arrives codes c) s (onFlow self (lent t (l .text) l)) a) ⌝ }
+        ensures kind { λ a. ⌜ callsOf a .key ≡ true ⌝ }
     {
         if initiated {
             return self.act_after_initiate(c, attribute, t);

@@ -10,6 +10,7 @@ ghost use mathlib.Core.Bool.{true};
 use crate::Answer;
 use crate::Line;
 use crate::Work;
+use crate::acts::Taken;
 use crate::events::Event;
 use crate::events::HostMessage;
 use crate::events::Seen;
@@ -23,12 +24,14 @@ use crate::refusals::early_row;
 use crate::refusals::row_of;
 use message::Found;
 
-// Where an event looks at none of the arrays.
+// For an event that does not look.
+const NO_KEY: Taken = Taken::Data(0);
+
 const NOTHING_SEEN: Seen = Seen {
     initiated: false,
     attribute: 0,
-    first: 0,
-    ends: false,
+    held: false,
+    taken: NO_KEY,
 };
 
 impl Line {
@@ -38,17 +41,17 @@ impl Line {
         ensures { λ r. ⌜ Answers (rules.key code) self (now (terminal .entry)) (now (messages .entry)) r (now (terminal .exit)) (now (messages .exit)) ⌝ }
     {
         let roomy = are_roomy(terminal.len(), messages.len());
-        let mut next = self;
-        let flow = next.flow;
+        let flow = self.flow;
         let typed = flow.typed;
+        let mut next = self;
         let terms = next.terms;
         let at = code as usize;
         let attribute = next.attributes[at];
         let seen = Seen {
             initiated: next.initiated,
             attribute,
-            first: 0,
-            ends: false,
+            held: false,
+            taken: NO_KEY,
         };
         let act = flow.act_if(roomy, Event::Key(code), seen, terms);
         move_keys(&mut next.keys, typed.waiting as usize, act);
@@ -57,7 +60,7 @@ impl Line {
             at: 0,
             sent: 0,
         };
-        let done = w.acts(act, b"", terminal, messages, &mut next.text, terms);
+        let done = w.acts_on_key(act, terminal, messages, &next.text, terms);
         let after = done.flow;
         next.flow = after;
         Answer {
@@ -73,18 +76,19 @@ impl Line {
         ensures { λ r. ⌜ Answers rules.step self (now (terminal .entry)) (now (messages .entry)) r (now (terminal .exit)) (now (messages .exit)) ⌝ }
     {
         let roomy = are_roomy(terminal.len(), messages.len());
-        let mut next = self;
-        let flow = next.flow;
+        let flow = self.flow;
         let typed = flow.typed;
+        let mut next = self;
         let terms = next.terms;
         let set = next.set;
         let first = next.keys[0];
         let raised = terms.raised_by(code_of(first));
+        let ends = set.has(raised);
         let seen = Seen {
             initiated: false,
             attribute: 0,
-            first,
-            ends: set.has(raised),
+            held: typed.is_held(),
+            taken: flow.takes(first, ends, terms),
         };
         let act = flow.act_if(roomy, Event::Step, seen, terms);
         move_keys(&mut next.keys, typed.waiting as usize, act);
@@ -93,7 +97,7 @@ impl Line {
             at: 0,
             sent: 0,
         };
-        let done = w.acts(act, b"", terminal, messages, &mut next.text, terms);
+        let done = w.acts_on_step(act, terminal, messages, &mut next.text, terms);
         let after = done.flow;
         next.flow = after;
         Answer {
@@ -110,18 +114,24 @@ impl Line {
         ensures { λ r. ⌜ Answers rules.tick self (now (terminal .entry)) (now (messages .entry)) r (now (terminal .exit)) (now (messages .exit)) ⌝ }
     {
         let roomy = are_roomy(terminal.len(), messages.len());
-        let mut next = self;
-        let flow = next.flow;
+        let flow = self.flow;
         let typed = flow.typed;
+        let mut next = self;
         let terms = next.terms;
-        let act = flow.act_if(roomy, Event::Tick, NOTHING_SEEN, terms);
+        let seen = Seen {
+            initiated: false,
+            attribute: 0,
+            held: typed.is_held(),
+            taken: NO_KEY,
+        };
+        let act = flow.act_if(roomy, Event::Tick, seen, terms);
         move_keys(&mut next.keys, typed.waiting as usize, act);
         let w = Work {
             flow,
             at: 0,
             sent: 0,
         };
-        let done = w.acts(act, b"", terminal, messages, &mut next.text, terms);
+        let done = w.acts_on_tick(act, messages, &next.text, terms);
         let after = done.flow;
         next.flow = after;
         Answer {
@@ -148,7 +158,7 @@ impl Line {
             at: 0,
             sent: next.reports(m, s, messages),
         };
-        let done = w.acts(act, s, terminal, messages, &mut next.text, terms);
+        let done = w.acts_on_host(act, s, terminal, messages, &next.text, terms);
         let after = done.flow;
         next.flow = after;
         Answer {

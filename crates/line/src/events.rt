@@ -7,7 +7,7 @@ ghost use Rattle.line.specs.declared.Line.{Line};
 ghost use Rattle.line.specs.Bounded.{CountedTyped};
 ghost use Rattle.line.specs.With.{onFlow, lent};
 ghost use Rattle.line.specs.HostMessages.{senderOf};
-ghost use Rattle.line.specs.Events.{Sees, eventPart};
+ghost use Rattle.line.specs.Events.{Sees, isActOf, eventPart};
 ghost use Rattle.line.specs.Acts.{Meets};
 ghost use Rattle.line.specs.declared.acts.Act.the-variants.{Nothing, Obeys};
 ghost use Rattle.line.specs.declared.events.Event.the-variants.{Host};
@@ -15,6 +15,7 @@ ghost use Rattle.line.specs.declared.events.HostMessage as hosts;
 use crate::Flow;
 use crate::Terms;
 use crate::acts::Act;
+use crate::acts::Taken;
 use message::InitiateFields;
 use message::Message;
 use message::Part;
@@ -46,14 +47,15 @@ pub(crate) enum Sender {
     Server,
 }
 
-// What an event looks at in the arrays, and whether Initiate was accepted.
+// What an event looks at besides the flow and the terms.
 pub struct Seen {
+    // of a key: whether Initiate was accepted, and the key's attribute
     pub(crate) initiated: bool,
-    // of the key
     pub(crate) attribute: u8,
-    // the first that waits, and whether its raised code is in the termination set
-    pub(crate) first: u16,
-    pub(crate) ends: bool,
+    // of a step or a tick: whether a whole token is held
+    pub(crate) held: bool,
+    // of a step: how the first key would be taken
+    pub(crate) taken: Taken,
 }
 
 pub(crate) fn sender_of(m: Message) -> Sender
@@ -81,12 +83,14 @@ impl Flow {
     pub(crate) fn act_of(self, e: Event, seen: Seen, t: Terms) -> Act
         requires { ⌜ CountedTyped (self .typed) ⌝ }
         ensures rule { λ a. ⌜ ((s : List ℕ) (l : Line) → Sees s (onFlow self (lent t (l .text) l)) seen e → Meets (eventPart s e) s (onFlow self (lent t (l .text) l)) a) ⌝ }
+        ensures kind { λ a. ⌜ isActOf e a ≡ true ⌝ }
         ensures obeys { λ a. ⌜ ((m : hosts.HostMessage) → e ≡ Host m → a ≡ Obeys m) ⌝ }
     {
+        let taken = seen.taken;
         match e {
             Event::Key(c) => self.act_of_key(c, seen.initiated, seen.attribute, t),
-            Event::Tick => self.act_of_tick(t),
-            Event::Step => self.act_of_step(seen.first, seen.ends, t),
+            Event::Tick => self.act_of_tick(seen.held, t),
+            Event::Step => self.act_of_step(seen.held, taken, t),
             Event::Host(m) => Act::Obeys(m),
         }
     }
@@ -96,6 +100,7 @@ impl Flow {
         requires { ⌜ CountedTyped (self .typed) ⌝ }
         ensures rule { λ a. ⌜ ((s : List ℕ) (l : Line) → roomy ≡ true → Sees s (onFlow self (lent t (l .text) l)) seen e → Meets (eventPart s e) s (onFlow self (lent t (l .text) l)) a) ⌝ }
         ensures none { λ a. ⌜ (roomy ≡ false → a ≡ Nothing) ⌝ }
+        ensures kind { λ a. ⌜ isActOf e a ≡ true ⌝ }
     {
         if roomy {
             return self.act_of(e, seen, t);

@@ -1,7 +1,5 @@
 // A fresh line, and what can be read off a line.
 ghost use mathlib.Core.Path.{_≡_};
-ghost use Rattle.rules.specs.StartRead as sets;
-ghost use Rattle.characteristics.specs.View.{setOf, CountedSet};
 ghost use Rattle.line.specs.View.{view};
 ghost use Rattle.line.specs.Bounded.{IsFreshFlow, IsFresh};
 use crate::Flow;
@@ -13,18 +11,6 @@ use crate::Typed;
 use characteristics::Set;
 use characteristics::Switches;
 use screen::Screen;
-
-// Codes 0 to 31 except 8, 9, 18, 21, 23.
-pub(crate) fn universal() -> Set
-    ensures { λ r. ⌜ (setOf r ≡ sets.universal) × CountedSet r ⌝ }
-{
-    let mut bytes = [0u8; 32];
-    bytes[0] = 0b1111_1111;
-    bytes[1] = 0b1111_1100;
-    bytes[2] = 0b0101_1011;
-    bytes[3] = 0b1111_1111;
-    Set { bytes, len: 4 }
-}
 
 // The terms of a line that has no read pending.
 fn no_terms() -> Terms
@@ -93,7 +79,7 @@ impl Line {
             recognising: false,
             prompting: false,
         };
-        let set = universal();
+        let set = Set::universal();
         let terms = no_terms();
         let flow = fresh_flow();
         Line {

@@ -4,7 +4,7 @@ ghost use mathlib.Core.List.{List, _++_};
 ghost use Rattle.rules.specs.Messages.Layout.{bytesOf};
 ghost use Rattle.rules.specs.Calls.{framed, sentBytes};
 ghost use Rattle.rules.specs.Host as rules;
-ghost use Rattle.writing.specs.Puts.{Puts};
+ghost use Rattle.areas.specs.Puts.{Puts};
 ghost use Rattle.rules.specs.Turns.{sends};
 ghost use Rattle.line.specs.declared.Line.{Line};
 ghost use Rattle.line.specs.Bounded.{CountedFlow};
@@ -20,7 +20,7 @@ fn put_parameter(head: u16, value: usize, area: &mut [u8], at: usize) -> usize
 {
     let low = (value % 256) as u8;
     let high = (value / 256 % 256) as u8;
-    writing::put_setting(head, low, high, 0, 2, area, at)
+    parameters::put_setting(head, low, high, 0, 2, area, at)
 }
 
 // Version 1.0.0, eight spaces, and parameters 1 (message size), 2 (input size) and 3 (messages 1 to 14).

@@ -38,9 +38,9 @@ pub struct Terminal {
 
 // Typed and not yet in a read: how many keys wait, and a partial or held token.
 pub struct Typed {
-    waiting: u8,
+    waiting: u16,
     token: [u8; rules::TOKEN],
-    token_len: u8,
+    token_len: u16,
 }
 
 // What is fixed for the whole of a read.

@@ -30,7 +30,7 @@ impl Work {
     {
         let flow = self.flow;
         let typed = flow.typed;
-        let count = typed.waiting as u16 + typed.token_len as u16;
+        let count = typed.waiting + typed.token_len;
         self.sends_plain(messages, Message::InputCount { count })
     }
 

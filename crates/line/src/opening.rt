@@ -15,7 +15,6 @@ ghost use Rattle.line.specs.Starts.{Startable, readingAt, termsFor, Open
 use crate::Line;
 use crate::Reading;
 use crate::Terms;
-use crate::fresh::universal;
 use crate::starting::LINE_FEED;
 use characteristics::Set;
 use characteristics::Switches;
@@ -62,7 +61,7 @@ fn chosen_set(last: Set, f: StartReadFields, s: &[u8]) -> Set
         let given = message::bytes_of(s, part);
         return set_of(given);
     }
-    universal()
+    Set::universal()
 }
 
 // ZZ 1 gives the set that ZZ 0 looks at.
@@ -85,7 +84,7 @@ fn hides_lf(f: StartReadFields, s: &[u8]) -> bool
 {
     let part = f.text;
     let text = message::bytes_of(s, part);
-    let first = message::byte_at(text, 0);
+    let first = fields::byte_at(text, 0);
     (f.formats == 1) & (first == LINE_FEED)
 }
 

@@ -57,7 +57,7 @@ impl Work {
             let flow = self.flow;
             let known = flow.terminal;
             let cursor = known.screen;
-            let lost = message::bit_of(known.discarding & some);
+            let lost = fields::bit_of(known.discarding & some);
             let horizontal = screen::columns::change(cursor.column, before.column) as u16;
             let vertical = screen::columns::change(cursor.line as u16, before.line as u16) as u16;
             return self.sends_plain(

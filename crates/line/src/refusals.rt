@@ -142,7 +142,7 @@ pub(crate) fn early_row(
 {
     let roomy = are_roomy(terminal, messages);
     let sized = is_sound_length(s.len());
-    let kind = message::byte_at(s, 0);
+    let kind = fields::byte_at(s, 0);
     let hosts = is_hosts(kind);
     let timely = is_timely(kind, initiated, pending);
     first_row(roomy, sized, hosts, timely)

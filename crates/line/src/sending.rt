@@ -3,14 +3,13 @@ ghost use Prim.Native.Nat.{ℕ};
 ghost use mathlib.Core.Path.{_≡_};
 ghost use mathlib.Core.Bool.{true};
 ghost use mathlib.Core.List.{List};
-ghost use lib.ListN.{length};
 ghost use Rattle.rules.specs.Messages.Forms as forms;
 ghost use Rattle.rules.specs.Messages.Forms.{plain};
 ghost use Rattle.rules.specs.Messages.Codec as codec;
 ghost use Rattle.message.specs.Found.{heldIn};
 ghost use Rattle.rules.specs.Turns.{sends};
 ghost use Rattle.writing.specs.Parts.{partsOf, inside};
-ghost use Rattle.writing.proofs.Lengths.{Sendable};
+ghost use Rattle.writing.specs.Framed.{Sendable};
 ghost use Rattle.line.specs.declared.Line.{Line};
 ghost use Rattle.line.specs.Bounded.{CountedFlow};
 ghost use Rattle.line.specs.With.{afterSent};
@@ -35,7 +34,7 @@ impl Work {
     pub(crate) fn send(self, messages: &mut [u8], m: Message, s: &[u8]) -> Work
         requires { ⌜ CountedFlow (self .flow) ⌝ }
         ensures counted { λ w. ⌜ CountedFlow (w .flow) ⌝ }
-        ensures rule { λ w. ⌜ ((x : forms.Message ℕ) → Sendable (now (s .entry)) m x → inside (length (now (s .entry))) (partsOf m) ≡ true → (l : Line) (t : List ℕ) → Does (sends x) (on l self) t (now (messages .entry)) (on l w) t (now (messages .exit))) ⌝ }
+        ensures rule { λ w. ⌜ ((x : forms.Message ℕ) → Sendable (now (s .entry)) m x → (l : Line) (t : List ℕ) → Does (sends x) (on l self) t (now (messages .entry)) (on l w) t (now (messages .exit))) ⌝ }
     {
         let at = self.sent;
         let sent = writing::put_framed(m, s, messages, at);

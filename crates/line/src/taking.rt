@@ -1,6 +1,7 @@
 // Which act a step or a tick meets, and the first key taken.
 ghost use Prim.Native.Nat.{ℕ, _<_};
 ghost use mathlib.Core.Path.{_≡_};
+ghost use mathlib.Core.Bool.{true};
 ghost use mathlib.Core.List.{List, []};
 ghost use lib.ListN.{length, getD};
 ghost use Rattle.rules.specs.Numbers.{inputSize, typeAheadSize};
@@ -8,15 +9,17 @@ ghost use Rattle.rules.specs.State.{codes};
 ghost use Rattle.rules.specs.StartRead.{inSet};
 ghost use Rattle.rules.specs.Turns.{_then_};
 ghost use Rattle.rules.specs.Steps as rules;
+ghost use Rattle.rules.specs.Token.{isWhole};
 ghost use Rattle.characteristics.specs.View.{setOf};
 ghost use Rattle.line.specs.declared.Line.{Line};
 ghost use Rattle.line.specs.declared.acts.Act.the-variants.{Takes};
 ghost use Rattle.line.specs.View.{keyOf, readingOf};
 ghost use Rattle.line.specs.Bounded.{CountedTyped, CountedFlow, Bounded};
 ghost use Rattle.line.specs.With.{onFlow, lent};
+ghost use Rattle.line.specs.TokenParts.{codesOf};
 ghost use Rattle.line.specs.KeyParts.{shifted};
 ghost use Rattle.line.specs.Promise.{DoesAcross, DoesOn};
-ghost use Rattle.line.specs.Acts.{CanTakeKey, idleAtZero, takesKey, takenPart, HasTakenKey, Meets};
+ghost use Rattle.line.specs.Acts.{CanTakeKey, idleAtZero, takesKey, takenPart, HasTakenKey, callsOf, Meets, TakesFirst};
 use crate::Flow;
 use crate::Terms;
 use crate::Work;
@@ -41,7 +44,8 @@ impl Terms {
 
     // No key waits: a read with Q and TIMEOUT 0 completes.
     fn act_without_key(self) -> Act
-        ensures { λ a. ⌜ ((s : List ℕ) (l : Line) → Meets (rules.takesFirst codes [] (readingOf (lent self (l .text) l) (l .flow .reading))) s (lent self (l .text) l) a) ⌝ }
+        ensures rule { λ a. ⌜ ((s : List ℕ) (l : Line) → Meets (rules.takesFirst codes [] (readingOf (lent self (l .text) l) (l .flow .reading))) s (lent self (l .text) l) a) ⌝ }
+        ensures kind { λ a. ⌜ callsOf a .step ≡ true ⌝ }
     {
         if self.timed & (self.timeout == 0) {
             return Act::TimesOut;
@@ -52,7 +56,7 @@ impl Terms {
 
 impl Flow {
     // The rules in order.
-    fn takes(self, key: u16, ends: bool, t: Terms) -> Taken
+    pub(crate) fn takes(self, key: u16, ends: bool, t: Terms) -> Taken
         requires { ⌜ CountedTyped (self .typed) ⌝ }
         ensures { λ k. ⌜ ((s : List ℕ) (l : Line) → CanTakeKey self t → ends ≡ inSet (setOf (l .set)) (rules.raisedBy codes (readingOf (lent t (l .text) l) (self .reading)) (keyOf key .char)) → Meets (takesKey (onFlow self (lent t (l .text) l)) then rules.takes codes (keyOf key) (idleAtZero (onFlow self (lent t (l .text) l)))) s (onFlow self (lent t (l .text) l)) (Takes k)) ⌝ }
     {
@@ -71,29 +75,31 @@ impl Flow {
         t.takes_plain(raised, ends)
     }
 
-    // A whole held token goes first.
-    pub(crate) fn act_of_step(self, first: u16, ends: bool, t: Terms) -> Act
+    // A whole held token goes first; `taken` is how the first key would be taken.
+    pub(crate) fn act_of_step(self, held: bool, taken: Taken, t: Terms) -> Act
         requires { ⌜ CountedTyped (self .typed) ⌝ }
-        ensures { λ a. ⌜ ((s : List ℕ) (l : Line) → Bounded (onFlow self (lent t (l .text) l)) → first ≡ getD (l .keys) 0 0 → ends ≡ inSet (setOf (l .set)) (rules.raisedBy codes (readingOf (lent t (l .text) l) (self .reading)) (keyOf first .char)) → Meets (rules.steps codes) s (onFlow self (lent t (l .text) l)) a) ⌝ }
+        ensures rule { λ a. ⌜ ((s : List ℕ) (l : Line) → Bounded (onFlow self (lent t (l .text) l)) → held ≡ isWhole (codesOf (self .typed)) → TakesFirst s (onFlow self (lent t (l .text) l)) taken → Meets (rules.steps codes) s (onFlow self (lent t (l .text) l)) a) ⌝ }
+        ensures kind { λ a. ⌜ callsOf a .step ≡ true ⌝ }
     {
         let pending = self.pending;
         if !pending {
             return Act::Nothing;
         }
-        let typed = self.typed;
-        if typed.is_held() {
+        if held {
             return Act::TakesToken;
         }
+        let typed = self.typed;
         let waiting = typed.waiting;
         if waiting == 0 {
             return t.act_without_key();
         }
-        Act::Takes(self.takes(first, ends, t))
+        Act::Takes(taken)
     }
 
     // Idle rises by one; at TIMEOUT the read completes.
     fn act_of_idling(self, t: Terms) -> Act
-        ensures { λ a. ⌜ ((s : List ℕ) (l : Line) → Meets (rules.idles codes (readingOf (lent t (l .text) l) (self .reading))) s (onFlow self (lent t (l .text) l)) a) ⌝ }
+        ensures rule { λ a. ⌜ ((s : List ℕ) (l : Line) → Meets (rules.idles codes (readingOf (lent t (l .text) l) (self .reading))) s (onFlow self (lent t (l .text) l)) a) ⌝ }
+        ensures kind { λ a. ⌜ callsOf a .tick ≡ true ⌝ }
     {
         let r = self.reading;
         let idle = r.idle as u32 + 1;
@@ -104,16 +110,16 @@ impl Flow {
     }
 
     // Idle counts while a read with Q and TIMEOUT over 0 waits for a key.
-    pub(crate) fn act_of_tick(self, t: Terms) -> Act
+    pub(crate) fn act_of_tick(self, held: bool, t: Terms) -> Act
         requires { ⌜ CountedTyped (self .typed) ⌝ }
-        ensures { λ a. ⌜ ((s : List ℕ) (l : Line) → Meets (rules.ticks codes) s (onFlow self (lent t (l .text) l)) a) ⌝ }
+        ensures rule { λ a. ⌜ ((s : List ℕ) (l : Line) → held ≡ isWhole (codesOf (self .typed)) → Meets (rules.ticks codes) s (onFlow self (lent t (l .text) l)) a) ⌝ }
+        ensures kind { λ a. ⌜ callsOf a .tick ≡ true ⌝ }
     {
         let pending = self.pending;
         if !pending {
             return Act::Nothing;
         }
         let typed = self.typed;
-        let held = typed.is_held();
         if t.timed & (0 < t.timeout) & (typed.waiting == 0) & !held {
             return self.act_of_idling(t);
         }

@@ -8,7 +8,7 @@ use mathlib.Core.List.{List, [], _∷_, _++_}
 use lib.ListN.{length, take, drop, replicate}
 use lib.Seq.{drop-cons}
 use Rattle.rules.specs.Messages.Layout.{Group, flags, byte, word, byteAt, fieldsIn, numberAt, readGroups}
-use Rattle.message.proofs.Numbers.{number-one}
+use Rattle.fields.proofs.Numbers.{number-one}
 
 -- the fields of the groups that begin at a place
 pub record Head (gs : List Group) (at : ℕ) (s : List ℕ) (vs : List ℕ) : Type 0 where

@@ -1,9 +1,6 @@
--- Laws that the proofs of the functions apply; Shapes also has those that a caller of `parameter_at` cites.
-pub mod Numbers
-pub mod Pieces
+-- Laws that the proofs of the functions apply, and one that callers cite.
+pub mod Lists
 mod Heads
 mod Reading
-pub mod Walk
-pub mod Shapes
 mod SetAndText
 mod Types

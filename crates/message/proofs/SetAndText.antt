@@ -16,7 +16,7 @@ use Rattle.rules.proofs.Tests.{both, halves, thirds}
 use Rattle.message.specs.declared.Part.{Part}
 use Rattle.message.specs.declared.StartReadFields.{StartReadFields}
 use Rattle.message.specs.Found.{RestFrom, FlagsAre, StartReadIs, partOf, flagWidths, startReadIn, heldIn, placesOf, lies}
-use Rattle.message.proofs.Numbers.{byte-behind}
+use Rattle.fields.proofs.Numbers.{byte-behind}
 use Rattle.message.proofs.Heads.{Head, flags-first}
 use Rattle.message.proofs.Reading.{fields-are}
 

@@ -2,8 +2,8 @@
 ghost use Rattle.message.specs.Found.{IsType, Finds, readAs};
 use crate::Found;
 use crate::Message;
-use crate::bytes::byte_at;
-use crate::bytes::word_at;
+use fields::byte_at;
+use fields::word_at;
 
 pub(crate) fn read_out_of_band(s: &[u8]) -> Found
     requires { ⌜ IsType 4 (now s) ⌝ }

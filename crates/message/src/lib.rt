@@ -3,18 +3,12 @@ ghost use mathlib.Core.Path.{_≡_};
 ghost use Rattle.rules.specs.Messages.Codec as codec;
 ghost use Rattle.message.specs.Found.{Finds, asHeld, foundNumber};
 
-mod bytes;
 mod fixed;
 mod listed;
-mod lists;
 mod parts;
 mod start_read;
 mod texts;
 
-pub use crate::bytes::bit_of;
-pub use crate::bytes::byte_at;
-pub use crate::lists::parameter_at;
-pub use crate::lists::whole_list;
 pub use crate::parts::bytes_of;
 pub use crate::start_read::start_read_test;
 
@@ -128,16 +122,6 @@ pub enum Found {
     Refused(u8),
 }
 
-// One parameter of a list: its SELECTOR, the bytes behind it (CHARACTER, MASK and ATTRIBUTES, or a VALUE; 0 where there are
-// fewer), unused bits set to 0, and where the next one begins.
-pub struct Parameter {
-    pub selector: u16,
-    pub first: u8,
-    pub second: u8,
-    pub third: u8,
-    pub next: usize,
-}
-
 // Reads a message without a line: 2, 3 or 5 in that order, else its fields, with parts that lie in the slice.
 pub fn read(s: &[u8]) -> Found
     ensures { λ r. ⌜ Finds (now (s .entry)) (asHeld (codec.read (now (s .entry)))) r ⌝ }
@@ -147,7 +131,7 @@ pub fn read(s: &[u8]) -> Found
     if !fits {
         return Found::Refused(2);
     }
-    let kind = bytes::byte_at(s, 0);
+    let kind = fields::byte_at(s, 0);
     match kind {
         1 => listed::read_initiate(s),
         2 => start_read::read_start_read(s),

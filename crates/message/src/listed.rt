@@ -7,9 +7,9 @@ use crate::Found;
 use crate::InitiateFields;
 use crate::Message;
 use crate::Part;
-use crate::bytes::byte_at;
-use crate::lists::whole_list;
 use crate::parts::rest_from;
+use fields::byte_at;
+use parameters::whole_list;
 
 fn initiate_fields(s: &[u8]) -> InitiateFields
     requires { ⌜ IsType 1 (now s) × (13 ≤ length (now s)) ⌝ }

@@ -10,10 +10,10 @@ use crate::Found;
 use crate::Message;
 use crate::Part;
 use crate::StartReadFields;
-use crate::bytes::byte_at;
-use crate::bytes::three_at;
-use crate::bytes::word_at;
 use crate::parts::rest_from;
+use fields::byte_at;
+use fields::three_at;
+use fields::word_at;
 
 // The flags beside the parts; the numbers are still 0.
 fn start_read_flags(s: &[u8], set: Part, text: Part) -> StartReadFields

@@ -5,9 +5,9 @@ use crate::Found;
 use crate::Message;
 use crate::ReadDataFields;
 use crate::WriteFields;
-use crate::bytes::byte_at;
-use crate::bytes::word_at;
 use crate::parts::rest_from;
+use fields::byte_at;
+use fields::word_at;
 
 // The fields, whatever they hold: the reader below tests the length and the values.
 fn read_data_fields(s: &[u8]) -> ReadDataFields

@@ -16,7 +16,7 @@ use Rattle.rules.specs.Messages.Layout.{writeGroups}
 use Rattle.rules.specs.Messages.Parameters.{Shape, initiation, question, setting, limitsOf, parameterSize, cleaned, cut}
 use Rattle.rules.specs.Messages.Forms as forms
 use Rattle.rules.specs.Messages.Forms.{Tail, nothing, text, setAndText, list, Form, formOf}
-use Rattle.rules.specs.Messages.Codec.{message, tailBytes, bytesAs, bytesOf}
+use Rattle.rules.specs.Messages.Codec.{tailBytes, bytesAs, bytesOf}
 use Rattle.rules.proofs.Tests.{both, quarters, all-cons}
 use Rattle.rules.proofs.Fields.{length-writeGroups}
 use Rattle.rules.proofs.ParameterLists.{joined-cut}
@@ -26,11 +26,12 @@ use Rattle.message.specs.declared.Message.the-variants.{Initiate, StartRead, Re
 use Rattle.message.specs.declared.Message.the-variants.{WriteCompletion, DiscardState, ReadCharacteristics, Characteristics}
 use Rattle.message.specs.declared.Message.the-variants.{CheckInput, InputCount, InputState, Other}
 use Rattle.message.specs.Found.{partOf, parametersOf, startReadIn, heldIn, placesOf, lies, allLie}
-use Rattle.message.proofs.Walk.{size-taken, size-least}
-use Rattle.writing.specs.Front.{frontTail, frontBytes}
+use Rattle.parameters.proofs.Walk.{size-taken, size-least}
+use Rattle.fronts.specs.Front.{frontTail, frontBytes}
 use Rattle.writing.specs.Parts as parts
 use Rattle.writing.specs.declared.parts.Parts.{Parts}
 use Rattle.writing.specs.Parts.{partsOf, inside}
+use Rattle.writing.specs.Framed.{Sendable}
 
 -- A parameter list: cleaning keeps the length, whole or not.
 module _ (shape : Shape) where
@@ -181,18 +182,13 @@ module _ (size : ℕ) where
   all-inside (InputState nonzero) e = bare-inside 14 2
   all-inside (Other kind body) e = four-lie _ none-lies none-lies (first-lies body [] e) none-lies
 
--- What a line sends: a message without parameters.
-pub record Sendable (s : List ℕ) (m : Message) (x : forms.Message ℕ) : Type 0 where
-  pub held : heldIn s m ≡ message x
-  pub listless : x .parameters ≡ []
-  pub set : length (x .set) < 256
-
+-- A message that a line sends.
 module _ {s : List ℕ} {m : Message} {x : forms.Message ℕ} (h : Sendable s m x) where
   same-tail : (t : Tail) → frontTail t x ≡ tailBytes t x
   unfolding frontTail tailBytes joined
   same-tail nothing = refl
   same-tail text = refl
-  same-tail setAndText = ap (λ n. n ∷ (x .set ++ x .text)) (mod-eq-of-lt (h .set))
+  same-tail setAndText = ap (λ n. n ∷ (x .set ++ x .text)) (let n = h .set in mod-eq-of-lt (omega arith))
   same-tail (list shape) = ap joined (sym (h .listless))
 
   pub sent-front : frontBytes (heldIn s m) ≡ sentBytes x
@@ -201,8 +197,7 @@ module _ {s : List ℕ} {m : Message} {x : forms.Message ℕ} (h : Sendable s m 
       ap frontBytes (h .held) ∙
       ap (λ t. x .kind ∷ (writeGroups (formOf (x .kind) .head) (x .numbers) ++ t)) (same-tail (formOf (x .kind) .tail))
 
-  pub sent-framed : inside (length s) (partsOf m) ≡ true →
-      layout.bytesOf 2 (parts.sizeOf (partsOf m)) ++ frontBytes (heldIn s m) ≡ framed (sentBytes x)
+  pub sent-framed : layout.bytesOf 2 (parts.sizeOf (partsOf m)) ++ frontBytes (heldIn s m) ≡ framed (sentBytes x)
   unfolding framed sentBytes bytesOf
-  sent-framed e =
-      ap₂ (λ n b. layout.bytesOf 2 n ++ b) (inside-length s m e ∙ ap (λ y. length (bytesOf y)) (h .held)) sent-front
+  sent-framed =
+      ap₂ (λ n b. layout.bytesOf 2 n ++ b) (inside-length s m (h .lie) ∙ ap (λ y. length (bytesOf y)) (h .held)) sent-front

@@ -13,13 +13,13 @@ use Rattle.rules.specs.Messages.Parameters.{Shape, selector, valueLimits, limit
 use Rattle.rules.proofs.Tests.{both, halves, pick-case}
 use Rattle.rules.proofs.Fields.{fieldsIn-numberOf}
 use Rattle.rules.proofs.ParameterLists.{sound-size, size-cleaned}
-use Rattle.message.specs.declared.Parameter.{Parameter}
-use Rattle.message.specs.Lists.{ParameterIs, shapeOf, parameterAt, soundFrom, parametersFrom, usedAt}
-use Rattle.message.proofs.Walk.{cleaned-byte, size-least, size-here}
-use Rattle.message.proofs.Shapes.{sound-step, parameters-end, next-inside}
-use Rattle.writing.specs.Puts.{Puts}
-use Rattle.writing.specs.Front.{settingBytes}
-use Rattle.writing.proofs.Putting.{Left, turn}
+use Rattle.parameters.specs.declared.Parameter.{Parameter}
+use Rattle.parameters.specs.Lists.{ParameterIs, shapeOf, parameterAt, soundFrom, parametersFrom, usedAt}
+use Rattle.parameters.proofs.Walk.{cleaned-byte, size-least, size-here}
+use Rattle.parameters.proofs.Shapes.{sound-step, parameters-end, next-inside}
+use Rattle.areas.specs.Puts.{Puts}
+use Rattle.parameters.specs.Lists.{settingBytes}
+use Rattle.areas.proofs.Putting.{Left, turn}
 
 -- A selector is its two bytes.
 two-bytes : {x y : ℕ} → x < 256 → y < 256 → bytesOf 2 (x + 256 * y) ≡ x ∷ y ∷ []

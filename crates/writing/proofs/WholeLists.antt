@@ -18,7 +18,7 @@ use Rattle.rules.proofs.ParameterLists.{Cleanable, initiation-cleanable, questi
 use Rattle.rules.proofs.ParameterLists.{joined-cut, limits-cleaned, selector-cleaned, count-cleaned, cut-cleaned-fits, cut-cleaned-sound}
 use Rattle.message.specs.declared.Part.{Part}
 use Rattle.message.specs.Found.{partOf, parametersOf, listMessage}
-use Rattle.message.specs.Lists.{shapeOf, soundFrom}
+use Rattle.parameters.specs.Lists.{shapeOf, soundFrom}
 use Rattle.writing.proofs.Lengths.{cut-short, cleaned-length}
 use Rattle.writing.proofs.Fitting.{part-bytes}
 

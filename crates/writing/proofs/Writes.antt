@@ -32,11 +32,12 @@ use Rattle.message.specs.declared.Message.the-variants.{CheckInput, InputCount,
 use Rattle.message.specs.declared.Found.{Found}
 use Rattle.message.specs.declared.Found.the-variants as variants
 use Rattle.message.specs.Found.{Finds, partOf, parametersOf, startReadIn, heldIn, asHeld, foundIn, foundInside}
-use Rattle.message.specs.Lists.{soundFrom}
-use Rattle.message.proofs.Shapes.{list-from, is-setting}
+use Rattle.parameters.specs.Lists.{soundFrom}
+use Rattle.parameters.proofs.Shapes.{is-setting}
+use Rattle.message.proofs.Lists.{list-from}
 use Rattle.writing.specs.declared.Written.{Written}
-use Rattle.writing.specs.Puts.{Puts}
-use Rattle.writing.specs.Front.{frontTail, frontBytes}
+use Rattle.areas.specs.Puts.{Puts}
+use Rattle.fronts.specs.Front.{frontTail, frontBytes}
 use Rattle.writing.specs.declared.parts.Parts.{Parts}
 use Rattle.writing.specs.Parts.{partsOf, sizeOf, inside, listBytes}
 use Rattle.writing.specs.Fits.{FitsIn}

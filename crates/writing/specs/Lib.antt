@@ -1,5 +1,4 @@
-pub mod Puts
-pub mod Front
 pub mod Parts
+pub mod Framed
 pub mod Fits
 pub mod Writing

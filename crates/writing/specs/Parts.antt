@@ -10,7 +10,7 @@ use Rattle.message.specs.declared.Message.the-variants.{Initiate, StartRead, Re
 use Rattle.message.specs.declared.Message.the-variants.{WriteCompletion, DiscardState, ReadCharacteristics, Characteristics}
 use Rattle.message.specs.declared.Message.the-variants.{CheckInput, InputCount, InputState, Other}
 use Rattle.message.specs.Found.{lies}
-use Rattle.message.specs.Lists.{parametersFrom}
+use Rattle.parameters.specs.Lists.{parametersFrom}
 use Rattle.writing.specs.declared.parts.Parts.{Parts}
 
 abbrev pub none : Part

@@ -5,7 +5,7 @@ ghost use Rattle.rules.specs.Messages.Layout.{widthsOf, fits};
 ghost use Rattle.rules.specs.Messages.Forms.{formOf};
 ghost use Rattle.message.specs.declared.Message.the-variants as variants;
 ghost use Rattle.message.specs.Found.{partOf, startReadIn};
-ghost use Rattle.message.specs.Lists.{soundFrom};
+ghost use Rattle.parameters.specs.Lists.{soundFrom};
 ghost use Rattle.writing.specs.Fits.{Fits, FitsIn};
 use message::InitiateFields;
 use message::Message;
@@ -67,7 +67,7 @@ fn fits_list(kind: u8, p: Part, s: &[u8]) -> bool
     ensures { λ r. ⌜ r ≡ soundFrom kind 0 (partOf (now (s .entry)) p) ⌝ }
 {
     let t = message::bytes_of(s, p);
-    message::whole_list(kind, t, 0)
+    parameters::whole_list(kind, t, 0)
 }
 
 fn fits_initiate(f: InitiateFields, s: &[u8]) -> bool

@@ -9,7 +9,7 @@ use crate::lists::put_list;
 use crate::parts::inside;
 use crate::parts::parts_of;
 use crate::parts::size_of;
-use crate::send::put_message;
+use fronts::put_message;
 use message::Found;
 use message::Message;
 

@@ -1,18 +1,13 @@
 // Writing the fourteen messages into a lent area.
 mod fits;
 mod front;
-mod heads;
 mod lists;
 mod parts;
-mod put;
 mod send;
-mod start_read;
 
 pub use crate::front::copy;
 pub use crate::front::write;
 pub use crate::send::put_framed;
-pub use crate::send::put_message;
-pub use crate::send::put_setting;
 
 // The number of a refusal, or 0 and how many bytes stand in front of the area.
 pub struct Written {

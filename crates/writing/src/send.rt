@@ -1,85 +1,17 @@
-// Messages for a line that sends them: each into an area, from a place on.
-ghost use mathlib.Core.List.{_++_};
-ghost use Rattle.rules.specs.Messages.Layout.{bytesOf};
-ghost use Rattle.message.specs.Found.{heldIn};
-ghost use Rattle.writing.specs.Puts.{Puts};
-ghost use Rattle.writing.specs.Front.{frontBytes, settingBytes};
-ghost use Rattle.writing.specs.Parts.{partsOf, sizeOf};
-use crate::heads::put_initiate;
-use crate::heads::put_input_count;
-use crate::heads::put_out_of_band;
-use crate::heads::put_read_data;
-use crate::heads::put_write;
-use crate::heads::put_write_completion;
+// Messages for a line that sends them: each behind its length, into an area.
+ghost use Rattle.writing.specs.Framed.{Frames};
 use crate::parts::parts_of;
 use crate::parts::size_of;
-use crate::put::put_bytes;
-use crate::put::put_number;
-use crate::put::put_pair;
-use crate::put::put_word;
-use crate::start_read::put_start_read;
+use areas::put_number;
+use fronts::put_message;
 use message::Message;
 
-// A message up to its parameter list; nothing of a type that is not known.
-pub fn put_message(m: Message, s: &[u8], area: &mut [u8], at: usize) -> usize
-    ensures { λ r. ⌜ Puts (frontBytes (heldIn (now (s .entry)) m)) (now (area .entry)) at r (now (area .exit)) ⌝ }
-{
-    match m {
-        Message::Initiate(f) => put_initiate(f, s, area, at),
-        Message::StartRead(f) => put_start_read(f, s, area, at),
-        Message::ReadData(f) => put_read_data(f, s, area, at),
-        Message::OutOfBand { discard, character } => put_out_of_band(
-            discard,
-            character,
-            s,
-            area,
-            at,
-        ),
-        Message::Unread { condition } => put_pair(5, condition, area, at),
-        Message::ClearInput => put_pair(6, 0, area, at),
-        Message::Write(f) => put_write(f, s, area, at),
-        Message::WriteCompletion {
-            lost,
-            horizontal,
-            vertical,
-        } => put_write_completion(lost, horizontal, vertical, s, area, at),
-        Message::DiscardState { kept } => put_pair(9, kept, area, at),
-        Message::ReadCharacteristics { parameters: _ } => put_pair(10, 0, area, at),
-        Message::Characteristics { parameters: _ } => put_pair(11, 0, area, at),
-        Message::CheckInput => put_pair(12, 0, area, at),
-        Message::InputCount { count } => put_input_count(count, s, area, at),
-        Message::InputState { nonzero } => put_pair(14, nonzero, area, at),
-        Message::Other { kind: _, body: _ } => at,
-    }
-}
-
-// The same behind its length in two bytes.
+// A message behind its length in two bytes: whole, or the front of one whose parameter list the caller puts.
 pub fn put_framed(m: Message, s: &[u8], area: &mut [u8], at: usize) -> usize
-    ensures { λ r.
-        ⌜ Puts (bytesOf 2 (sizeOf (partsOf m)) ++ frontBytes (heldIn (now (s .entry)) m)) (now (area .entry)) at r (now (area .exit)) ⌝ }
+    ensures { λ r. ⌜ Frames (now (s .entry)) m (now (area .entry)) at r (now (area .exit)) ⌝ }
 {
     let p = parts_of(m);
     let size = size_of(p);
     let next = put_number(2, size, area, at);
     put_message(m, s, area, next)
-}
-
-// One parameter of a Characteristics: its SELECTOR, and as many bytes of its value as it has.
-pub fn put_setting(
-    selector: u16,
-    first: u8,
-    second: u8,
-    third: u8,
-    count: usize,
-    area: &mut [u8],
-    at: usize,
-) -> usize
-    ensures { λ r. ⌜ Puts (settingBytes selector first second third count) (now (area .entry)) at r (now (area .exit)) ⌝ }
-{
-    let value = [first, second, third];
-    let next = put_word(selector, area, at);
-    if count < 3 {
-        return put_bytes(&value[..count], area, next);
-    }
-    put_bytes(&value, area, next)
 }

@@ -1,6 +1,6 @@
 use mathlib.Core.Path.{ap, _∙_}
 use Rattle.rules.specs.Choice.{bit}
-use Rattle.writing.proofs.Putting.{equals}
+use Rattle.areas.proofs.Putting.{equals}
 use Rattle.characteristics.specs.View.{hostOf}
 use Rattle.characteristics.proofs.Answers.{attribute-answer, switch-answer}
 use Rattle.characteristics.proofs.Host.put_answer.Statement.{statement}

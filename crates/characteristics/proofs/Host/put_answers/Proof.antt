@@ -1,7 +1,7 @@
 use Prim.Native.Nat.{_-_}
 use native.Mathlib.Omega.{arith}
 use lib.ListN.{length}
-use Rattle.writing.proofs.Putting.{Left, all-left, turn, none-left}
+use Rattle.areas.proofs.Putting.{Left, all-left, turn, none-left}
 use Rattle.characteristics.specs.View.{hostOf}
 use Rattle.characteristics.specs.Lists.{answersFrom}
 use Rattle.characteristics.proofs.Answers.{first-answer, no-answers}

@@ -8,9 +8,9 @@ use Rattle.rules.specs.Messages.Forms.{forms, formOf}
 use Rattle.rules.specs.State.{fresh}
 use Rattle.rules.proofs.Tests.{pick-true, pick-false}
 use Rattle.message.specs.Found.{heldIn}
-use Rattle.writing.specs.Front.{frontBytes, frontTail}
+use Rattle.fronts.specs.Front.{frontBytes, frontTail}
 use Rattle.writing.specs.Parts.{partsOf}
-use Rattle.writing.proofs.Putting.{nothing, equals, joins}
+use Rattle.areas.proofs.Putting.{nothing, equals, joins}
 use Rattle.characteristics.specs.View.{hostOf}
 use Rattle.characteristics.specs.Lists.{answersFrom, reportBytes}
 use Rattle.characteristics.proofs.Answers.{answer-bytes, own-size}
@@ -50,7 +50,7 @@ put-answers-requires : tie.Need-put-answers-requires
 put-answers-requires c κs = tt
 
 same-length : tie.Need-same-length
-same-length c = c .before .before .put-answers .ensures .same ∙ c .before .before .before .before .before .before .put-framed .ensures .same
+same-length c = c .before .before .put-answers .ensures .same ∙ c .before .before .before .before .before .before .put-framed .ensures .front .same
 
 returns-2 : tie.Need-returns-2
 unfolding reportBytes partsOf heldIn frontBytes frontTail formOf forms writeGroups numberOf fieldsIn
@@ -63,7 +63,7 @@ returns-2 c =
     equals
     (answer-bytes (args .list .now) (hostOf (args .self)) (2 + (a .answer-size .result - 4) + 0 + 0) (omega (arith, sized a .0)) ∙
     sym (pick-true _ _ (sym (b .carries-questions .ensures fresh) ∙ not-false _ (a .before .if1 .left))))
-    (joins (p1 .put-framed .ensures) (p2 .put-answers .ensures))
+    (joins (p1 .put-framed .ensures .front) (p2 .put-answers .ensures))
 
 pub put-report-spec : {M : Type 1} → statement M
 put-report-spec =

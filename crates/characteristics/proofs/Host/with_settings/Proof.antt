@@ -3,7 +3,7 @@ use Prim.Native.Nat.{_-_}
 use native.Mathlib.Omega.{arith}
 use lib.ListN.{length}
 use Rattle.rules.specs.Characteristics.{withParameters}
-use Rattle.message.specs.Lists.{parametersFrom}
+use Rattle.parameters.specs.Lists.{parametersFrom}
 use Rattle.characteristics.specs.View.{hostOf, Kept}
 use Rattle.characteristics.proofs.Obeying.{obeys-first, obeys-none, kept-then}
 use Rattle.characteristics.proofs.Host.with_settings.Statement.{statement}

@@ -3,7 +3,7 @@ use Prim.Native.Nat.{_-_}
 use native.Mathlib.Omega.{arith}
 use lib.ListN.{length}
 use borrow.Author.Tests.{not-true, not-false}
-use Rattle.message.specs.Lists.{parametersFrom}
+use Rattle.parameters.specs.Lists.{parametersFrom}
 use Rattle.characteristics.proofs.Walks.{allCarried, all-stops, all-goes-on, all-end}
 use Rattle.characteristics.proofs.settings.all_carried.Statement.{statement}
 use Rattle.characteristics.proofs.settings.all_carried.Tie as tie

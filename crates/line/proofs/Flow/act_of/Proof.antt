@@ -3,7 +3,7 @@ use Rattle.line.specs.declared.acts.Act.the-variants.{Obeys}
 use Rattle.line.proofs.Evented.{key-host, tick-host, step-host, event-same}
 use Rattle.line.specs.Events.{eventPart}
 use Rattle.line.specs.With.{onFlow, lent}
-use Rattle.line.proofs.Meeting.{met, event-meets}
+use Rattle.line.proofs.Meeting.{met, event-meets, kind-as, host-kind}
 use borrow.Author.Needs.{needs}
 use Rattle.line.proofs.Flow.act_of.Statement.{statement}
 use Rattle.line.proofs.Flow.act_of.Tie as tie
@@ -38,16 +38,16 @@ returns : tie.Need-returns
 unfolding eventPart
 returns c =
     let a = c .before .before .before .before .args in (
-      λ s l h. event-meets s (onFlow (a .self) (lent (a .t) (l .text) l)) (a .seen) (c .before .before .e .given .1) h (λ k. c .act-of-key .ensures s l (k .0) (k .1)),
-      λ m e. absurd (key-host (sym (c .before .before .e .given .1) ∙ e)),
+      λ s l h. event-meets s (onFlow (a .self) (lent (a .t) (l .text) l)) (a .seen) (c .before .before .e .given .1) h (λ k. c .act-of-key .ensures .0 s l (k .0) (k .1)),
+      (kind-as (c .act-of-key .result) (c .before .before .e .given .1) (c .act-of-key .ensures .1), λ m e. absurd (key-host (sym (c .before .before .e .given .1) ∙ e))),
     )
 
 returns-2 : tie.Need-returns-2
 unfolding eventPart
 returns-2 c =
     let a = c .before .before .before .args in (
-      λ s l h. event-meets s (onFlow (a .self) (lent (a .t) (l .text) l)) (a .seen) (c .before .enum-told .given .1) h (λ k. c .act-of-tick .ensures s l),
-      λ m e. absurd (tick-host (sym (c .before .enum-told .given .1) ∙ e)),
+      λ s l h. event-meets s (onFlow (a .self) (lent (a .t) (l .text) l)) (a .seen) (c .before .enum-told .given .1) h (λ k. c .act-of-tick .ensures .0 s l k),
+      (kind-as (c .act-of-tick .result) (c .before .enum-told .given .1) (c .act-of-tick .ensures .1), λ m e. absurd (tick-host (sym (c .before .enum-told .given .1) ∙ e))),
     )
 
 returns-3 : tie.Need-returns-3
@@ -55,8 +55,8 @@ unfolding eventPart
 returns-3 c =
     let a = c .before .before .before .args in (
       λ s l h. event-meets s (onFlow (a .self) (lent (a .t) (l .text) l)) (a .seen) (c .before .enum-told2 .given .1) h
-          (λ k. c .act-of-step .ensures s l (k .bounded) (k .first) (k .ends)),
-      λ m e. absurd (step-host (sym (c .before .enum-told2 .given .1) ∙ e)),
+          (λ k. c .act-of-step .ensures .0 s l (k .bounded) (k .held) (k .taken)),
+      (kind-as (c .act-of-step .result) (c .before .enum-told2 .given .1) (c .act-of-step .ensures .1), λ m e. absurd (step-host (sym (c .before .enum-told2 .given .1) ∙ e))),
     )
 
 returns-4 : tie.Need-returns-4
@@ -64,7 +64,7 @@ unfolding eventPart
 returns-4 c =
     let a = c .before .before .before .args in (
       λ s l h. event-meets s (onFlow (a .self) (lent (a .t) (l .text) l)) (a .seen) (c .before .e2 .given .1) h (λ k. met k),
-      λ m e. ap Obeys (event-same (sym (c .before .e2 .given .1) ∙ e)),
+      (host-kind (c .before .e2 .given .0 .0) (c .before .e2 .given .1), λ m e. ap Obeys (event-same (sym (c .before .e2 .given .1) ∙ e))),
     )
 
 pub act-of-spec : {M : Type 1} → statement M

@@ -11,12 +11,15 @@ act-after-initiate-requires c κs = search needs
 
 returns : tie.Need-returns
 unfolding arrives
-returns c = λ s l begun band.
-    meets-as refl (meets-told _ (meets-first _ refl (sym begun ∙ c .before .if1 .taken) (c .act-after-initiate .ensures s l band)))
+returns c = (
+  λ s l begun band.
+      meets-as refl (meets-told _ (meets-first _ refl (sym begun ∙ c .before .if1 .taken) (c .act-after-initiate .ensures .0 s l band))),
+  c .act-after-initiate .ensures .1,
+)
 
 returns-2 : tie.Need-returns-2
 unfolding arrives
-returns-2 c = λ s l begun band. meets-as refl (meets-told _ (meets-second _ refl (sym begun ∙ c .if1 .left) (met (omega arith))))
+returns-2 c = (λ s l begun band. meets-as refl (meets-told _ (meets-second _ refl (sym begun ∙ c .if1 .left) (met (omega arith)))), refl)
 
 pub act-of-key-spec : {M : Type 1} → statement M
 act-of-key-spec = tie.close (tie.spec act-after-initiate-requires returns returns-2)

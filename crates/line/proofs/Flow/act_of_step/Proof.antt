@@ -1,12 +1,10 @@
 use mathlib.Core.Path.{refl, sym, ap, _∙_}
 use native.Mathlib.Omega.{arith}
-use mathlib.Core.List.{_∷_}
-use lib.ListN.{drop}
 use borrow.Author.Tests.{not-true, not-false, eq-eqb}
 use Rattle.rules.specs.State.{codes}
 use Rattle.rules.specs.Steps.{takesFirst, stepsWhile, steps}
 use Rattle.rules.proofs.Tests.{isEmpty-nil}
-use Rattle.line.specs.View.{view, keyOf, keysOf, readingOf}
+use Rattle.line.specs.View.{view, readingOf}
 use Rattle.line.specs.With.{onFlow, lent}
 use Rattle.line.specs.Acts.{CanTakeKey}
 use Rattle.line.proofs.Meeting.{met, meets-as, meets-pending, meets-none, meets-first, meets-second, meets-told}
@@ -18,26 +16,23 @@ use Rattle.line.proofs.Flow.act_of_step.Statement.{statement}
 use Rattle.line.proofs.Flow.act_of_step.Tie as tie
 use Rattle.line.proofs.Flow.act_of_step.Reads as reads
 use Rattle.line.proofs.Flow.act_of_step.Lts as lts
-use Rattle.line.proofs.Flow.takes.Reads as takes-reads
 use Rattle.line.proofs.Terms.act_without_key.Reads as act-without-key-reads
-use Rattle.line.proofs.Typed.is_held.Reads as is-held-reads
 
 returns : tie.Need-returns
 unfolding steps stepsWhile
-returns c = λ s l bounded first ends.
-    meets-none (stepsWhile codes) (not-true (c .before .args .self .pending) (c .if1 .taken)) (met tt)
-
-is-held-requires : tie.Need-is-held-requires
-is-held-requires c κs = search needs
+returns c =
+    (λ s l bounded held taken. meets-none (stepsWhile codes) (not-true (c .before .args .self .pending) (c .if1 .taken)) (met tt), refl)
 
 returns-2 : tie.Need-returns-2
 unfolding steps stepsWhile
 returns-2 c =
-    let a = c .before .before .before .before .args in
-    let pending = not-false (a .self .pending) (c .before .before .before .if1 .left) in
-    λ s l bounded first ends.
-    meets-pending (stepsWhile codes) pending
-    (meets-first _ refl (sym (c .before .is-held .ensures) ∙ c .if2 .taken) (met (pending-room (onFlow (a .self) (lent (a .t) (l .text) l)) bounded pending)))
+    let a = c .before .before .args in
+    let pending = not-false (a .self .pending) (c .before .if1 .left) in (
+      λ s l bounded held taken.
+          meets-pending (stepsWhile codes) pending
+          (meets-first _ refl (sym held ∙ c .if2 .taken) (met (pending-room (onFlow (a .self) (lent (a .t) (l .text) l)) bounded pending))),
+      refl,
+    )
 
 act-without-key-requires : tie.Need-act-without-key-requires
 act-without-key-requires c κs = search needs
@@ -45,46 +40,39 @@ act-without-key-requires c κs = search needs
 returns-3 : tie.Need-returns-3
 unfolding steps stepsWhile
 returns-3 c =
-    let a = c .before .before .before .before .before .before .args in
-    let pending = not-false (a .self .pending) (c .before .before .before .before .before .if1 .left) in
-    λ s l bounded first ends.
-    let line = onFlow (a .self) (lent (a .t) (l .text) l) in
-    let none = isEmpty-nil _ (keys-empty (a .self .typed .waiting) (l .keys) ∙ eq-eqb _ 0 (c .before .if3 .taken)) in
-    meets-pending (stepsWhile codes) pending
-    (meets-second _ refl (sym (c .before .before .before .is-held .ensures) ∙ c .before .before .if2 .left)
-    (meets-as (ap (λ ks. takesFirst codes ks (readingOf line (a .self .reading)) (view line)) none) (c .act-without-key .ensures s line)))
-
-takes-requires : tie.Need-takes-requires
-takes-requires c κs = search needs
+    let a = c .before .before .before .before .before .args in
+    let pending = not-false (a .self .pending) (c .before .before .before .before .if1 .left) in (
+      λ s l bounded held taken.
+          let line = onFlow (a .self) (lent (a .t) (l .text) l) in
+          let none = isEmpty-nil _ (keys-empty (a .self .typed .waiting) (l .keys) ∙ eq-eqb _ 0 (c .before .if3 .taken)) in
+          meets-pending (stepsWhile codes) pending
+          (meets-second _ refl (sym held ∙ c .before .before .before .if2 .left)
+          (meets-as (ap (λ ks. takesFirst codes ks (readingOf line (a .self .reading)) (view line)) none) (c .act-without-key .ensures .0 s line))),
+      c .act-without-key .ensures .1,
+    )
 
 returns-4 : tie.Need-returns-4
 unfolding steps stepsWhile takesFirst
 returns-4 c =
-    let start = c .before .before .before .before .before .before in
+    let start = c .before .before .before .before in
     let a = start .args in
     let f = a .self in
-    let pending = not-false (f .pending) (c .before .before .before .before .before .if1 .left) in
-    let waiting = f .typed .waiting in
-    λ s l bounded first ends.
-    let line = onFlow f (lent (a .t) (l .text) l) in
-    let can : CanTakeKey f (a .t) = record {
-      room = pending-room line bounded pending;
-      waits = omega (arith, c .before .if3 .left);
-      short = token-short (f .typed) (start .pre) (sym (c .before .before .before .is-held .ensures) ∙ c .before .before .if2 .left);
-    } in
-    let head = first-key waiting (l .keys) (omega (arith, c .before .if3 .left)) ∙ ap (λ k. keyOf k ∷ drop 1 (keysOf waiting (l .keys))) (sym first) in
-    meets-pending (stepsWhile codes) pending
-    (meets-second _ refl (sym (c .before .before .before .is-held .ensures) ∙ c .before .before .if2 .left)
-    (meets-as (ap (λ ks. takesFirst codes ks (readingOf line (f .reading)) (view line)) head) (meets-told _ (c .takes .ensures s l can ends))))
+    let pending = not-false (f .pending) (c .before .before .before .if1 .left) in
+    let waiting = f .typed .waiting in (
+      λ s l bounded held taken.
+          let line = onFlow f (lent (a .t) (l .text) l) in
+          let can : CanTakeKey f (a .t) = record {
+            room = pending-room line bounded pending;
+            waits = omega (arith, c .if3 .left);
+            short = token-short (f .typed) (start .pre) (sym held ∙ c .before .before .if2 .left);
+          } in
+          let head = first-key waiting (l .keys) (omega (arith, c .if3 .left)) in
+          meets-pending (stepsWhile codes) pending
+          (meets-second _ refl (sym held ∙ c .before .before .if2 .left)
+          (meets-as (ap (λ ks. takesFirst codes ks (readingOf line (f .reading)) (view line)) head) (meets-told _ (taken can)))),
+      refl,
+    )
 
 pub act-of-step-spec : {M : Type 1} → statement M
 act-of-step-spec =
-    tie.close
-    (tie.spec
-    returns
-    is-held-requires
-    returns-2
-    act-without-key-requires
-    returns-3
-    takes-requires
-    returns-4)
+    tie.close (tie.spec returns returns-2 act-without-key-requires returns-3 returns-4)

@@ -12,14 +12,10 @@ use Rattle.line.proofs.Flow.act_of_tick.Tie as tie
 use Rattle.line.proofs.Flow.act_of_tick.Reads as reads
 use Rattle.line.proofs.Flow.act_of_tick.Lts as lts
 use Rattle.line.proofs.Flow.act_of_idling.Reads as act-of-idling-reads
-use Rattle.line.proofs.Typed.is_held.Reads as is-held-reads
 
 returns : tie.Need-returns
 unfolding ticks ticksWhile
-returns c = λ s l. meets-none (ticksWhile codes) (not-true (c .before .args .self .pending) (c .if1 .taken)) (met tt)
-
-is-held-requires : tie.Need-is-held-requires
-is-held-requires c κs = search needs
+returns c = (λ s l held. meets-none (ticksWhile codes) (not-true (c .before .args .self .pending) (c .if1 .taken)) (met tt), refl)
 
 act-of-idling-requires : tie.Need-act-of-idling-requires
 act-of-idling-requires c κs = search needs
@@ -27,23 +23,27 @@ act-of-idling-requires c κs = search needs
 returns-2 : tie.Need-returns-2
 unfolding ticks ticksWhile only
 returns-2 c =
-    let start = c .before .before .before .before .before .before .before .before in
+    let start = c .before .before .before .before .before .before .before in
     let a = start .args in
-    let pending = not-false (a .self .pending) (c .before .before .before .before .before .before .before .if1 .left) in
-    λ s l.
-    let quiet = nothing-waits (a .self .typed) (start .pre) (c .before .before .before .before .before .is-held .ensures) (l .keys) (a .t .timed) (ltb 0 (a .t .timeout)) in
-    meets-pending (ticksWhile codes) pending (meets-first _ refl (sym quiet ∙ c .before .if2 .taken) (c .act-of-idling .ensures s l))
+    let pending = not-false (a .self .pending) (c .before .before .before .before .before .before .if1 .left) in (
+      λ s l held.
+          let quiet = nothing-waits (a .self .typed) (start .pre) held (l .keys) (a .t .timed) (ltb 0 (a .t .timeout)) in
+          meets-pending (ticksWhile codes) pending (meets-first _ refl (sym quiet ∙ c .before .if2 .taken) (c .act-of-idling .ensures .0 s l)),
+      c .act-of-idling .ensures .1,
+    )
 
 returns-3 : tie.Need-returns-3
 unfolding ticks ticksWhile only
 returns-3 c =
-    let start = c .before .before .before .before .before .before .before in
+    let start = c .before .before .before .before .before .before in
     let a = start .args in
-    let pending = not-false (a .self .pending) (c .before .before .before .before .before .before .if1 .left) in
-    λ s l.
-    let quiet = nothing-waits (a .self .typed) (start .pre) (c .before .before .before .before .is-held .ensures) (l .keys) (a .t .timed) (ltb 0 (a .t .timeout)) in
-    meets-pending (ticksWhile codes) pending (meets-second _ refl (sym quiet ∙ c .if2 .left) (met tt))
+    let pending = not-false (a .self .pending) (c .before .before .before .before .before .if1 .left) in (
+      λ s l held.
+          let quiet = nothing-waits (a .self .typed) (start .pre) held (l .keys) (a .t .timed) (ltb 0 (a .t .timeout)) in
+          meets-pending (ticksWhile codes) pending (meets-second _ refl (sym quiet ∙ c .if2 .left) (met tt)),
+      refl,
+    )
 
 pub act-of-tick-spec : {M : Type 1} → statement M
 act-of-tick-spec =
-    tie.close (tie.spec returns is-held-requires act-of-idling-requires returns-2 returns-3)
+    tie.close (tie.spec returns act-of-idling-requires returns-2 returns-3)

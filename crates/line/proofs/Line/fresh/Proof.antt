@@ -8,7 +8,7 @@ use Rattle.line.proofs.Line.fresh.Reads as reads
 use Rattle.line.proofs.Line.fresh.Lts as lts
 use Rattle.line.proofs.fresh.fresh_flow.Reads as fresh-flow-reads
 use Rattle.line.proofs.fresh.no_terms.Reads as no-terms-reads
-use Rattle.line.proofs.fresh.universal.Reads as universal-reads
+use Rattle.characteristics.proofs.Set.universal.Reads as universal-reads
 
 universal-requires : tie.Need-universal-requires
 universal-requires c κs = search needs

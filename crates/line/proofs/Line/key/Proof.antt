@@ -10,7 +10,7 @@ use Rattle.line.proofs.Line.key.Tie as tie
 use Rattle.line.proofs.Line.key.Reads as reads
 use Rattle.line.proofs.Line.key.Lts as lts
 use Rattle.line.proofs.Flow.act_if.Reads as act-if-reads
-use Rattle.line.proofs.Work.acts.Reads as acts-reads
+use Rattle.line.proofs.Work.acts_on_key.Reads as acts-on-key-reads
 use Rattle.line.proofs.keys.move_keys.Reads as move-keys-reads
 use Rattle.line.proofs.refusals.are_roomy.Reads as are-roomy-reads
 use Rattle.line.proofs.refusals.row_of.Reads as row-of-reads
@@ -30,15 +30,13 @@ cast-move-keys c = search needs
 move-keys-requires : tie.Need-move-keys-requires
 move-keys-requires c κs = search needs
 
-slice-aggregate-acts : tie.Need-slice-aggregate-acts
-slice-aggregate-acts c = search needs
-
-acts-requires : tie.Need-acts-requires
-acts-requires c κs =
-    let start = c .before .before .before .before .before .before .before .before .before .before .before .before .before .before .before in
+acts-on-key-requires : tie.Need-acts-on-key-requires
+acts-on-key-requires c κs =
+    let start = c .before .before .before .before .before .before .before .before .before .before .before .before .before .before .before .before in
     let a = start .args in
-    let act = c .before .before .before .before .before .before .before .act-if .ensures in
-    keyed-fits (Key (start .args .code)) (a .self) (start .pre) (a .terminal .now) (a .messages .now) (omega arith) (c .before .before .before .before .before .before .before .before .before .before .before .before .are-roomy .ensures) (λ y. act .0 [] (a .self) y (refl, refl)) (act .1)
+    let l = a .self in
+    let act = c .before .before .before .before .before .before .before .before .act-if .ensures in
+    (start .pre .counted .flow, (start .pre .counted .text, (keyed-fits (Key (a .code)) l (start .pre) (a .terminal .now) (a .messages .now) (omega arith) (c .before .before .before .before .before .before .before .before .before .before .before .before .before .are-roomy .ensures) (λ y. act .0 [] l y (refl, refl)) (act .1 .0), act .1 .1)))
 
 row-of-requires : tie.Need-row-of-requires
 row-of-requires c κs = search needs
@@ -52,13 +50,14 @@ same-length-2 c = search needs
 returns : tie.Need-returns
 unfolding eventOf
 returns c =
-    let start = c .before .before .before .before .before .before .before .before .before .before .before .before .before .before .before .before .before .before .before .before .before .before in
+    let start = c .before .before .before .before .before .before .before .before .before .before .before .before .before .before .before .before .before .before .before .before .before .before .before in
     let a = start .args in
-    let act = c .before .before .before .before .before .before .before .before .before .before .before .before .before .before .act-if .ensures in
-    let done = c .before .before .before .before .before .before .acts in
+    let l = a .self in
+    let act = c .before .before .before .before .before .before .before .before .before .before .before .before .before .before .before .act-if .ensures in
+    let done = c .before .before .before .before .before .before .acts-on-key in
     numbered (c .row-of .ensures)
-    (keyed-answers (Key (start .args .code)) (a .self) (start .pre) (a .terminal .now) (a .messages .now) (omega arith) (c .before .before .before .before .before .before .before .before .before .before .before .before .before .before .before .before .before .before .before .are-roomy .ensures) (λ y. act .0 [] (a .self) y (refl, refl)) (act .1)
-    (done .result) _ _ _ _ (c .before .before .before .before .before .before .before .before .before .before .before .move-keys .ensures) (done .ensures .0) (done .ensures .1 .0) (done .ensures .1 .1 .0 (a .self)) (done .ensures .1 .1 .1))
+    (keyed-answers (Key (a .code)) l (start .pre) (a .terminal .now) (a .messages .now) (omega arith) (c .before .before .before .before .before .before .before .before .before .before .before .before .before .before .before .before .before .before .before .before .are-roomy .ensures) (λ y. act .0 [] l y (refl, refl)) (act .1 .0)
+    (done .result) _ (l .text) _ _ (c .before .before .before .before .before .before .before .before .before .before .before .before .move-keys .ensures) (done .ensures .0) (start .pre .counted .text) (done .ensures .1 .0 l) (λ n. (done .ensures .1 .1 n, refl)))
 
 pub key-spec : {M : Type 1} → statement M
 key-spec =
@@ -69,8 +68,7 @@ key-spec =
     act-if-requires
     cast-move-keys
     move-keys-requires
-    slice-aggregate-acts
-    acts-requires
+    acts-on-key-requires
     row-of-requires
     same-length
     same-length-2

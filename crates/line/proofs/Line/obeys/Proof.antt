@@ -10,7 +10,7 @@ use Rattle.line.proofs.Line.obeys.Lts as lts
 use Rattle.line.proofs.Flow.act_of.Reads as act-of-reads
 use Rattle.line.proofs.Line.reports.Reads as reports-reads
 use Rattle.line.proofs.Line.set_by.Reads as set-by-reads
-use Rattle.line.proofs.Work.acts.Reads as acts-reads
+use Rattle.line.proofs.Work.acts_on_host.Reads as acts-on-host-reads
 
 set-by-requires : tie.Need-set-by-requires
 set-by-requires c κs =
@@ -27,19 +27,16 @@ act-of-requires c κs =
 reports-requires : tie.Need-reports-requires
 reports-requires c κs = search needs
 
-acts-requires : tie.Need-acts-requires
-acts-requires c κs =
-    let start = c .before .before .before .before .before .before .before .before .before .before .before .before .before .before in
+acts-on-host-requires : tie.Need-acts-on-host-requires
+acts-on-host-requires c κs =
+    let start = c .before .before .before .before .before .before .before .before .before .before .before .before .before .before .before .before in
     let a = start .args in
-    let next = c .before .before .before .before .before .before .before .before .before .before .set-by .result in
-    let counted = set-counted (a .s .now) (a .self) next (a .m) (start .pre .0 .counted) (c .before .before .before .before .before .before .before .before .before .before .set-by .ensures) in
-    let act = c .before .before .before .before .before .before .before .act-of .ensures .1 (a .m) refl in (
-      counted .flow,
-      (
-        counted .text,
-        (counted .shown, subst (Fits (a .s .now) (next .flow) (next .terms)) (sym act) (startables (a .self) (a .s .now) (a .m) (start .pre .1 .0))),
-      ),
-    )
+    let set = c .before .before .before .before .before .before .before .before .before .before .before .before .set-by in
+    let next = set .result in
+    let counted = set-counted (a .s .now) (a .self) next (a .m) (start .pre .0 .counted) (set .ensures) in
+    let act = c .before .before .before .before .before .before .before .before .before .act-of .ensures .1 in
+    let fits = subst (Fits (a .s .now) (next .flow) (next .terms)) (sym (act .1 (a .m) refl)) (startables (a .self) (a .s .now) (a .m) (start .pre .1 .0)) in
+    (counted .flow, (counted .text, (counted .shown, (fits, act .0))))
 
 same-length : tie.Need-same-length
 same-length c = search needs
@@ -49,17 +46,15 @@ same-length-2 c = search needs
 
 returns : tie.Need-returns
 returns c =
-    let start = c .before .before .before .before .before .before .before .before .before .before .before .before .before .before .before .before .before .before .before .before in
+    let start = c .before .before .before .before .before .before .before .before .before .before .before .before .before .before .before .before .before .before .before .before .before .before in
     let a = start .args in
-    let s = a .s .now in
-    let next = c .before .before .before .before .before .before .before .before .before .before .before .before .before .before .before .before .set-by .result in
-    let place = c .before .before .before .before .before .before .before .before .before .before .before .reports .result in
-    let act = c .before .before .before .before .before .before .before .before .before .before .before .before .before .act-of .ensures .1 (a .m) refl in
-    let done = c .before .before .before .before .before .acts in
-    host-answers s (a .terminal .now) (a .messages .now) _ _ _ _ (a .self) next place (done .result) (a .m) (start .pre .0) (start .pre .1 .0) (start .pre .1 .1)
-    (c .before .before .before .before .before .before .before .before .before .before .before .before .before .before .before .before .set-by .ensures) (c .before .before .before .before .before .before .before .before .before .before .before .reports .ensures)
-    act (c .before .before .before .before .before .acts .ensures .1 .1 .0)
-    (done .ensures .0) (done .ensures .1 .0)
+    let set = c .before .before .before .before .before .before .before .before .before .before .before .before .before .before .before .before .before .before .set-by in
+    let report = c .before .before .before .before .before .before .before .before .before .before .before .before .before .reports in
+    let act = c .before .before .before .before .before .before .before .before .before .before .before .before .before .before .before .act-of .ensures .1 .1 (a .m) refl in
+    let done = c .before .before .before .before .before .acts-on-host in
+    let counted = set-counted (a .s .now) (a .self) (set .result) (a .m) (start .pre .0 .counted) (set .ensures) in
+    host-answers (a .s .now) (a .terminal .now) (a .messages .now) _ _ _ _ (a .self) (set .result) (report .result) (done .result) (a .m) (start .pre .0) (start .pre .1 .0) (start .pre .1 .1)
+    (set .ensures) (report .ensures) act (done .ensures .1) (done .ensures .0) (counted .text)
 
 pub obeys-spec : {M : Type 1} → statement M
 obeys-spec =
@@ -68,7 +63,7 @@ obeys-spec =
     set-by-requires
     act-of-requires
     reports-requires
-    acts-requires
+    acts-on-host-requires
     same-length
     same-length-2
     returns)

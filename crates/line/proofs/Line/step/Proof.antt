@@ -16,7 +16,9 @@ use Rattle.line.proofs.Line.step.Lts as lts
 use Rattle.characteristics.proofs.Set.has.Reads as has-reads
 use Rattle.line.proofs.Flow.act_if.Reads as act-if-reads
 use Rattle.line.proofs.Terms.raised_by.Reads as raised-by-reads
-use Rattle.line.proofs.Work.acts.Reads as acts-reads
+use Rattle.line.proofs.Flow.takes.Reads as takes-reads
+use Rattle.line.proofs.Typed.is_held.Reads as is-held-reads
+use Rattle.line.proofs.Work.acts_on_step.Reads as acts-on-step-reads
 use Rattle.line.proofs.keys.code_of.Reads as code-of-reads
 use Rattle.line.proofs.keys.move_keys.Reads as move-keys-reads
 use Rattle.line.proofs.refusals.are_roomy.Reads as are-roomy-reads
@@ -37,6 +39,12 @@ raised-by-requires c κs = search needs
 has-requires : tie.Need-has-requires
 has-requires c κs = search needs
 
+is-held-requires : tie.Need-is-held-requires
+is-held-requires c κs = search needs
+
+takes-requires : tie.Need-takes-requires
+takes-requires c κs = search needs
+
 act-if-requires : tie.Need-act-if-requires
 act-if-requires c κs = search needs
 
@@ -46,19 +54,15 @@ cast-move-keys c = search needs
 move-keys-requires : tie.Need-move-keys-requires
 move-keys-requires c κs = search needs
 
-slice-aggregate-acts : tie.Need-slice-aggregate-acts
-slice-aggregate-acts c = search needs
-
-acts-requires : tie.Need-acts-requires
-acts-requires c κs =
-    let start = c .before .before .before .before .before .before .before .before .before .before .before .before .before .before .before .before .before .before .before in
+acts-on-step-requires : tie.Need-acts-on-step-requires
+acts-on-step-requires c κs =
+    let start = c .before .before .before .before .before .before .before .before .before .before .before .before .before .before .before .before .before .before .before .before in
     let a = start .args in
     let l = a .self in
-    let raised = c .before .before .before .before .before .before .before .before .before .raised-by .ensures (l .text) l (l .flow .reading) ∙ ap (raisedBy codes (readingOf l (l .flow .reading))) (c .before .before .before .before .before .before .before .before .before .before .code-of .ensures) in
-    let ends = c .before .before .before .before .before .before .before .before .has .ensures ∙ ap (inSet (setOf (l .set))) raised in
-    let act = c .before .before .before .before .before .before .before .act-if .ensures in
-    keyed-fits Step l (start .pre) (a .terminal .now) (a .messages .now) tt (c .before .before .before .before .before .before .before .before .before .before .before .before .before .before .before .before .are-roomy .ensures)
-    (λ y. act .0 [] l y (record { bounded = start .pre; first = refl; ends = ends })) (act .1)
+    let raised = c .before .before .before .before .before .before .before .before .before .before .raised-by .ensures (l .text) l (l .flow .reading) ∙ ap (raisedBy codes (readingOf l (l .flow .reading))) (c .before .before .before .before .before .before .before .before .before .before .before .code-of .ensures) in
+    let ends = c .before .before .before .before .before .before .before .before .before .has .ensures ∙ ap (inSet (setOf (l .set))) raised in
+    let act = c .before .before .before .before .before .before .act-if .ensures in
+    (start .pre .counted .flow, (start .pre .counted .text, (keyed-fits Step l (start .pre) (a .terminal .now) (a .messages .now) tt (c .before .before .before .before .before .before .before .before .before .before .before .before .before .before .before .before .before .are-roomy .ensures) (λ y. act .0 [] l y (record { bounded = start .pre; held = c .before .before .before .before .before .before .before .before .is-held .ensures; taken = λ can. c .before .before .before .before .before .before .before .takes .ensures [] l can ends })) (act .1 .0), act .1 .1)))
 
 row-of-requires : tie.Need-row-of-requires
 row-of-requires c κs = search needs
@@ -72,17 +76,16 @@ same-length-2 c = search needs
 returns : tie.Need-returns
 unfolding eventOf
 returns c =
-    let start = c .before .before .before .before .before .before .before .before .before .before .before .before .before .before .before .before .before .before .before .before .before .before .before .before .before .before in
+    let start = c .before .before .before .before .before .before .before .before .before .before .before .before .before .before .before .before .before .before .before .before .before .before .before .before .before .before .before in
     let a = start .args in
     let l = a .self in
-    let raised = c .before .before .before .before .before .before .before .before .before .before .before .before .before .before .before .before .raised-by .ensures (l .text) l (l .flow .reading) ∙ ap (raisedBy codes (readingOf l (l .flow .reading))) (c .before .before .before .before .before .before .before .before .before .before .before .before .before .before .before .before .before .code-of .ensures) in
-    let ends = c .before .before .before .before .before .before .before .before .before .before .before .before .before .before .before .has .ensures ∙ ap (inSet (setOf (l .set))) raised in
-    let act = c .before .before .before .before .before .before .before .before .before .before .before .before .before .before .act-if .ensures in
-    let done = c .before .before .before .before .before .before .acts in
+    let raised = c .before .before .before .before .before .before .before .before .before .before .before .before .before .before .before .before .before .raised-by .ensures (l .text) l (l .flow .reading) ∙ ap (raisedBy codes (readingOf l (l .flow .reading))) (c .before .before .before .before .before .before .before .before .before .before .before .before .before .before .before .before .before .before .code-of .ensures) in
+    let ends = c .before .before .before .before .before .before .before .before .before .before .before .before .before .before .before .before .has .ensures ∙ ap (inSet (setOf (l .set))) raised in
+    let act = c .before .before .before .before .before .before .before .before .before .before .before .before .before .act-if .ensures in
+    let done = c .before .before .before .before .before .before .acts-on-step in
     numbered (c .row-of .ensures)
-    (keyed-answers Step l (start .pre) (a .terminal .now) (a .messages .now) tt (c .before .before .before .before .before .before .before .before .before .before .before .before .before .before .before .before .before .before .before .before .before .before .before .are-roomy .ensures)
-    (λ y. act .0 [] l y (record { bounded = start .pre; first = refl; ends = ends })) (act .1)
-    (done .result) _ _ _ _ (c .before .before .before .before .before .before .before .before .before .before .before .move-keys .ensures) (done .ensures .0) (done .ensures .1 .0) (done .ensures .1 .1 .0 l) (done .ensures .1 .1 .1))
+    (keyed-answers Step l (start .pre) (a .terminal .now) (a .messages .now) tt (c .before .before .before .before .before .before .before .before .before .before .before .before .before .before .before .before .before .before .before .before .before .before .before .before .are-roomy .ensures) (λ y. act .0 [] l y (record { bounded = start .pre; held = c .before .before .before .before .before .before .before .before .before .before .before .before .before .before .before .is-held .ensures; taken = λ can. c .before .before .before .before .before .before .before .before .before .before .before .before .before .before .takes .ensures [] l can ends })) (act .1 .0)
+    (done .result) _ _ _ _ (c .before .before .before .before .before .before .before .before .before .before .move-keys .ensures) (done .ensures .0) (done .ensures .1 .0) (done .ensures .1 .1 .0 l) (done .ensures .1 .1 .1))
 
 pub step-spec : {M : Type 1} → statement M
 step-spec =
@@ -93,11 +96,12 @@ step-spec =
     code-of-requires
     raised-by-requires
     has-requires
+    is-held-requires
+    takes-requires
     act-if-requires
     cast-move-keys
     move-keys-requires
-    slice-aggregate-acts
-    acts-requires
+    acts-on-step-requires
     row-of-requires
     same-length
     same-length-2

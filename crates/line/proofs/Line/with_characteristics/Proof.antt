@@ -1,6 +1,6 @@
 use mathlib.Core.Path.{ap, _∙_}
 use Rattle.rules.specs.Characteristics.{withParameters}
-use Rattle.message.specs.Lists.{parametersFrom}
+use Rattle.parameters.specs.Lists.{parametersFrom}
 use Rattle.characteristics.specs.View as host
 use Rattle.line.specs.View.{hostOf}
 use borrow.Author.Needs.{needs}

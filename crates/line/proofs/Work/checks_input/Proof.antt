@@ -1,9 +1,11 @@
 use mathlib.Core.Path.{refl, ap}
 use mathlib.Core.List.{[], _∷_}
+use native.Mathlib.Omega.{arith}
 use borrow.Author.Needs.{needs}
 use Rattle.rules.specs.Messages.Forms.{plain, inputCount}
 use Rattle.rules.specs.Messages.Codec as codec
 use Rattle.rules.specs.ReadData.{checksInput}
+use Rattle.rules.proofs.Sizes.{waiting-word}
 use Rattle.message.specs.Found.{heldIn}
 use Rattle.writing.specs.Parts.{partsOf, inside}
 use Rattle.line.proofs.Joints.{here-part}
@@ -11,14 +13,8 @@ use Rattle.line.proofs.Obeys.{waiting-count}
 use Rattle.line.proofs.Work.checks_input.Statement.{statement}
 use Rattle.line.proofs.Work.checks_input.Tie as tie
 
-cast-count : tie.Need-cast-count
-cast-count c = search needs
-
-cast-count-2 : tie.Need-cast-count-2
-cast-count-2 c = search needs
-
 add-count : tie.Need-add-count
-add-count c = search needs
+add-count c = omega (arith, waiting-word)
 
 sends-plain-requires : tie.Need-sends-plain-requires
 sends-plain-requires c κs = search needs
@@ -29,7 +25,7 @@ same-length c = search needs
 returns : tie.Need-returns
 unfolding checksInput heldIn partsOf inside
 returns c =
-    let start = c .before .before .before .before .before .before .before .before .before in
+    let start = c .before .before .before .before .before .before .before .before in
     let sent = c .before .before .sends-plain .ensures in (
       sent .0,
       λ l t.
@@ -40,4 +36,4 @@ returns c =
 
 pub checks-input-spec : {M : Type 1} → statement M
 checks-input-spec =
-    tie.close (tie.spec cast-count cast-count-2 add-count sends-plain-requires same-length returns)
+    tie.close (tie.spec add-count sends-plain-requires same-length returns)

@@ -5,7 +5,7 @@ use native.Mathlib.Omega.{arith}
 use lib.ListN.{length, drop}
 use Rattle.rules.specs.Numbers.{inputSize}
 use Rattle.rules.specs.Editing.{displays}
-use Rattle.message.proofs.Pieces.{all-behind}
+use Rattle.fields.proofs.Pieces.{all-behind}
 use Rattle.line.specs.View.{promptOf}
 use Rattle.line.specs.With.{lent}
 use Rattle.line.proofs.Sizes.{input-size}

@@ -1,5 +1,5 @@
 use borrow.Author.Needs.{needs}
-use Rattle.line.proofs.Sends.{sends-does, sent-counted}
+use Rattle.line.proofs.Sends.{sent-does, sent-counted}
 use Rattle.line.proofs.Work.send.Statement.{statement}
 use Rattle.line.proofs.Work.send.Tie as tie
 
@@ -16,7 +16,7 @@ returns : tie.Need-returns
 returns c =
     let b = c .before .before .before in
     let start = b .before .before .before .before in
-    (sent-counted (start .args .self) (c .sent-up-to .ensures) (start .pre), sends-does (start .args .m) (start .args .s .now) (b .put-framed .ensures) (c .sent-up-to .ensures))
+    (sent-counted (start .args .self) (c .sent-up-to .ensures) (start .pre), λ x k. sent-does x (b .put-framed .ensures .sent x k) (c .sent-up-to .ensures))
 
 pub send-spec : {M : Type 1} → statement M
 send-spec = tie.close (tie.spec put-framed-requires sent-up-to-requires same-length returns)

@@ -20,7 +20,7 @@ same-length c = search needs
 returns : tie.Need-returns
 returns c =
     let sent = c .before .before .send .ensures in
-    (sent .0, λ kind numbers h i. sent .1 (plain kind numbers) (record { held = h _; listless = refl; set = omega arith }) i)
+    (sent .0, λ kind numbers h i. sent .1 (plain kind numbers) (record { held = h _; listless = refl; set = omega arith; lie = i }))
 
 pub sends-plain-spec : {M : Type 1} → statement M
 sends-plain-spec =

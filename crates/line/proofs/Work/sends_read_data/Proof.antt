@@ -24,7 +24,7 @@ returns c =
       sent .0,
       λ k l x.
           let answer = c .before .before .before .before .answer .ensures (a .text .now) k l (start .pre .1 .0) in
-          here-part refl (sent .1 _ (record { held = answer .0; listless = refl; set = omega arith }) (answer .1) k x),
+          here-part refl (sent .1 _ (record { held = answer .0; listless = refl; set = omega arith; lie = answer .1 }) k x),
     )
 
 pub sends-read-data-spec : {M : Type 1} → statement M

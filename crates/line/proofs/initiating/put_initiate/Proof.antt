@@ -1,6 +1,6 @@
 use mathlib.Core.Path.{ap, sym, _∙_}
 use borrow.Author.Needs.{needs}
-use Rattle.writing.proofs.Putting.{equals, joins}
+use Rattle.areas.proofs.Putting.{equals, joins}
 use Rattle.line.proofs.Sizes.{message-size, input-size}
 use Rattle.line.proofs.Initiates.{parameter, our-bytes}
 use Rattle.line.proofs.initiating.put_initiate.Statement.{statement}
@@ -27,7 +27,7 @@ same-length c =
     let p2 = p3 .before .before .before .before in
     let p1 = p2 .before .before .before .before in
     let p0 = p1 .before .before .before .before in
-    p3 .put-parameter3 .ensures .same ∙ p2 .put-parameter2 .ensures .same ∙ p1 .put-parameter .ensures .same ∙ p0 .put-framed .ensures .same
+    p3 .put-parameter3 .ensures .same ∙ p2 .put-parameter2 .ensures .same ∙ p1 .put-parameter .ensures .same ∙ p0 .put-framed .ensures .front .same
 
 returns : tie.Need-returns
 returns c =
@@ -38,7 +38,7 @@ returns c =
     let message = ap (parameter 0x0201) (sym message-size) in
     let input = ap (parameter 0x0202) (sym input-size) in
     equals our-bytes
-    (joins (p0 .put-framed .ensures)
+    (joins (p0 .put-framed .ensures .front)
     (joins (equals message (p1 .put-parameter .ensures)) (joins (equals input (p2 .put-parameter2 .ensures)) (p3 .put-parameter3 .ensures))))
 
 pub put-initiate-spec : {M : Type 1} → statement M

@@ -1,8 +1,8 @@
 use borrow.Author.Needs.{needs}
 use mathlib.Core.Path.{refl}
 use Rattle.rules.specs.Messages.Layout.{fieldsIn}
-use Rattle.writing.specs.Front.{settingBytes}
-use Rattle.writing.proofs.Putting.{equals}
+use Rattle.parameters.specs.Lists.{settingBytes}
+use Rattle.areas.proofs.Putting.{equals}
 use Rattle.line.proofs.initiating.put_parameter.Statement.{statement}
 use Rattle.line.proofs.initiating.put_parameter.Tie as tie
 

@@ -2,7 +2,7 @@ use mathlib.Core.Path.{ap, _∙_}
 use Prim.Native.Nat.{_+_, _-_, _≤_}
 use native.Mathlib.Omega.{arith}
 use lib.ListN.{length, drop}
-use Rattle.message.proofs.Pieces.{all-behind}
+use Rattle.fields.proofs.Pieces.{all-behind}
 use Rattle.message.specs.Found.{startReadIn}
 use Rattle.rules.specs.StartRead.Acceptance.{dataBehind}
 use Rattle.line.proofs.Opened.{prompt-within}

@@ -11,7 +11,7 @@ use Rattle.line.proofs.refusals.first_row.Reads as first-row-reads
 use Rattle.line.proofs.refusals.is_hosts.Reads as is-hosts-reads
 use Rattle.line.proofs.refusals.is_sound_length.Reads as is-sound-length-reads
 use Rattle.line.proofs.refusals.is_timely.Reads as is-timely-reads
-use Rattle.message.proofs.byte_at.Reads as byte-at-reads
+use Rattle.fields.proofs.byte_at.Reads as byte-at-reads
 
 are-roomy-requires : tie.Need-are-roomy-requires
 are-roomy-requires c κs = search needs

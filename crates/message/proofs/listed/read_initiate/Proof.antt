@@ -5,7 +5,7 @@ use Rattle.rules.specs.Choice.{pick}
 use Rattle.rules.specs.Messages.Layout.{sizeOf}
 use Rattle.rules.specs.Messages.Forms.{forms, formOf}
 use Rattle.rules.specs.Messages.Codec.{behindHead, wholeTail}
-use Rattle.message.specs.Lists.{shapeOf, soundFrom}
+use Rattle.parameters.specs.Lists.{shapeOf, soundFrom}
 use Rattle.message.proofs.Reading.{isFree, head-cut, tail-unsound, free-defined, read-sound}
 use Rattle.message.proofs.listed.read_initiate.Statement.{statement}
 use Rattle.message.proofs.listed.read_initiate.Tie as tie

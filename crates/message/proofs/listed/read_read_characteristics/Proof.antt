@@ -8,7 +8,7 @@ use Rattle.rules.specs.Messages.Parameters.{question}
 use Rattle.rules.specs.Messages.Codec.{behindHead, wholeTail}
 use Rattle.rules.proofs.Tests.{both}
 use Rattle.message.specs.Found.{heldIn, placesOf}
-use Rattle.message.specs.Lists.{shapeOf, soundFrom}
+use Rattle.parameters.specs.Lists.{shapeOf, soundFrom}
 use Rattle.message.proofs.Heads.{no-more, none-first}
 use Rattle.message.proofs.Reading.{isFree, head-cut, tail-unsound, rest-lies, list-fields, free-defined, read-sound}
 use Rattle.message.proofs.listed.read_read_characteristics.Statement.{statement}

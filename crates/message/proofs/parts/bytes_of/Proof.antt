@@ -5,7 +5,7 @@ use native.Mathlib.Omega.{arith}
 use borrow.Author.Needs.{needs}
 use lib.ListN.{length, take, drop}
 use Rattle.message.specs.Found.{partOf}
-use Rattle.message.proofs.Pieces.{none-behind, all-behind}
+use Rattle.fields.proofs.Pieces.{none-behind, all-behind}
 use Rattle.message.proofs.parts.bytes_of.Statement.{statement}
 use Rattle.message.proofs.parts.bytes_of.Tie as tie
 

@@ -4,7 +4,7 @@ use native.Mathlib.Omega.{arith}
 use lib.ListN.{length}
 use borrow.Author.Needs.{needs}
 use Rattle.message.specs.Found.{partOf}
-use Rattle.message.proofs.Pieces.{all-behind}
+use Rattle.fields.proofs.Pieces.{all-behind}
 use Rattle.message.proofs.parts.rest_from.Statement.{statement}
 use Rattle.message.proofs.parts.rest_from.Tie as tie
 

@@ -1,5 +1,5 @@
 use mathlib.Core.Path.{ap, _∙_}
-use Rattle.message.specs.Lists.{soundFrom}
+use Rattle.parameters.specs.Lists.{soundFrom}
 use Rattle.writing.proofs.fits.fits_list.Statement.{statement}
 use Rattle.writing.proofs.fits.fits_list.Tie as tie
 

@@ -1,9 +1,9 @@
 use mathlib.Core.Path.{sym, ap, _∙_}
 use native.Mathlib.Omega.{arith}
 use Rattle.message.specs.Found.{partOf}
-use Rattle.message.specs.Lists.{soundFrom}
+use Rattle.parameters.specs.Lists.{soundFrom}
 use Rattle.writing.specs.Parts.{listBytes}
-use Rattle.writing.proofs.Putting.{equals, joins}
+use Rattle.areas.proofs.Putting.{equals, joins}
 use Rattle.writing.proofs.Fitting.{bytes-all}
 use Rattle.writing.proofs.Writes.{refusal, put-in-front, list-whole, whole-bytes, write-refused, write-sound, write-fits, write-room}
 use Rattle.writing.proofs.front.write.Statement.{statement}

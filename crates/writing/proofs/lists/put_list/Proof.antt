@@ -2,9 +2,9 @@ use mathlib.Core.Path.{sym, ap, _∙_}
 use borrow.Author.Tests.{eq-eqb, ne-eqb}
 use Rattle.rules.specs.Choice.{joined}
 use Rattle.rules.proofs.Tests.{pick-true, pick-false}
-use Rattle.message.specs.Lists.{soundFrom, parametersFrom}
+use Rattle.parameters.specs.Lists.{soundFrom, parametersFrom}
+use Rattle.areas.proofs.Putting.{equals}
 use Rattle.writing.specs.Parts.{listBytes}
-use Rattle.writing.proofs.Putting.{equals}
 use Rattle.writing.proofs.lists.put_list.Statement.{statement}
 use Rattle.writing.proofs.lists.put_list.Tie as tie
 
@@ -14,7 +14,7 @@ bytes-of-requires c κs = tt
 put-settings-requires : tie.Need-put-settings-requires
 put-settings-requires c κs =
     let b = c .before .before in
-    ap (soundFrom 11 0) (c .before .bytes-of .ensures) ∙ b .before .before .before .pre (b .if1 .taken)
+    ap (soundFrom 11 0) (b .bytes-of .ensures) ∙ b .before .before .before .pre (c .before .if1 .taken)
 
 same-length : tie.Need-same-length
 same-length c = c .before .before .put-settings .ensures .same
@@ -24,21 +24,21 @@ unfolding listBytes
 returns c =
     let b = c .before .before .before .before in
     let kind = b .before .before .before .before .args .kind in
-    let bytes = ap (λ t. joined (parametersFrom 11 0 t)) (b .bytes-of .ensures) in
-    equals (bytes ∙ sym (pick-true _ _ (eq-eqb kind 11 (b .before .if1 .taken)))) (c .before .before .put-settings .ensures)
+    let bytes = ap (λ t. joined (parametersFrom 11 0 t)) (b .before .bytes-of .ensures) in
+    equals (bytes ∙ sym (pick-true _ _ (eq-eqb kind 11 (b .if1 .taken)))) (c .before .before .put-settings .ensures)
 
-put-part-requires : tie.Need-put-part-requires
-put-part-requires c κs = tt
+put-bytes-requires : tie.Need-put-bytes-requires
+put-bytes-requires c κs = tt
 
 same-length-2 : tie.Need-same-length-2
-same-length-2 c = c .before .before .put-part .ensures .same
+same-length-2 c = c .before .before .put-bytes .ensures .same
 
 returns-2 : tie.Need-returns-2
 unfolding listBytes
 returns-2 c =
     let b = c .before .before .before .before in
-    let kind = b .before .before .before .args .kind in
-    equals (sym (pick-false _ _ (ne-eqb kind 11 (b .if1 .left)))) (c .before .before .put-part .ensures)
+    let kind = b .before .before .before .before .args .kind in
+    equals (b .before .bytes-of .ensures ∙ sym (pick-false _ _ (ne-eqb kind 11 (b .if1 .left)))) (c .before .before .put-bytes .ensures)
 
 pub put-list-spec : {M : Type 1} → statement M
 put-list-spec =
@@ -48,6 +48,6 @@ put-list-spec =
     put-settings-requires
     same-length
     returns
-    put-part-requires
+    put-bytes-requires
     same-length-2
     returns-2)

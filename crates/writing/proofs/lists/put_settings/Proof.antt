@@ -4,8 +4,8 @@ use native.Mathlib.Omega.{arith}
 use mathlib.Core.Bool.{true}
 use lib.ListN.{length}
 use Rattle.rules.specs.Choice.{joined}
-use Rattle.message.specs.Lists.{soundFrom, parametersFrom}
-use Rattle.writing.proofs.Putting.{Left, all-left, none-left}
+use Rattle.parameters.specs.Lists.{soundFrom, parametersFrom}
+use Rattle.areas.proofs.Putting.{Left, all-left, none-left}
 use Rattle.writing.proofs.Settings.{whole-next, behind-two, setting-put, no-settings}
 use Rattle.writing.proofs.lists.put_settings.Statement.{statement}
 use Rattle.writing.proofs.lists.put_settings.Tie as tie

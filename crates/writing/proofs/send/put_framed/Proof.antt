@@ -1,7 +1,8 @@
 use mathlib.Core.Path.{ap, _∙_}
 use Rattle.rules.specs.Messages.Layout.{bytesOf}
 use Rattle.writing.specs.Parts.{sizeOf}
-use Rattle.writing.proofs.Putting.{equals, joins}
+use Rattle.areas.proofs.Putting.{equals, joins}
+use Rattle.writing.proofs.Lengths.{sent-framed}
 use Rattle.writing.proofs.send.put_framed.Statement.{statement}
 use Rattle.writing.proofs.send.put_framed.Tie as tie
 
@@ -24,7 +25,8 @@ returns : tie.Need-returns
 returns c =
     let p = c .before .before .before .before .before .before in
     let size = p .before .before .size-of .ensures ∙ ap sizeOf (p .before .before .before .parts-of .ensures) in
-    joins (equals (ap (bytesOf 2) size) (p .put-number .ensures)) (c .before .before .put-message .ensures)
+    let front = joins (equals (ap (bytesOf 2) size) (p .put-number .ensures)) (c .before .before .put-message .ensures) in
+    record { sent = λ x k. equals (sent-framed k) front; front = front }
 
 pub put-framed-spec : {M : Type 1} → statement M
 put-framed-spec =

@@ -1,0 +1,2 @@
+-- Laws of what is put into an area; crates above cite them.
+pub mod Putting

@@ -1,0 +1,44 @@
+// Fields of a message: numbers in a slice, low byte first, and flags as numbers. All are total: past the end of a slice stands 0.
+ghost use mathlib.Core.Path.{_≡_};
+ghost use Rattle.rules.specs.Choice.{bit};
+ghost use Rattle.rules.specs.Messages.Layout.{byteAt, numberAt};
+
+pub fn byte_at(s: &[u8], at: usize) -> u8
+    ensures { λ r. ⌜ r ≡ byteAt (now (s .entry)) at ⌝ }
+{
+    if at < s.len() { s[at] } else { 0 }
+}
+
+// Two bytes, low byte first.
+pub fn word_at(s: &[u8], at: usize) -> u16
+    ensures { λ r. ⌜ r ≡ numberAt 2 at (now (s .entry)) ⌝ }
+{
+    if s.len() <= at {
+        return 0;
+    }
+    let low = byte_at(s, at) as u16;
+    let high = byte_at(s, at + 1) as u16;
+    low + 256 * high
+}
+
+// Three bytes, low byte first.
+pub fn three_at(s: &[u8], at: usize) -> u32
+    ensures { λ r. ⌜ r ≡ numberAt 3 at (now (s .entry)) ⌝ }
+{
+    if s.len() <= at {
+        return 0;
+    }
+    let low = byte_at(s, at) as u32;
+    let rest = word_at(s, at + 1) as u32;
+    low + 256 * rest
+}
+
+// A flag as a number.
+pub fn bit_of(test: bool) -> u8
+    ensures { λ r. ⌜ r ≡ bit test ⌝ }
+{
+    if test {
+        return 1;
+    }
+    0
+}

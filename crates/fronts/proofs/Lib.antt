@@ -1,0 +1,2 @@
+-- Laws of the groups that a message begins with.
+mod Groups

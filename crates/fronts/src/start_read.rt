@@ -1,0 +1,69 @@
+// Start Read.
+ghost use mathlib.Core.Path.{_≡_};
+ghost use Prim.Native.Nat.{_+_, _*_};
+ghost use Rattle.rules.specs.Messages.Layout.{numberOf};
+ghost use Rattle.message.specs.declared.Message.the-variants as variants;
+ghost use Rattle.message.specs.Found.{heldIn, flagWidths, flagsOf};
+ghost use Rattle.areas.specs.Puts.{Puts};
+ghost use Rattle.fronts.specs.Front.{frontBytes, startReadWords};
+use crate::put::put_part;
+use areas::put_byte;
+use areas::put_number;
+use areas::put_word;
+use message::StartReadFields;
+
+// The flags of a Start Read, four at a time. A Write begins alike: two bits, and three flags of one.
+pub(crate) fn low_flags(first: u8, second: u8, third: u8, fourth: u8) -> u16
+    ensures { λ r. ⌜ r ≡ first + 4 * (second + 2 * (third + 2 * fourth)) ⌝ }
+{
+    first as u16 + 4 * (second as u16 + 2 * (third as u16 + 2 * (fourth as u16)))
+}
+
+fn middle_flags(continues: u8, raises: u8, disables: u8, silent: u8) -> u16
+    ensures { λ r. ⌜ r ≡ continues + 2 * (raises + 4 * (disables + 8 * silent)) ⌝ }
+{
+    continues as u16 + 2 * (raises as u16 + 4 * (disables as u16 + 8 * (silent as u16)))
+}
+
+fn high_flags(terminator_echo: u8, timed: u8, set_choice: u8, escapes: u8) -> u16
+    ensures { λ r. ⌜ r ≡ «terminator_echo» + 2 * (timed + 2 * («set_choice» + 4 * escapes)) ⌝ }
+{
+    terminator_echo as u16 + 2 * (timed as u16 + 2 * (set_choice as u16 + 4 * (escapes as u16)))
+}
+
+fn start_read_flags(f: StartReadFields) -> u32
+    ensures { λ r. ⌜ r ≡ numberOf flagWidths (flagsOf f) ⌝ }
+{
+    let low = low_flags(f.underflow, f.clears, f.formats, f.vertical);
+    let middle = middle_flags(f.continues, f.raises, f.disables, f.silent);
+    let high = high_flags(f.terminator_echo, f.timed, f.set_choice, f.escapes);
+    low as u32 + 32 * (middle as u32 + 128 * (high as u32))
+}
+
+// The words of the head.
+fn put_words(f: StartReadFields, area: &mut [u8], at: usize) -> usize
+    ensures { λ r. ⌜ Puts (startReadWords f) (now (area .entry)) at r (now (area .exit)) ⌝ }
+{
+    let next = put_word(f.max_length, area, at);
+    let next = put_word(f.end_of_data, area, next);
+    let next = put_word(f.timeout, area, next);
+    let next = put_word(f.end_of_prompt, area, next);
+    let next = put_word(f.start_of_display, area, next);
+    put_word(f.low_water, area, next)
+}
+
+pub(crate) fn put_start_read(f: StartReadFields, s: &[u8], area: &mut [u8], at: usize) -> usize
+    ensures { λ r. ⌜ Puts (frontBytes (heldIn (now (s .entry)) (variants.StartRead f))) (now (area .entry)) at r (now (area .exit)) ⌝ }
+{
+    let set = f.set;
+    let text = f.text;
+    let flags = start_read_flags(f);
+    let bytes = message::bytes_of(s, set);
+    let count = (bytes.len() % 256) as u8;
+    let next = put_byte(2, area, at);
+    let next = put_number(3, flags, area, next);
+    let next = put_words(f, area, next);
+    let next = put_byte(count, area, next);
+    let next = put_part(s, set, area, next);
+    put_part(s, text, area, next)
+}

@@ -1,0 +1,117 @@
+// Parameter lists: a walk of one, and a parameter into an area. `kind` is the type of the message that a list stands in: 1, 10 or 11.
+ghost use mathlib.Core.Path.{_≡_};
+ghost use Prim.Native.Nat.{_%_, _<_, _≤_};
+ghost use lib.ListN.{length, drop};
+ghost use Rattle.rules.specs.Messages.Layout.{byteAt};
+ghost use Rattle.rules.specs.Messages.Parameters.{parameterSize, soundParameter};
+ghost use Rattle.parameters.specs.Lists.{ParameterIs, shapeOf, parameterAt, soundFrom};
+use crate::limits::defined_selector;
+use crate::limits::limits_at;
+use fields::byte_at;
+use fields::word_at;
+
+mod limits;
+mod put;
+
+pub use crate::put::put_setting;
+
+// One parameter of a list: its SELECTOR, the bytes behind it (CHARACTER, MASK and ATTRIBUTES, or a VALUE; 0 where there are
+// fewer), unused bits set to 0, and where the next one begins.
+pub struct Parameter {
+    pub selector: u16,
+    pub first: u8,
+    pub second: u8,
+    pub third: u8,
+    pub next: usize,
+}
+
+// The parameter that begins at a place has a value that is defined.
+fn defined_at(kind: u8, s: &[u8], at: usize) -> bool
+    requires { ⌜ at < length (now s) ⌝ }
+    ensures { λ r. ⌜ r ≡ shapeOf kind .defined (drop at (now (s .entry))) ⌝ }
+{
+    if kind == 1 {
+        return true;
+    }
+    let n = word_at(s, at);
+    if kind == 10 {
+        return defined_selector(n);
+    }
+    if n == 0x0208 {
+        let value = word_at(s, at + 2);
+        return (1 <= value) & (value <= 3);
+    }
+    defined_selector(n)
+}
+
+// How long the parameter that begins at a place should be.
+fn size_at(kind: u8, s: &[u8], at: usize) -> usize
+    requires { ⌜ at < length (now s) ⌝ }
+    ensures { λ r. ⌜ (r ≡ parameterSize (shapeOf kind) (drop at (now (s .entry)))) × (2 ≤ r) × (r ≤ 257) ⌝ }
+{
+    let l = limits_at(kind, s, at);
+    2 + l.0 as usize
+}
+
+// The parameter that begins at a place is whole and defined.
+fn sound_at(kind: u8, s: &[u8], at: usize) -> bool
+    requires { ⌜ at < length (now s) ⌝ }
+    ensures { λ r. ⌜ r ≡ soundParameter (shapeOf kind) (parameterAt kind at (now (s .entry))) ⌝ }
+{
+    let size = size_at(kind, s, at);
+    if s.len() - at < size {
+        return false;
+    }
+    defined_at(kind, s, at)
+}
+
+// Every parameter from a place on is whole and defined.
+pub fn whole_list(kind: u8, s: &[u8], from: usize) -> bool
+    ensures { λ r. ⌜ r ≡ soundFrom kind from (now (s .entry)) ⌝ }
+{
+    let mut at = from;
+    while at < s.len() {
+        if !sound_at(kind, s, at) {
+            return false;
+        }
+        at += size_at(kind, s, at);
+    }
+    true
+}
+
+// A byte, cut by its limit.
+fn used_at(s: &[u8], at: usize, limit: u16) -> u8
+    requires { ⌜ 0 < limit ⌝ }
+    ensures { λ r. ⌜ r ≡ byteAt (now (s .entry)) at % limit ⌝ }
+{
+    let b = byte_at(s, at) as u16;
+    (b % limit) as u8
+}
+
+// The parameter that begins at a place; from the end on it is empty, and the next one begins at the same place.
+pub fn parameter_at(kind: u8, s: &[u8], at: usize) -> Parameter
+    ensures { λ r. ⌜ ParameterIs kind at (now (s .entry)) r ⌝ }
+{
+    if s.len() <= at {
+        return Parameter {
+            selector: 0,
+            first: 0,
+            second: 0,
+            third: 0,
+            next: at,
+        };
+    }
+    let l = limits_at(kind, s, at);
+    let low = s[at] as u16;
+    let high = byte_at(s, at + 1) as u16;
+    let first = used_at(s, at + 2, l.1);
+    let second = used_at(s, at + 3, l.2);
+    let third = used_at(s, at + 4, l.3);
+    Parameter {
+        selector: low + 256 * high,
+        first,
+        second,
+        third,
+        next: at + 2 + l.0 as usize,
+    }
+}

@@ -1,0 +1,80 @@
+// What the bytes of a parameter stay under, by its first two.
+ghost use mathlib.Core.Path.{_≡_};
+ghost use Prim.Native.Nat.{_<_};
+ghost use lib.ListN.{length, getD, drop, replicate};
+ghost use Rattle.rules.specs.Messages.Parameters.{definedSelector, questionLimits, valueLimits, limitsOf};
+ghost use Rattle.parameters.specs.Lists.{LimitsAre, shapeOf};
+use fields::byte_at;
+use fields::word_at;
+
+// How many bytes a parameter has behind its first two, and a limit for each of the first three of them: a byte is taken modulo its
+// limit. A byte that the parameter does not have gets the limit 1, by which it is 0.
+pub(crate) struct Limits(pub u8, pub u16, pub u16, pub u16);
+
+pub(crate) fn defined_selector(n: u16) -> bool
+    ensures { λ r. ⌜ r ≡ definedSelector n ⌝ }
+{
+    (0x0201 <= n) & (n <= 0x020A)
+}
+
+// The limit of a byte of Initiate, all of whose bits are used.
+fn whole_byte(count: u8, at: u8) -> u16
+    ensures { λ r. ⌜ r ≡ getD (replicate count 256) at 1 ⌝ }
+{
+    if at < count {
+        return 256;
+    }
+    1
+}
+
+fn initiation_limits(count: u8) -> Limits
+    ensures { λ r. ⌜ LimitsAre (replicate count 256) r ⌝ }
+{
+    let first = whole_byte(count, 0);
+    let second = whole_byte(count, 1);
+    let third = whole_byte(count, 2);
+    Limits(count, first, second, third)
+}
+
+fn question_limits(n: u16) -> Limits
+    ensures { λ r. ⌜ LimitsAre (questionLimits n) r ⌝ }
+{
+    if n == 0x0202 {
+        return Limits(1, 256, 1, 1);
+    }
+    Limits(0, 1, 1, 1)
+}
+
+fn setting_limits(n: u16) -> Limits
+    ensures { λ r. ⌜ LimitsAre (valueLimits n) r ⌝ }
+{
+    if n == 0x0202 {
+        return Limits(3, 256, 256, 128);
+    }
+    if n == 0x0208 {
+        return Limits(2, 256, 256, 1);
+    }
+    if n == 0x020A {
+        return Limits(1, 16, 1, 1);
+    }
+    if defined_selector(n) {
+        return Limits(1, 2, 1, 1);
+    }
+    Limits(0, 1, 1, 1)
+}
+
+// The limits of the parameter that begins at a place.
+pub(crate) fn limits_at(kind: u8, s: &[u8], at: usize) -> Limits
+    requires { ⌜ at < length (now s) ⌝ }
+    ensures { λ r. ⌜ LimitsAre (limitsOf (shapeOf kind) (drop at (now (s .entry)))) r ⌝ }
+{
+    if kind == 1 {
+        let count = byte_at(s, at + 1);
+        return initiation_limits(count);
+    }
+    let n = word_at(s, at);
+    if kind == 10 {
+        return question_limits(n);
+    }
+    setting_limits(n)
+}
