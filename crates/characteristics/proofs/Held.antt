@@ -11,7 +11,7 @@ use Rattle.rules.specs.Calls.{carriesQuestions}
 use Rattle.rules.proofs.Tests.{pick-true}
 use Rattle.message.specs.declared.Part.{Part}
 use Rattle.message.specs.declared.Message.the-variants.{ReadCharacteristics, Characteristics}
-use Rattle.message.specs.Found.{heldIn, partOf, withList}
+use Rattle.message.specs.Found.{heldIn, partOf, listMessage}
 use Rattle.parameters.proofs.Shapes.{is-question, is-setting}
 use Rattle.message.proofs.Lists.{list-from}
 use Rattle.characteristics.specs.Lists.{settingsIn, questionsIn, answerTo, reportBytes}
@@ -19,12 +19,12 @@ use Rattle.characteristics.specs.Lists.{settingsIn, questionsIn, answerT
 pub held-settings : (s : List ℕ) (p : Part) → heldIn s (Characteristics p) ≡ message (settingsIn (partOf s p))
 unfolding heldIn
 held-settings s p =
-    ap (withList forms.characteristics []) (list-from 11 (is-setting (λ e. omega arith) (λ e. omega arith)) s p)
+    ap (listMessage forms.characteristics []) (list-from 11 (is-setting (λ e. omega arith) (λ e. omega arith)) s p)
 
 pub held-questions : (s : List ℕ) (p : Part) → heldIn s (ReadCharacteristics p) ≡ message (questionsIn (partOf s p))
 unfolding heldIn
 held-questions s p =
-    ap (withList forms.readCharacteristics []) (list-from 10 (is-question (λ e. omega arith) refl) s p)
+    ap (listMessage forms.readCharacteristics []) (list-from 10 (is-question (λ e. omega arith) refl) s p)
 
 pub report-carried : (h : Host) (list : List ℕ) (s : State ℕ) → carriesQuestions (withHost h s) (questionsIn list) ≡ true →
     reportBytes h list ≡ answerTo list h

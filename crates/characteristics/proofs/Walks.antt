@@ -4,7 +4,7 @@ use Prim.Native.Nat.{ℕ, _+_, _<_, _≤_}
 use mathlib.Core.Bool.{Bool, true, false, _&&_, _||_}
 use mathlib.Core.List.{List}
 use lib.ListN.{length, getD, drop, drop-of-length-le}
-use Rattle.rules.specs.Choice.{all, any}
+use Rattle.rules.specs.Choice.{allAre, anyIs}
 use Rattle.rules.specs.Messages.Parameters.{selector}
 use Rattle.rules.specs.Characteristics.{isCarried}
 use Rattle.parameters.specs.declared.Parameter.{Parameter}
@@ -14,28 +14,28 @@ use Rattle.areas.proofs.Putting.{first-byte}
 
 -- one of a table passes
 module _ (test : ℕ → Bool) (table : List ℕ) (i : ℕ) where
-  any-step : i < length table → any test (drop i table) ≡ test (getD table i 0) || any test (drop (i + 1) table)
-  unfolding any
-  any-step h = ap (any test) (first-byte table i h)
+  any-step : i < length table → anyIs test (drop i table) ≡ test (getD table i 0) || anyIs test (drop (i + 1) table)
+  unfolding anyIs
+  any-step h = ap (anyIs test) (first-byte table i h)
 
-  pub any-stops : i < length table → test (getD table i 0) ≡ true → any test (drop i table) ≡ true
+  pub any-stops : i < length table → test (getD table i 0) ≡ true → anyIs test (drop i table) ≡ true
   any-stops h e = any-step h ∙ rw e
 
-  pub any-goes-on : i < length table → test (getD table i 0) ≡ false → any test (drop (i + 1) table) ≡ any test (drop i table)
+  pub any-goes-on : i < length table → test (getD table i 0) ≡ false → anyIs test (drop (i + 1) table) ≡ anyIs test (drop i table)
   any-goes-on h e = sym (any-step h ∙ rw e)
 
-  pub any-end : length table ≤ i → any test (drop i table) ≡ false
-  unfolding any
-  any-end h = ap (any test) (drop-of-length-le table h)
+  pub any-end : length table ≤ i → anyIs test (drop i table) ≡ false
+  unfolding anyIs
+  any-end h = ap (anyIs test) (drop-of-length-le table h)
 
 -- every parameter is carried
 abbrev pub allCarried : List (List ℕ) → Bool
-allCarried ps = all (λ p. isCarried (selector p)) ps
+allCarried ps = allAre (λ p. isCarried (selector p)) ps
 
 module _ {kind at : ℕ} {s : List ℕ} {p : Parameter} (is : ParameterIs kind at s p) (h : at < length s)
     {t : Bool} (e : t ≡ isCarried (p .selector)) where
   all-step : allCarried (parametersFrom kind at s) ≡ t && allCarried (parametersFrom kind (p .next) s)
-  unfolding all
+  unfolding allAre
   all-step =
       ap allCarried (is .list h) ∙
       ap (λ b. b && allCarried (parametersFrom kind (p .next) s)) (sym (e ∙ ap isCarried (is .selected)))
@@ -47,5 +47,5 @@ module _ {kind at : ℕ} {s : List ℕ} {p : Parameter} (is : ParameterIs kind a
   all-goes-on f = sym (all-step ∙ rw f)
 
 pub all-end : (kind at : ℕ) (s : List ℕ) → length s ≤ at → allCarried (parametersFrom kind at s) ≡ true
-unfolding all
+unfolding allAre
 all-end kind at s h = ap allCarried (parameters-end kind at s h)

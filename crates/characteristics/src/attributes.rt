@@ -1,7 +1,7 @@
 // Character attributes.
 ghost use mathlib.Core.Path.{_≡_};
 ghost use lib.ListN.{getD, set};
-ghost use Rattle.rules.specs.Choice.{any};
+ghost use Rattle.rules.specs.Choice.{anyIs};
 ghost use Rattle.rules.specs.Characteristics as rules;
 use crate::Host;
 
@@ -35,7 +35,7 @@ pub(crate) fn with_attribute(table: [u8; 256], character: u8, mask: u8, attribut
 
 // A character of the table is deferred-clear.
 pub(crate) fn any_deferred_clear(table: &[u8]) -> bool
-    ensures { λ r. ⌜ r ≡ any rules.isDeferredClear (now (table .entry)) ⌝ }
+    ensures { λ r. ⌜ r ≡ anyIs rules.isDeferredClear (now (table .entry)) ⌝ }
 {
     let mut i = 0;
     while i < table.len() {

@@ -2,7 +2,7 @@
 ghost use mathlib.Core.Path.{_≡_};
 ghost use mathlib.Core.List.{List};
 ghost use Prim.Native.Nat.{ℕ};
-ghost use Rattle.rules.specs.Choice.{pick, all};
+ghost use Rattle.rules.specs.Choice.{pick, allAre};
 ghost use Rattle.rules.specs.Messages.Parameters.{selector};
 ghost use Rattle.rules.specs.Characteristics.{isCarried, withSwitch, withParameter, withParameters, carriesSettings};
 ghost use Rattle.parameters.specs.Lists.{ParameterIs, parametersFrom, usedAt};
@@ -28,7 +28,7 @@ fn is_carried(selector: u16) -> bool
 
 // Every parameter of a list is one of the five.
 pub(crate) fn all_carried(kind: u8, list: &[u8]) -> bool
-    ensures { λ r. ⌜ r ≡ all (λ p. isCarried (selector p)) (parametersFrom kind 0 (now (list .entry))) ⌝ }
+    ensures { λ r. ⌜ r ≡ allAre (λ p. isCarried (selector p)) (parametersFrom kind 0 (now (list .entry))) ⌝ }
 {
     let mut at = 0;
     while at < list.len() {

@@ -13,7 +13,7 @@ use Rattle.rules.specs.State.{State}
 use Rattle.rules.specs.Calls.{isCarriedBy, carriesQuestions}
 use Rattle.rules.proofs.Bounds.Sent.{Fit, read-sent}
 use Rattle.rules.proofs.Bounds.Received as received
-use Rattle.rules.proofs.Bounds.Calls.{considered-sound}
+use Rattle.rules.proofs.Bounds.Calls.{received-sound}
 use Rattle.message.specs.declared.Part.{Part}
 use Rattle.message.specs.declared.Message.{Message}
 use Rattle.message.specs.declared.Message.the-variants as message
@@ -47,10 +47,10 @@ module _ (l : Line) (s : List ℕ) (m : HostMessage) (a : Accepted l s m) (x : f
   same = held-same (sym (a .held) ∙ h)
 
   carried : isCarriedBy (view l) x ≡ true
-  carried = subst (λ y. isCarriedBy (view l) y ≡ true) same (considered-sound (view l) s (a .fields) (a .taken) .1)
+  carried = subst (λ y. isCarriedBy (view l) y ≡ true) same (received-sound (view l) s (a .fields) (a .taken) .1)
 
   fit : Fit x
-  fit = subst Fit same (read-sent s (a .fields) (a .bytes) (considered-sound (view l) s (a .fields) (a .taken) .0) .fit)
+  fit = subst Fit same (read-sent s (a .fields) (a .bytes) (received-sound (view l) s (a .fields) (a .taken) .0) .fit)
 
 start-known : (l : Line) (s : List ℕ) (f : StartReadFields) → Accepted l s (StartRead f) → Startable s f
 unfolding heldIn startReadIn isCarriedBy pick

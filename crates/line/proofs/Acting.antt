@@ -9,11 +9,11 @@ use mathlib.Core.Bool.{Bool, true, false, not}
 use Rattle.rules.specs.Choice.{pick, firstOf, within, joined}
 use Rattle.rules.specs.Turns.{still}
 use Rattle.rules.specs.Area.{puts}
-use Rattle.rules.specs.Numbers.{inputSize, typeAheadSize}
+use Rattle.rules.specs.Numbers.{inputSize, typeAheadSize, accepted, smallArea}
 use Rattle.rules.specs.Messages.Codec as codec
 use Rattle.rules.specs.Messages.Codec.{read, soundLength}
 use Rattle.rules.specs.Calls as rules
-use Rattle.rules.specs.Calls.{areRoomy, refusals, considered, messageBytes}
+use Rattle.rules.specs.Calls.{areRoomy, refusals, received, messageBytes}
 use Rattle.rules.proofs.Tests.{row-applies}
 use Rattle.rules.proofs.Outcomes.{refused-sound}
 use Rattle.line.specs.declared.Line.{Line}
@@ -24,8 +24,8 @@ use Rattle.line.specs.declared.acts.Act.the-variants.{Nothing, Stores, S
 use Rattle.line.specs.declared.acts.Act.the-variants.{TakesToken, Takes, TimesOut, Idles, Obeys}
 use Rattle.line.specs.declared.events.HostMessage.{HostMessage}
 use Rattle.line.specs.declared.events.Event.{Event}
-use Rattle.line.specs.Events.{Admitted, eventPart, eventOf}
-use Rattle.line.specs.Rows.{rowOf}
+use Rattle.line.specs.Events.{eventPart}
+use Rattle.line.specs.Refusals.{rowOf}
 use Rattle.line.specs.Answers.{Answers, refusal}
 use Rattle.line.specs.declared.Answer.{Answer}
 use Rattle.line.specs.Bounded.{Counted, CountedFlow, Bounded}
@@ -35,7 +35,8 @@ use Rattle.line.specs.HostMessages.{Accepted}
 use Rattle.line.specs.Promise.{Progress, on, Does}
 use Rattle.line.specs.Acts.{actPart, callsOf, Ready, Fits, Done, Meets}
 use Rattle.line.proofs.acts.Act.{the-type}
-use Rattle.line.proofs.Considered.{true-false}
+use Rattle.line.proofs.ReceivedMessage.{true-false}
+use Rattle.line.proofs.Evented.{eventOf, Admitted}
 use Rattle.line.proofs.KeyArrays.{after-length}
 use Rattle.line.proofs.Answering.{begun, begunWork, refused, cramped}
 use Rattle.line.proofs.Accepts.{startables}
@@ -126,7 +127,7 @@ still-areas d = (ap (λ x. x .area) (d .shows), ap (λ x. x .area) (d .sends))
 
 -- no message of no bytes is accepted
 none-accepted : (l : Line) (m : HostMessage) → Accepted l [] m → ⊥
-unfolding considered refusals soundLength within
+unfolding received refusals soundLength within
 none-accepted l m a =
     let short : soundLength 0 ≡ false = refl in
     refused-sound (sym (row-applies codec.refused (read []) _ _ (ap not short)) ∙ a .taken)
@@ -190,7 +191,7 @@ module _ (e : Event) (l : Line) (b : Bounded l) (t m : List ℕ) (admitted : Adm
     acted : (x : Bool) → roomy ≡ x → Answers (eventOf [] e) l t m (told keys′ text′ r (rowOf x)) t′ m′
     unfolding rowOf firstOf pick
     acted true y =
-        subst (λ z. Answers (eventOf [] e) l t m (told z text′ r 0) t′ m′) (sym k)
+        subst (λ z. Answers (eventOf [] e) l t m (told z text′ r accepted) t′ m′) (sym k)
         (act-answers e [] t m l b admitted (sym size ∙ y) (h y) _ t′ m′ (keyed-does l a (h y .ready) (b .counted .keys) d) (done-counted l a text′ r (b .counted) full f))
     acted false y =
         let n = none y in
@@ -199,9 +200,9 @@ module _ (e : Event) (l : Line) (b : Bounded l) (t m : List ℕ) (admitted : Adm
         let keys : keys′ ≡ l .keys = k ∙ ap (λ z. keysAfter z (l .flow .typed .waiting) (l .keys)) n in
         let areas = still-areas still in
         let answer : told keys′ text′ r 1 ≡ refusal 1 l = λ i. told (keys i) (same n .1 i) (same n .0 i) 1 in
-        subst (λ z. Answers (eventOf [] e) l t m (told keys′ text′ r 1) z m′) (sym (areas .0))
-        (subst (λ z. Answers (eventOf [] e) l t m (told keys′ text′ r 1) t z) (sym (areas .1))
-        (refused (eventOf [] e) l t m 1 b (cramped (eventOf [] e) l t m (sym size ∙ y)) answer))
+        subst (λ z. Answers (eventOf [] e) l t m (told keys′ text′ r smallArea) z m′) (sym (areas .0))
+        (subst (λ z. Answers (eventOf [] e) l t m (told keys′ text′ r smallArea) t z) (sym (areas .1))
+        (refused (eventOf [] e) l t m smallArea b (cramped (eventOf [] e) l t m (sym size ∙ y)) answer))
 
     pub keyed-answers : Answers (eventOf [] e) l t m (told keys′ text′ r (rowOf roomy)) t′ m′
     keyed-answers = acted roomy refl

@@ -24,7 +24,11 @@ use Rattle.line.specs.declared.Answer.{Answer}
 use Rattle.line.specs.View.{view}
 use Rattle.line.specs.Bounded.{Counted, Bounded}
 use Rattle.line.specs.Promise.{Progress, Does}
-use Rattle.line.specs.Answers.{Answers, ruled, refusal, doneAnswer}
+use Rattle.line.specs.Answers.{Answers, ruled, refusal}
+
+-- what a call that is done answers
+abbrev pub doneAnswer : Progress → Answer
+doneAnswer w = record { line = w .line; number = sizes.accepted; terminal = w .at; messages = w .sent }
 
 -- a call at its beginning
 abbrev pub begun : Line → Progress

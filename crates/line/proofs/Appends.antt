@@ -22,7 +22,7 @@ use Rattle.line.specs.declared.Line.{Line}
 use Rattle.line.specs.View.{inputOf, promptOf, readingOf}
 use Rattle.line.specs.With.{lent}
 use Rattle.line.specs.Bounded.{CountedReading}
-use Rattle.line.proofs.Held.{empty-take}
+use Rattle.line.proofs.TokenBytes.{empty-take}
 use Rattle.line.specs.ReadingParts.{Appends, ShownFrom}
 
 pub input-length : (n : ℕ) (text : List ℕ) → n ≤ length text → length (inputOf n text) ≡ n
@@ -46,8 +46,8 @@ drop-set (x ∷ text) zero (suc k) c h = refl
 drop-set (x ∷ text) (suc n) (suc k) c h = drop-set text n k c (omega arith)
 
 -- a read with its text changed: the prompt and the input as they are in the new text
-abbrev withText : List ℕ → List ℕ → Reading → Line → rules.Reading ℕ
-withText prompt input r l =
+abbrev withPromptAndInput : List ℕ → List ℕ → Reading → Line → rules.Reading ℕ
+withPromptAndInput prompt input r l =
     let e = readingOf l r in
     let t = e .terms in
     record {
@@ -90,7 +90,7 @@ pushed r text c k h =
     record {
       same = λ t l fits.
           let front : n < inputSize - t .«prompt_len» = omega arith in
-          λ i. withText (drop-set text n (inputSize - t .«prompt_len») c front i) (more i) r (lent t text l);
+          λ i. withPromptAndInput (drop-set text n (inputSize - t .«prompt_len») c front i) (more i) r (lent t text l);
       count = refl;
       size = length-set text n c;
     }

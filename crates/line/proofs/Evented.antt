@@ -1,11 +1,12 @@
 -- What an event does is a part of the rules.
 use mathlib.Core.Path.{_≡_, refl, sym, ap, _∙_}
-use Prim.Native.Nat.{ℕ}
+use Prim.Native.Nat.{ℕ, _<_}
 use mathlib.Core.Bool.{true}
 use mathlib.Core.List.{List}
 use borrow.Author.Tests.{lt-ltb}
 use Rattle.rules.specs.State.{codes}
-use Rattle.rules.specs.Calls.{answers, hears, does}
+use Rattle.rules.specs.Calls as rules
+use Rattle.rules.specs.Calls.{answers, answersMessage, does}
 use Rattle.rules.specs.Bounds.{isByteEvent}
 use Rattle.line.specs.declared.events.Event.{Event}
 use Rattle.line.specs.declared.events.Event.the-variants.{Key, Tick, Step, Host}
@@ -13,17 +14,31 @@ use Rattle.line.specs.declared.events.HostMessage.{HostMessage}
 use native.Mathlib.Omega.{arith}
 use Rattle.line.specs.declared.Line.{Line}
 use Rattle.line.specs.View.{view}
-use Rattle.line.specs.HostMessages.{obeysHeld}
-use Rattle.line.specs.Events.{Admitted, eventPart, eventOf}
+use Rattle.line.specs.HostMessages.{Accepted, obeysHeld}
+use Rattle.line.specs.Events.{eventPart}
+
+-- the event of the rules that it is
+unfoldable pub eventOf : List ℕ → Event → rules.Event ℕ
+eventOf s (Key c) = rules.key c
+eventOf s Tick = rules.tick
+eventOf s Step = rules.step
+eventOf s (Host m) = rules.message s
+
+-- a key is a byte, and a message is one that the line accepts
+abbrev pub Admitted : Line → List ℕ → Event → Type 0
+Admitted l s (Key c) = c < 256
+Admitted l s Tick = Unit {0}
+Admitted l s Step = Unit {0}
+Admitted l s (Host m) = Accepted l s m
 
 -- the rules answer an event that is admitted by the part that it is
 module _ (l : Line) (s : List ℕ) where
   pub event-answers : (e : Event) → Admitted l s e → answers codes (eventOf s e) (view l) ≡ does (eventPart s e) (view l)
-  unfolding eventOf eventPart answers hears obeysHeld
+  unfolding eventOf eventPart answers answersMessage obeysHeld
   event-answers (Key c) a = refl
   event-answers Tick a = refl
   event-answers Step a = refl
-  event-answers (Host m) a = ap (λ o. hears codes o (view l)) (a .taken) ∙ ap (λ h. does (obeysHeld h) (view l)) (sym (a .held))
+  event-answers (Host m) a = ap (λ o. answersMessage codes o (view l)) (a .taken) ∙ ap (λ h. does (obeysHeld h) (view l)) (sym (a .held))
 
   pub event-bytes : (e : Event) → Admitted l s e → isByteEvent (eventOf s e) ≡ true
   unfolding eventOf isByteEvent

@@ -8,23 +8,21 @@ use lib.Dec.{eqb}
 use lib.ListN.{length}
 use Rattle.rules.specs.Choice.{pick, joined}
 use Rattle.rules.specs.Numbers.{inputSize, typeAheadSize}
-use Rattle.rules.specs.State.{Reading, codes, withHost, withRead, withBegun, withLastSet}
+use Rattle.rules.specs.State.{Reading, codes, withHost, withRead, withLastSet}
 use Rattle.rules.specs.Messages.Forms as forms
 use Rattle.rules.specs.Turns.{Part, still, sends, _then_}
 use Rattle.rules.specs.StartRead.Acceptance as rules
-use Rattle.rules.specs.Characteristics.{withParameters, report}
 use Rattle.rules.specs.Host.{ourInitiate, initiates, reports, setsCharacteristics, obeys}
-use Rattle.rules.specs.Calls.{areRoomy, isTimely, isPending, carriesQuestions, refusals, considered, messageBytes}
+use Rattle.rules.specs.Calls.{areRoomy, isTimely, isPending, carriesQuestions, refusals, received, messageBytes}
 use Rattle.rules.specs.Area.{puts, spot}
 use Rattle.rules.specs.Messages.Codec as codec
 use Rattle.rules.specs.Messages.Codec.{Held, refused, fieldsAs, read}
 use Rattle.rules.specs.Messages.Layout.{byteAt}
 use Rattle.rules.proofs.Outcomes.{refused-sound, readable}
 use borrow.Author.Tests.{not-false}
-use Rattle.rules.proofs.Bounds.Calls.{considered-sound}
+use Rattle.rules.proofs.Bounds.Calls.{received-sound}
 use Rattle.rules.proofs.Tests.{pick-true, pick-false, row-behind}
 use Rattle.message.specs.declared.Part as Part
-use Rattle.parameters.specs.Lists.{parametersFrom}
 use Rattle.message.specs.declared.StartReadFields.{StartReadFields}
 use Rattle.message.specs.Found.{partOf, startReadIn, heldIn}
 use Rattle.areas.specs.Puts.{Puts}
@@ -39,23 +37,23 @@ use Rattle.line.specs.declared.events.HostMessage.{HostMessage}
 use Rattle.line.specs.declared.events.HostMessage.the-variants.{Initiate, StartRead, Unread, ClearInput, Write, ReadCharacteristics, Characteristics, CheckInput}
 use Rattle.line.specs.View.{view, hostOf, pendingOf, readingOf}
 use Rattle.line.specs.declared.events.Event.the-variants.{Host}
-use Rattle.line.specs.Events.{eventPart, eventOf}
+use Rattle.line.specs.Events.{eventPart}
 use Rattle.line.specs.declared.acts.Act.{Act}
 use Rattle.line.specs.declared.acts.Act.the-variants.{Obeys}
 use Rattle.line.specs.Acts.{Done}
-use Rattle.line.specs.Answers.{Answers, doneAnswer}
+use Rattle.line.specs.Answers.{Answers}
 use Rattle.rules.specs.Calls as calls
 use Rattle.line.specs.Bounded.{Counted, CountedFlow, Bounded}
 use Rattle.line.specs.With.{onFlow, lent}
-use Rattle.line.specs.Starts.{dataIn, readingAt, onOpened, Opens}
+use Rattle.line.specs.Starts.{readingAt, onOpened, Opens}
 use Rattle.line.specs.HostMessages.{messageOf, Accepted, obeysHeld, flowPart, Prompts, onInitiated, Sets, SetBy, NoReport, Reported}
 use Rattle.line.specs.Promise.{Progress, on, Does}
-use Rattle.line.proofs.Works.{then-does, here-does, changes-does, only-does, not-does}
-use Rattle.line.proofs.Joints.{for-equal}
+use Rattle.line.proofs.Works.{then-does, changes-does, only-does, not-does}
+use Rattle.line.proofs.Joints.{here-part, for-equal}
 use Rattle.line.proofs.Sends.{sent-does}
-use Rattle.line.proofs.Answering.{begun, begunWork, answered}
-use Rattle.line.proofs.Evented.{event-answers, event-bytes}
-use Rattle.line.proofs.Considered.{true-false}
+use Rattle.line.proofs.Answering.{doneAnswer, begun, begunWork, answered}
+use Rattle.line.proofs.Evented.{eventOf, event-answers, event-bytes}
+use Rattle.line.proofs.ReceivedMessage.{true-false}
 use Rattle.line.proofs.Accepts.{questions-known}
 
 -- a part with nothing behind it
@@ -109,12 +107,12 @@ set-counted s l next CheckInput c e = subst Counted (sym e) c
 -- A Start Read comes with no read pending.
 module _ (l : Line) (s : List ℕ) (f : StartReadFields) (a : Accepted l s (StartRead f)) where
   start-timely : isTimely forms.startRead (view l) ≡ true
-  unfolding considered refusals heldIn startReadIn fieldsAs
+  unfolding received refusals heldIn startReadIn fieldsAs
   start-timely =
       let sized = row-behind refused (read s) _ _ refused-sound (a .taken) in
       let kind = row-behind refused (read s) _ _ refused-sound (sized .1) in
       let time = row-behind refused (read s) _ _ refused-sound (kind .1) in
-      let fields = readable s (a .fields) (considered-sound (view l) s (a .fields) (a .taken) .0) .fields in
+      let fields = readable s (a .fields) (received-sound (view l) s (a .fields) (a .taken) .0) .fields in
       let same : byteAt s 0 ≡ forms.startRead = ap (λ x. x .kind) fields ∙ sym (ap held-kind (a .held)) in
       ap (λ k. isTimely k (view l)) (sym same) ∙ not-false (isTimely (byteAt s 0) (view l)) (time .0)
 
@@ -144,21 +142,21 @@ module _ (s : List ℕ) (l : Line) (f : StartReadFields) (a : Accepted l s (Star
       let none = no-read l s f a in
       λ i. withRead ((ap (λ p. pendingOf p (readingOf opened (l .flow .reading))) none ∙ sym (ap (λ p. pendingOf p (readingOf l (l .flow .reading))) none)) i) (view l)
 
-  read-begins : readingOf opened (readingAt s f (l .flow .terminal .screen .column)) ≡ rules.readingOf codes x (view l)
-  unfolding rules.readingOf startReadIn dataIn
+  read-begins : readingOf opened (readingAt s f (l .flow .terminal .screen .column)) ≡ rules.openedRead codes x (view l)
+  unfolding rules.openedRead startReadIn
   read-begins = λ i.
       record {
         terms = o .terms i;
-        input = (o .input ∙ sym (map-id (dataIn s f))) i;
+        input = (o .input ∙ sym (map-id (rules.dataBehind (startReadIn s f)))) i;
         lowWater = f .«low_water»;
-        hidden = rules.hidesLF x && eqb (f .«end_of_prompt») 0;
+        hidden = rules.hidesInput x;
         from = l .flow .terminal .screen .column;
         idle = 0;
       }
 
   module _ (t before t′ m′ text′ : List ℕ) (r : Work) where
     begins-does : Does (rules.begins codes x (readingOf opened (readingAt s f (l .flow .terminal .screen .column)))) (on opened (begunWork l 0)) t before (on (lent T text′ opened) r) t′ m′ →
-        Does (rules.begins codes x (rules.readingOf codes x (view l))) (begun l) t before (on (lent T text′ opened) r) t′ m′
+        Does (rules.begins codes x (rules.openedRead codes x (view l))) (begun l) t before (on (lent T text′ opened) r) t′ m′
     begins-does d = at-view unseen (for-equal (rules.begins codes x) read-begins d)
 
     remembers-does : Does (rules.remembersSet codes x) (on (lent T text′ opened) r) t′ m′ (on (lent T text′ (onOpened T S X Z l)) r) t′ m′
@@ -170,7 +168,7 @@ module _ (s : List ℕ) (l : Line) (f : StartReadFields) (a : Accepted l s (Star
         by-choice true e =
             let set = o .last ∙ pick-true _ _ e in
             only-does _ e
-            (changes-does t′ m′ (λ z. withHost (withLastSet (partOf s (f .set)) (z .host)) z)
+            (changes-does t′ m′ _
             (λ i. withHost (withLastSet (set i) (view opened .host)) (view (onFlow (r .flow) (lent T text′ opened)))) refl refl)
         by-choice false e =
             let set = o .last ∙ pick-false _ _ e in
@@ -180,8 +178,7 @@ module _ (s : List ℕ) (l : Line) (f : StartReadFields) (a : Accepted l s (Star
     pub start-does : Does (rules.begins codes x (readingOf opened (readingAt s f (l .flow .terminal .screen .column)))) (on opened (begunWork l 0)) t before (on (lent T text′ opened) r) t′ m′ →
         Does (rules.startsRead codes x) (begun l) t before (on (lent T text′ (onOpened T S X Z l)) r) t′ m′
     unfolding rules.startsRead
-    start-does d =
-        here-does (λ z. rules.begins codes x (rules.readingOf codes x z) then rules.remembersSet codes x) (then-does (begins-does d) remembers-does)
+    start-does d = here-part refl (then-does (begins-does d) remembers-does)
 
 -- nothing was set or reported before the call's work
 begun-as : {p : Part ℕ} {r : Progress} {t t′ m′ before mid : List ℕ} (l next : Line) (place : ℕ) → next ≡ l → NoReport before place mid →
@@ -220,7 +217,7 @@ module _ (s t before mid t′ m′ text′ : List ℕ) (l next : Line) (place : 
       Does initiates (begun l) t before (on (lent (next .terms) text′ next) r) t′ m′
   unfolding initiates
   initiate-turns e i d =
-      then-does (changes-does t before (λ z. withHost (withBegun true (z .host)) z) (ap view e) refl refl) (begun-as next next place refl i d)
+      then-does (changes-does t before _ (ap view e) refl refl) (begun-as next next place refl i d)
 
   report-turns : (p : Part.Part) → Accepted l s (ReadCharacteristics p) → next ≡ l →
       Puts (reportBytes (hostOf next) (partOf s p)) before 0 place mid →
@@ -231,7 +228,7 @@ module _ (s t before mid t′ m′ text′ : List ℕ) (l next : Line) (place : 
       let known = subst (λ z. carriesQuestions (view z) (questionsIn (partOf s p)) ≡ true) (sym e) (questions-known l s p a) in
       let bytes = report-carried (hostOf next) (partOf s p) (view next) known in
       subst (λ z. Does (reports (questionsIn (partOf s p))) (begun z) t before (on (lent (next .terms) text′ next) r) t′ m′) e
-      (here-does (λ z. sends (report (z .host) (questionsIn (partOf s p))))
+      (here-part refl
       (still-behind (sent-does {w = begunWork next 0} {v = begunWork next place} _ (equals bytes puts) refl next t) d))
 
   settings-turns : (p : Part.Part) → Sets (partOf s p) l next → NoReport before place mid →
@@ -240,7 +237,7 @@ module _ (s t before mid t′ m′ text′ : List ℕ) (l next : Line) (place : 
   unfolding obeys pick setsCharacteristics
   settings-turns p e i d =
       let seen = ap view (e .same) ∙ (λ j. withHost (e .settings j) (view l)) in
-      still-behind (changes-does t before (λ z. withHost (withParameters (parametersFrom 11 0 (partOf s p)) (z .host)) z) seen refl refl)
+      still-behind (changes-does t before _ seen refl refl)
       (begun-as next next place refl i d)
 
   pub host-does : (m : HostMessage) → Accepted l s m → length (l .keys) ≡ typeAheadSize → length (next .keys) ≡ typeAheadSize → SetBy s m l next →

@@ -35,7 +35,7 @@ use Rattle.line.specs.Promise.{Progress, on, Does}
 use Rattle.rules.proofs.Tests.{pick-true, pick-false}
 use Rattle.line.proofs.Works.{changes-does, still-does}
 use Rattle.line.proofs.Appends.{input-length}
-use Rattle.line.proofs.Held.{tokened-token}
+use Rattle.line.proofs.TokenBytes.{tokened-token}
 
 module _ {w r : Progress} {t t′ m m′ : List ℕ} where
   -- the same bytes by another name

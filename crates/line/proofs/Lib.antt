@@ -1,6 +1,6 @@
 mod Works
 mod KeyArrays
-mod Held
+mod TokenBytes
 mod Words
 mod Inputs
 mod Appends
@@ -19,7 +19,7 @@ mod Accepts
 mod Acting
 mod Answering
 mod Evented
-mod Considered
+mod ReceivedMessage
 mod Blanking
 pub mod Chains
 mod HostTurns

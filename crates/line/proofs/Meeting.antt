@@ -17,11 +17,11 @@ use Rattle.line.specs.declared.events.HostMessage.{HostMessage}
 use Rattle.line.specs.declared.events.Event.{Event}
 use Rattle.line.specs.declared.events.Event.the-variants.{Key, Tick, Step, Host}
 use Rattle.line.specs.declared.events.Seen.{Seen}
-use Rattle.line.specs.Events.{Admitted, Sees, isActOf, eventPart, eventOf}
-use Rattle.line.specs.Answers.{Answers, doneAnswer}
+use Rattle.line.specs.Events.{Sees, isActOf, eventPart}
+use Rattle.line.specs.Answers.{Answers}
 use Rattle.line.specs.Bounded.{Counted, Bounded}
-use Rattle.line.proofs.Evented.{event-answers, event-bytes}
-use Rattle.line.proofs.Answering.{begun, answered}
+use Rattle.line.proofs.Evented.{eventOf, Admitted, event-answers, event-bytes}
+use Rattle.line.proofs.Answering.{doneAnswer, begun, answered}
 use Rattle.line.specs.View.{view, pendingOf, readingOf}
 use Rattle.line.specs.Promise.{Progress, Does}
 use Rattle.line.specs.Acts.{keyTaken, takesKey, actPart, Ready, effectOf, Meets}

@@ -14,7 +14,7 @@ use Rattle.line.specs.declared.Flow.{Flow}
 use Rattle.line.specs.View.{keysOf, tokenOf, typedOf, inputOf}
 use Rattle.line.specs.Bounded.{CountedTyped, CountedFlow, CountedReading}
 use Rattle.line.proofs.KeyArrays.{keys-length, keys-empty}
-use Rattle.line.proofs.Held.{empty-take, token-counted}
+use Rattle.line.proofs.TokenBytes.{empty-take, token-counted}
 use Rattle.line.proofs.Appends.{input-empty}
 
 pub waiting-count : (keys : List ℕ) (t : Typed) → CountedTyped t → t .waiting + t .«token_len» ≡ waitingCount (typedOf keys t)

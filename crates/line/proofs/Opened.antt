@@ -21,7 +21,7 @@ use Rattle.characteristics.specs.View.{setOf, CountedSet}
 use Rattle.line.specs.declared.Terms.{Terms}
 use Rattle.line.specs.declared.Line.{Line}
 use Rattle.line.specs.View.{view, termsOf, inputOf, promptOf}
-use Rattle.line.specs.Starts.{Startable, promptIn, dataIn, termsFor, onOpened, Opens}
+use Rattle.line.specs.Starts.{Startable, termsFor, onOpened, Opens}
 
 -- a text copied to the front of an array
 module _ (s area : List ℕ) {area′ : List ℕ} {n : ℕ} (count : n ≡ length s) (e : area′ ≡ take (length s) s ++ drop (length s) area) where
@@ -100,8 +100,8 @@ module _ {s : List ℕ} {f : StartReadFields} (k : Startable s f) where
   pub prompt-within : {text : List ℕ} → text ≡ partOf s (f .text) → f .«end_of_prompt» ≤ length text
   prompt-within e = let same = ap length e in omega arith
 
-  prompt-short : length (promptIn s f) ≤ f .«end_of_prompt»
-  unfolding promptIn
+  prompt-short : length (rules.shownPrompt (startReadIn s f)) ≤ f .«end_of_prompt»
+  unfolding rules.shownPrompt startReadIn
   prompt-short =
       let text = partOf s (f .text) in
       let hidden = bit (hidesLF (startReadIn s f)) in
@@ -109,11 +109,11 @@ module _ {s : List ℕ} {f : StartReadFields} (k : Startable s f) where
       let left = length-drop hidden (take (f .«end_of_prompt») text) in
       omega arith
 
-  data-long : length (dataIn s f) ≡ f .«end_of_data» - f .«end_of_prompt»
-  unfolding dataIn
+  data-long : length (rules.dataBehind (startReadIn s f)) ≡ f .«end_of_data» - f .«end_of_prompt»
+  unfolding rules.dataBehind startReadIn
   data-long = length-drop (f .«end_of_prompt») (partOf s (f .text)) ∙ ap (λ n. n - f .«end_of_prompt») (k .text)
 
-  pub pieces-fit : {shown typed : List ℕ} → shown ≡ promptIn s f → typed ≡ dataIn s f → length shown + length typed ≤ inputSize
+  pub pieces-fit : {shown typed : List ℕ} → shown ≡ rules.shownPrompt (startReadIn s f) → typed ≡ rules.dataBehind (startReadIn s f) → length shown + length typed ≤ inputSize
   pieces-fit p d =
       let a = ap length p in
       let b = ap length d in
@@ -122,15 +122,15 @@ module _ {s : List ℕ} {f : StartReadFields} (k : Startable s f) where
       omega arith
 
   -- the line with all that is fixed for the read
-  module _ (l : Line) (full : length (l .text) ≡ inputSize) (shown typed : List ℕ) (p : shown ≡ promptIn s f) (d : typed ≡ dataIn s f)
+  module _ (l : Line) (full : length (l .text) ≡ inputSize) (shown typed : List ℕ) (p : shown ≡ rules.shownPrompt (startReadIn s f)) (d : typed ≡ rules.dataBehind (startReadIn s f))
       {terms : Terms} (t : terms ≡ termsFor f (l .switches) (l .flow .terminal .screen) (length shown))
       (chosen last : Set) (c : (setOf chosen ≡ chosenSet (setOf (l .«last_set»)) (startReadIn s f)) × CountedSet chosen)
       (z : (setOf last ≡ pick (eqb (f .«set_choice») 1) (partOf s (f .set)) (setOf (l .«last_set»))) × CountedSet last) where
     abbrev opened : Line
     opened = onOpened terms chosen (placed (l .text) typed shown full (pieces-fit p d)) last l
 
-    opened-terms : termsOf opened ≡ rules.termsOf codes (startReadIn s f) (view l)
-    unfolding rules.termsOf startReadIn promptIn
+    opened-terms : termsOf opened ≡ rules.openedTerms codes (startReadIn s f) (view l)
+    unfolding rules.openedTerms startReadIn
     opened-terms =
         let room = pieces-fit p d in
         let prompt = placed-prompt (l .text) typed shown full room ∙ p in
@@ -152,7 +152,7 @@ module _ {s : List ℕ} {f : StartReadFields} (k : Startable s f) where
           line = l .flow .terminal .screen .line;
         })
 
-    opened-input : inputOf (f .«end_of_data» - f .«end_of_prompt») (opened .text) ≡ dataIn s f
+    opened-input : inputOf (f .«end_of_data» - f .«end_of_prompt») (opened .text) ≡ rules.dataBehind (startReadIn s f)
     unfolding inputOf
     opened-input =
         let n : f .«end_of_data» - f .«end_of_prompt» ≡ length typed = sym data-long ∙ ap length (sym d) in

@@ -75,18 +75,6 @@ module _ {g : Part ℕ} {w r : Progress} {t t′ m m′ : List ℕ} where
         messagesLength = h .messagesLength;
       }
 
--- a part that looks at its state
-module _ {w r : Progress} {t t′ m m′ : List ℕ} where
-  pub here-does : (F : State ℕ → Part ℕ) → Does (F (view (w .line))) w t m r t′ m′ → Does (λ s. F s s) w t m r t′ m′
-  here-does F h =
-      record {
-        state = h .state;
-        shows = h .shows;
-        sends = h .sends;
-        terminalLength = h .terminalLength;
-        messagesLength = h .messagesLength;
-      }
-
 -- A choice of parts.
 module _ {test : Bool} (f g : Part ℕ) {w r : Progress} {t t′ m m′ : List ℕ} where
   pub first-does : test ≡ true → Does f w t m r t′ m′ → Does (pick test f g) w t m r t′ m′

@@ -8,8 +8,8 @@ use Rattle.rules.specs.Numbers.{typeAheadSize, tokenSize}
 use Rattle.rules.specs.State as rules
 use Rattle.rules.specs.State.{State, codes, withIdle}
 use Rattle.rules.specs.Turns.{Turn, Part, still, changes, _then_}
-use Rattle.rules.specs.ReadData.{byTimeout, completes}
-use Rattle.rules.specs.Arrival.{stores, storesQuoted, sendsOutOfBand, clearsAtOnce, quotes, clears, flipsDiscard}
+use Rattle.rules.specs.ReadData.{noEnding, byTimeout, completes}
+use Rattle.rules.specs.Arrival.{stores, storesQuoted, sendsOutOfBand, clearsAtOnce, quoteKey, quotes, rubbingOut, clearRule, discardKey, flipsDiscard}
 use Rattle.rules.specs.Steps as steps
 use Rattle.rules.specs.Steps.{takesToken, addsToToken, terminates, edits, takesData, setsIdle}
 use Rattle.rules.specs.Calls.{messageBytes}
@@ -49,7 +49,7 @@ takenPart (Terminator c) r = terminates codes c r
 takenPart (Edit c) r = edits codes c r
 takenPart (Data c) r = takesData codes c r
 
--- The part of the rules that an act is; `s` is the slice of a host message. `quotes` and `flipsDiscard` want their key, rule 3's 22 and 15, only
+-- The part of the rules that an act is; `s` is the slice of a host message. `quotes` and `flipsDiscard` want their key only
 -- to say what became of it.
 abbrev pub actPart : List ℕ → Line → Act → Part ℕ
 actPart s l Nothing = still
@@ -57,12 +57,12 @@ actPart s l (Stores c) = stores typeAheadSize false c
 actPart s l (StoresQuoted c) = storesQuoted c
 actPart s l (SendsOutOfBand c) = sendsOutOfBand codes c
 actPart s l (ClearsAtOnce c) = clearsAtOnce codes c
-actPart s l Quotes = quotes 22
-actPart s l Clears = clears codes
-actPart s l FlipsDiscard = flipsDiscard 15
+actPart s l Quotes = quotes quoteKey
+actPart s l Clears = clearRule codes rubbingOut
+actPart s l FlipsDiscard = flipsDiscard discardKey
 actPart s l TakesToken = takesToken codes (readingOf l (l .flow .reading))
 actPart s l (Takes k) = takesKey l then takenPart k (idleAtZero l)
-actPart s l TimesOut = completes codes byTimeout 0 (readingOf l (l .flow .reading))
+actPart s l TimesOut = completes codes byTimeout noEnding (readingOf l (l .flow .reading))
 actPart s l (Idles idle) = setsIdle idle (readingOf l (l .flow .reading))
 actPart s l (Obeys m) = obeysHeld (heldIn s (messageOf m))
 

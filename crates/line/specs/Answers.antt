@@ -3,6 +3,7 @@ use Prim.Native.Nat.{ℕ}
 use mathlib.Core.Path.{_≡_}
 use mathlib.Core.List.{List}
 use lib.ListN.{length}
+use Rattle.rules.specs.Numbers.{accepted}
 use Rattle.rules.specs.State.{codes}
 use Rattle.rules.specs.Calls as rules
 use Rattle.rules.specs.Calls.{Event, messageBytes, areaAfter}
@@ -10,7 +11,6 @@ use Rattle.line.specs.declared.Line.{Line}
 use Rattle.line.specs.declared.Answer.{Answer}
 use Rattle.line.specs.View.{view}
 use Rattle.line.specs.Bounded.{Bounded}
-use Rattle.line.specs.Promise.{Progress}
 
 -- the rules' answer to an event, from the line's view, in areas of these lengths
 abbrev pub ruled : Event ℕ → Line → List ℕ → List ℕ → rules.Answer ℕ
@@ -26,11 +26,7 @@ pub record Answers (e : Event ℕ) (l : Line) (terminal messages : List ℕ) (r 
   pub messageArea : messages′ ≡ areaAfter (messageBytes codes (ruled e l terminal messages .turn)) messages
   pub bounded : Bounded (r .line)
   -- a refusal hands the very line back
-  pub same : (r .number ≡ 0 → ⊥) → r .line ≡ l
+  pub same : (r .number ≡ accepted → ⊥) → r .line ≡ l
 
 abbrev pub refusal : ℕ → Line → Answer
 refusal n l = record { line = l; number = n; terminal = 0; messages = 0 }
-
--- what a call that is done answers
-abbrev pub doneAnswer : Progress → Answer
-doneAnswer w = record { line = w .line; number = 0; terminal = w .at; messages = w .sent }

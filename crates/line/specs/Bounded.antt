@@ -4,7 +4,7 @@ use mathlib.Core.Path.{_≡_}
 use mathlib.Core.Bool.{false}
 use mathlib.Core.List.{List}
 use lib.ListN.{length}
-use Rattle.rules.specs.Numbers.{inputSize, typeAheadSize, tokenSize}
+use Rattle.rules.specs.Numbers.{codeCount, inputSize, typeAheadSize, tokenSize}
 use Rattle.rules.specs.Bounds as rules
 use Rattle.rules.specs.State as state
 use Rattle.characteristics.specs.View.{CountedSet}
@@ -30,7 +30,7 @@ pub record CountedReading (r : Reading) (text : List ℕ) : Type 0 where
   pub full : length text ≡ inputSize
 
 pub record Counted (l : Line) : Type 0 where
-  pub table : length (l .attributes) ≡ 256
+  pub table : length (l .attributes) ≡ codeCount
   pub keys : length (l .keys) ≡ typeAheadSize
   pub text : length (l .text) ≡ inputSize
   pub set : CountedSet (l .set)

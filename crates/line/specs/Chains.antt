@@ -8,6 +8,7 @@ use lib.ListN.{length, take}
 use Rattle.rules.specs.Choice.{pick}
 use Rattle.rules.specs.Messages.Layout.{byteAt}
 use Rattle.rules.specs.Messages.Forms.{readData}
+use Rattle.rules.specs.ReadData.{readDataHeader}
 use Rattle.rules.specs.Calls.{Event, Call, areaAfter}
 use Rattle.rules.specs.Bounds.{isByteEvent}
 use Rattle.rules.specs.Bench.{Exchange, runs, starred, warned}
@@ -54,9 +55,9 @@ callsOf ks = map callOf ks
 
 -- What everyone sees of a link.
 
--- how many bytes of a message of this type and length are DATA: of Read Data all behind the 8 of its type and head
+-- how many bytes of a message of this type and length are DATA: of Read Data all behind its type and head
 unfoldable pub hiddenBytes : ℕ → ℕ → ℕ
-hiddenBytes kind size = pick (eqb kind readData) (size - 8) 0
+hiddenBytes kind size = pick (eqb kind readData) (size - readDataHeader) 0
 
 -- The bytes of a message area with those of DATA blanked, by a walk that shows so many bytes, then hides so many, and then stands at the
 -- two bytes of the next message's length, which with its type say how it goes on.

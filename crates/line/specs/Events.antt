@@ -1,5 +1,5 @@
 -- Events: what each is of the rules, and what is seen of the line before it. A host message stands in a slice.
-use Prim.Native.Nat.{ℕ, _<_}
+use Prim.Native.Nat.{ℕ}
 use mathlib.Core.Path.{_≡_}
 use mathlib.Core.Bool.{Bool}
 use mathlib.Core.List.{List}
@@ -9,7 +9,6 @@ use Rattle.rules.specs.Turns.{Part}
 use Rattle.rules.specs.Arrival.{arrives}
 use Rattle.rules.specs.Token.{isWhole}
 use Rattle.rules.specs.Steps.{steps, ticks}
-use Rattle.rules.specs.Calls as rules
 use Rattle.message.specs.Found.{heldIn}
 use Rattle.line.specs.declared.Line.{Line}
 use Rattle.line.specs.declared.events.Seen.{Seen}
@@ -20,13 +19,6 @@ use Rattle.line.specs.TokenParts.{codesOf}
 use Rattle.line.specs.Acts.{callsOf, TakesFirst}
 use Rattle.line.specs.Bounded.{Bounded}
 use Rattle.line.specs.HostMessages.{messageOf, Accepted, obeysHeld}
-
--- a key is a byte, and a message is one that the line accepts
-abbrev pub Admitted : Line → List ℕ → Event → Type 0
-Admitted l s (Key c) = c < 256
-Admitted l s Tick = Unit {0}
-Admitted l s Step = Unit {0}
-Admitted l s (Host m) = Accepted l s m
 
 -- what a step looks at
 pub record SeesStep (s : List ℕ) (l : Line) (seen : Seen) : Type 0 where
@@ -54,9 +46,3 @@ eventPart s (Key c) = arrives codes c
 eventPart s Tick = ticks codes
 eventPart s Step = steps codes
 eventPart s (Host m) = obeysHeld (heldIn s (messageOf m))
-
-unfoldable pub eventOf : List ℕ → Event → rules.Event ℕ
-eventOf s (Key c) = rules.key c
-eventOf s Tick = rules.tick
-eventOf s Step = rules.step
-eventOf s (Host m) = rules.message s

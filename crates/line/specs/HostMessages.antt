@@ -10,11 +10,11 @@ use Rattle.rules.specs.Messages.Forms.{plain, unread}
 use Rattle.rules.specs.Messages.Codec as codec
 use Rattle.rules.specs.Messages.Codec.{Held, sound, allBytes}
 use Rattle.rules.specs.ReadData.{unreads, checksInput}
-use Rattle.rules.specs.Arrival.{clears}
+use Rattle.rules.specs.Arrival.{rubbingOut, clearRule}
 use Rattle.rules.specs.StartRead.Acceptance.{begins}
 use Rattle.rules.specs.Host.{ourInitiate, writesOut, obeys}
 use Rattle.rules.specs.Characteristics.{withParameters}
-use Rattle.rules.specs.Calls.{considered}
+use Rattle.rules.specs.Calls.{received}
 use Rattle.areas.specs.Puts.{Puts}
 use Rattle.parameters.specs.Lists.{parametersFrom}
 use Rattle.characteristics.specs.Lists.{reportBytes}
@@ -65,7 +65,7 @@ senderOf (message.Other kind body) = sender.Server
 pub record Accepted (l : Line) (s : List ℕ) (m : HostMessage) : Type 0 where
   pub fields : forms.Message ℕ
   pub held : heldIn s (messageOf m) ≡ codec.message fields
-  pub taken : considered (view l) s ≡ sound fields
+  pub taken : received (view l) s ≡ sound fields
   pub bytes : allBytes s ≡ true
 
 -- a message held as a bare type and body is never accepted; `obeys` takes a type that it does not name as Check Input, and so does this
@@ -79,7 +79,7 @@ flowPart s l (Initiate f) = sends ourInitiate
 flowPart s l (StartRead f) =
     begins codes (startReadIn s f) (readingOf l (readingAt s f (l .flow .terminal .screen .column)))
 flowPart s l (Unread condition) = unreads codes (plain unread (condition ∷ []))
-flowPart s l ClearInput = clears codes
+flowPart s l ClearInput = clearRule codes rubbingOut
 flowPart s l (Write f) = writesOut (writeIn s f)
 flowPart s l (ReadCharacteristics p) = still
 flowPart s l (Characteristics p) = still

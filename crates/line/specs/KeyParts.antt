@@ -4,6 +4,7 @@ use mathlib.Core.List.{List, [], _∷_}
 use lib.ListN.{set}
 use Rattle.line.specs.declared.Flow.{Flow}
 use Rattle.line.specs.declared.Line.{Line}
+use Rattle.line.specs.View.{quotedMark}
 use Rattle.line.specs.With.{onKeys}
 use Rattle.line.specs.declared.acts.Act.{Act}
 use Rattle.line.specs.declared.acts.Act.the-variants.{Nothing, Stores, StoresQuoted, SendsOutOfBand, ClearsAtOnce, Quotes, Clears, FlipsDiscard}
@@ -20,7 +21,7 @@ shift (suc n) (k ∷ next ∷ keys) = next ∷ shift n (next ∷ keys)
 abbrev pub keysAfter : Act → ℕ → List ℕ → List ℕ
 keysAfter Nothing waiting keys = keys
 keysAfter (Stores c) waiting keys = set keys waiting c
-keysAfter (StoresQuoted c) waiting keys = set keys waiting (c + 256)
+keysAfter (StoresQuoted c) waiting keys = set keys waiting (c + quotedMark)
 keysAfter (SendsOutOfBand c) waiting keys = keys
 keysAfter (ClearsAtOnce c) waiting keys = keys
 keysAfter Quotes waiting keys = keys

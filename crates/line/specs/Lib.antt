@@ -9,6 +9,6 @@ pub mod Starts
 pub mod HostMessages
 pub mod Acts
 pub mod Events
-pub mod Rows
+pub mod Refusals
 pub mod Answers
 pub mod Chains

@@ -4,12 +4,13 @@ use mathlib.Core.Path.{_≡_}
 use mathlib.Core.Bool.{_&&_}
 use mathlib.Core.List.{List}
 use lib.Dec.{eqb}
-use lib.ListN.{length, take, drop}
+use lib.ListN.{length}
 use Rattle.rules.specs.Numbers.{inputSize}
-use Rattle.rules.specs.Choice.{pick, bit}
+use Rattle.rules.specs.Choice.{pick}
+use Rattle.rules.specs.Messages.Codec.{setSize}
 use Rattle.rules.specs.State.{codes}
 use Rattle.rules.specs.StartRead.Acceptance as rules
-use Rattle.rules.specs.StartRead.Acceptance.{hidesLF}
+use Rattle.rules.specs.StartRead.Acceptance.{dataBehind, hidesInput}
 use Rattle.message.specs.declared.StartReadFields.{StartReadFields}
 use Rattle.message.specs.Found.{partOf, startReadIn}
 use Rattle.screen.specs.declared.Screen.{Screen}
@@ -26,14 +27,7 @@ pub record Startable (s : List ℕ) (f : StartReadFields) : Type 0 where
   pub prompt : f .«end_of_prompt» ≤ f .«end_of_data»
   pub within : f .«end_of_data» ≤ f .«max_length»
   pub largest : f .«max_length» ≤ inputSize
-  pub set : length (partOf s (f .set)) ≤ 32
-
--- the prompt as it is displayed, and what the text has behind it
-unfoldable pub promptIn : List ℕ → StartReadFields → List ℕ
-promptIn s f = drop (bit (hidesLF (startReadIn s f))) (take (f .«end_of_prompt») (partOf s (f .text)))
-
-unfoldable pub dataIn : List ℕ → StartReadFields → List ℕ
-dataIn s f = drop (f .«end_of_prompt») (partOf s (f .text))
+  pub set : length (partOf s (f .set)) ≤ setSize
 
 -- the read as it begins, at this column
 abbrev pub readingAt : List ℕ → StartReadFields → ℕ → Reading
@@ -41,7 +35,7 @@ readingAt s f column =
     record {
       count = f .«end_of_data» - f .«end_of_prompt»;
       «low_water» = f .«low_water»;
-      hidden = hidesLF (startReadIn s f) && eqb (f .«end_of_prompt») 0;
+      hidden = hidesInput (startReadIn s f);
       from = column;
       idle = 0;
     }
@@ -84,8 +78,8 @@ onOpened terms set text last l =
 -- the line with all that a Start Read fixes for its read
 pub record Opens (s : List ℕ) (f : StartReadFields) (l next : Line) : Type 0 where
   pub same : next ≡ onOpened (next .terms) (next .set) (next .text) (next .«last_set») l
-  pub terms : termsOf next ≡ rules.termsOf codes (startReadIn s f) (view l)
-  pub input : inputOf (f .«end_of_data» - f .«end_of_prompt») (next .text) ≡ dataIn s f
+  pub terms : termsOf next ≡ rules.openedTerms codes (startReadIn s f) (view l)
+  pub input : inputOf (f .«end_of_data» - f .«end_of_prompt») (next .text) ≡ dataBehind (startReadIn s f)
   pub prompting : next .terms .«auto_prompt» ≡ l .switches .prompting
   pub last : setOf (next .«last_set») ≡ pick (eqb (f .«set_choice») 1) (partOf s (f .set)) (setOf (l .«last_set»))
   pub size : length (next .text) ≡ inputSize

@@ -20,9 +20,13 @@ abbrev pub terminalOf : Terminal → rules.Terminal
 terminalOf t =
     record { screen = screen.view (t .screen); discarding = t .discarding; quoting = t .quoting; dropped = t .dropped }
 
--- a key as its array has it: its code, and 256 more if it is quoted
+-- what a quoted key has above its code
+abbrev pub quotedMark : ℕ
+quotedMark = 256
+
+-- a key as its array has it: its code, and the mark if it is quoted
 abbrev pub keyOf : ℕ → rules.Key ℕ
-keyOf k = record { char = k % 256; quoted = leb 256 k }
+keyOf k = record { char = k % quotedMark; quoted = leb quotedMark k }
 
 -- the first so many keys of an array; behind its end stand keys of code 0
 unfoldable pub keysOf : ℕ → List ℕ → List (rules.Key ℕ)

@@ -156,7 +156,7 @@ impl Work {
         requires { ⌜ CountedFlow (self .flow) ⌝ }
         requires { ⌜ r .count ≤ inputSize ⌝ }
         ensures counted { λ w. ⌜ CountedFlow (w .flow) ⌝ }
-        ensures rule { λ w. ⌜ ((text : List ℕ) (l : Line) (a m : List ℕ) → DoesOn (λ k. rules.clearsUnseen (pendingOf pending (readingOf k r))) (lent t text l) self a m w a m) ⌝ }
+        ensures rule { λ w. ⌜ ((text : List ℕ) (l : Line) (a m : List ℕ) → DoesOn (λ k. rules.clearsInput codes rules.withoutRubbing (pendingOf pending (readingOf k r))) (lent t text l) self a m w a m) ⌝ }
     {
         if pending {
             return self.deletes_unseen(0, r, t);
@@ -176,7 +176,7 @@ impl Work {
         requires { ⌜ CountedFlow (self .flow) ⌝ }
         requires { ⌜ CountedReading r (now text) ⌝ }
         ensures counted { λ w. ⌜ CountedFlow (w .flow) ⌝ }
-        ensures rule { λ w. ⌜ ((l : Line) (m : List ℕ) → DoesOn (λ k. rules.clearsSeen codes (pendingOf pending (readingOf k r))) (lent t (now (text .entry)) l) self (now (terminal .entry)) m w (now (terminal .exit)) m) ⌝ }
+        ensures rule { λ w. ⌜ ((l : Line) (m : List ℕ) → DoesOn (λ k. rules.clearsInput codes rules.rubbingOut (pendingOf pending (readingOf k r))) (lent t (now (text .entry)) l) self (now (terminal .entry)) m w (now (terminal .exit)) m) ⌝ }
     {
         if pending {
             return self.deletes(terminal, 0, r, text, t);
@@ -189,11 +189,11 @@ impl Work {
         requires { ⌜ CountedFlow (self .flow) ⌝ }
         requires { ⌜ length (now text) ≡ inputSize ⌝ }
         ensures counted { λ w. ⌜ CountedFlow (w .flow) ⌝ }
-        ensures rule { λ w. ⌜ ((l : Line) (m : List ℕ) → DoesOn (λ k. rules.clears codes) (lent t (now (text .entry)) l) self (now (terminal .entry)) m w (now (terminal .exit)) m) ⌝ }
+        ensures rule { λ w. ⌜ ((l : Line) (m : List ℕ) → DoesOn (λ k. rules.clearRule codes rules.rubbingOut) (lent t (now (text .entry)) l) self (now (terminal .entry)) m w (now (terminal .exit)) m) ⌝ }
     {
-        let flow = self.flow;
-        let reading = flow.reading;
         let next = self.empties_typed();
+        let flow = next.flow;
+        let reading = flow.reading;
         next.clears_seen(terminal, flow.pending, reading, text, t)
     }
 
@@ -270,7 +270,7 @@ fn act_of_control(c: u8) -> Act
 impl Flow {
     // Rules 1 to 4: the first that applies is the only one.
     fn act_after_initiate(self, c: u8, attribute: u8, t: Terms) -> Act
-        ensures rule { λ a. ⌜ ((s : List ℕ) (l : Line) → attribute ≡ getD (l .attributes) c 0 → Meets (rules.ruled codes c) s (onFlow self (lent t (l .text) l)) a) ⌝ }
+        ensures rule { λ a. ⌜ ((s : List ℕ) (l : Line) → attribute ≡ getD (l .attributes) c 0 → Meets (rules.byFirstRule codes c) s (onFlow self (lent t (l .text) l)) a) ⌝ }
         ensures kind { λ a. ⌜ callsOf a .key ≡ true ⌝ }
     {
         let known = self.terminal;

@@ -11,7 +11,7 @@ ghost use Rattle.rules.specs.StartRead.Acceptance as rules;
 ghost use Rattle.message.specs.Found.{partOf, startReadIn};
 ghost use Rattle.characteristics.specs.View.{setOf, CountedSet};
 ghost use Rattle.line.specs.Bounded.{Counted};
-ghost use Rattle.line.specs.Starts.{Startable, promptIn, dataIn, readingAt, termsFor, Opens};
+ghost use Rattle.line.specs.Starts.{Startable, readingAt, termsFor, Opens};
 use crate::Line;
 use crate::Reading;
 use crate::Terms;
@@ -22,9 +22,9 @@ use message::StartReadFields;
 use screen::Screen;
 
 // ZZ.
-const LAST_SET: u8 = 0;
+const CHOOSES_LAST: u8 = 0;
 
-const THIS_SET: u8 = 1;
+const CHOOSES_THIS: u8 = 1;
 
 // II and EE: 0 leaves it to the characteristic, 1 is off, 2 is on.
 fn chosen(n: u8, characteristic: bool) -> bool
@@ -53,10 +53,10 @@ fn chosen_set(last: Set, f: StartReadFields, s: &[u8]) -> Set
     ensures { λ r. ⌜ (setOf r ≡ fields.chosenSet (setOf last) (startReadIn (now (s .entry)) f)) × CountedSet r ⌝ }
 {
     let choice = f.set_choice;
-    if choice == LAST_SET {
+    if choice == CHOOSES_LAST {
         return last;
     }
-    if choice == THIS_SET {
+    if choice == CHOOSES_THIS {
         let part = f.set;
         let given = message::bytes_of(s, part);
         return set_of(given);
@@ -70,7 +70,7 @@ fn last_set(last: Set, f: StartReadFields, s: &[u8]) -> Set
     requires { ⌜ length (partOf (now s) (f .set)) ≤ 32 ⌝ }
     ensures { λ r. ⌜ (setOf r ≡ pick (eqb (f .«set_choice») 1) (partOf (now (s .entry)) (f .set)) (setOf last)) × CountedSet r ⌝ }
 {
-    if f.set_choice == THIS_SET {
+    if f.set_choice == CHOOSES_THIS {
         let part = f.set;
         let given = message::bytes_of(s, part);
         return set_of(given);
@@ -102,7 +102,7 @@ fn front_of(text: &[u8], end: usize, hidden: bool) -> &[u8]
 // The prompt as it is displayed.
 fn prompt_of(f: StartReadFields, s: &[u8]) -> &[u8]
     requires { ⌜ Startable (now s) f ⌝ }
-    ensures { λ r. ⌜ now r ≡ promptIn (now (s .entry)) f ⌝ }
+    ensures { λ r. ⌜ now r ≡ rules.shownPrompt (startReadIn (now (s .entry)) f) ⌝ }
 {
     let hidden = hides_lf(f, s);
     let part = f.text;
@@ -113,7 +113,7 @@ fn prompt_of(f: StartReadFields, s: &[u8]) -> &[u8]
 // What the text has behind the prompt.
 fn data_of(f: StartReadFields, s: &[u8]) -> &[u8]
     requires { ⌜ Startable (now s) f ⌝ }
-    ensures { λ r. ⌜ now r ≡ dataIn (now (s .entry)) f ⌝ }
+    ensures { λ r. ⌜ now r ≡ rules.dataBehind (startReadIn (now (s .entry)) f) ⌝ }
 {
     let part = f.text;
     let text = message::bytes_of(s, part);

@@ -13,14 +13,16 @@ ghost use Rattle.line.specs.View.{view};
 ghost use Rattle.line.specs.Bounded.{Counted};
 ghost use Rattle.line.specs.HostMessages.{messageOf};
 ghost use Rattle.line.specs.Answers.{refusal};
-ghost use Rattle.line.specs.Rows.{rowOf, firstRow, earlyRow};
+ghost use Rattle.line.specs.Refusals.{rowOf, firstRow, earlyRow};
 use crate::Answer;
 use crate::Line;
 use crate::events::HostMessage;
 use message::StartReadFields;
 use message::WriteFields;
 
-// The rows of the table.
+// The rows of the table, and 0 where none applies.
+const ACCEPTED: u8 = 0;
+
 const SMALL_AREA: u8 = 1;
 
 const WRONG_LENGTH: u8 = 2;
@@ -36,6 +38,18 @@ const INITIATE: u8 = 1;
 
 const START_READ: u8 = 2;
 
+const READ_DATA: u8 = 3;
+
+const OUT_OF_BAND: u8 = 4;
+
+const WRITE_COMPLETION: u8 = 8;
+
+const DISCARD_STATE: u8 = 9;
+
+const INPUT_COUNT: u8 = 13;
+
+const INPUT_STATE: u8 = 14;
+
 // Both areas are large enough.
 pub(crate) fn are_roomy(terminal: usize, messages: usize) -> bool
     ensures { λ r. ⌜ r ≡ areRoomy terminal messages ⌝ }
@@ -48,7 +62,7 @@ pub(crate) fn row_of(roomy: bool) -> u8
     ensures { λ r. ⌜ r ≡ rowOf roomy ⌝ }
 {
     if roomy {
-        return 0;
+        return ACCEPTED;
     }
     SMALL_AREA
 }
@@ -64,13 +78,13 @@ fn is_sound_length(size: usize) -> bool
 fn is_hosts(kind: u8) -> bool
     ensures { λ r. ⌜ r ≡ isHosts kind ⌝ }
 {
-    let servers = (kind == 3)
-        | (kind == 4)
-        | (kind == 8)
-        | (kind == 9)
-        | (kind == 13)
-        | (kind == 14);
-    (1 <= kind) & (kind <= 14) & !servers
+    let servers = (kind == READ_DATA)
+        | (kind == OUT_OF_BAND)
+        | (kind == WRITE_COMPLETION)
+        | (kind == DISCARD_STATE)
+        | (kind == INPUT_COUNT)
+        | (kind == INPUT_STATE);
+    (INITIATE <= kind) & (kind <= INPUT_STATE) & !servers
 }
 
 // Neither K nor V, and a display that starts at 0.
@@ -103,7 +117,7 @@ fn first_row(roomy: bool, sized: bool, hosts: bool, timely: bool) -> u8
     if !timely {
         return WRONG_TIME;
     }
-    0
+    ACCEPTED
 }
 
 // First Initiate, and only once; Start Read with no read pending.

@@ -7,7 +7,7 @@ ghost use Rattle.rules.specs.Numbers.{inputSize};
 ghost use Rattle.rules.specs.State.{codes};
 ghost use Rattle.rules.specs.Turns.{writes, only};
 ghost use Rattle.rules.specs.Arrival.{emptiesTyped};
-ghost use Rattle.rules.specs.ReadData.{byFullBuffer, completes};
+ghost use Rattle.rules.specs.ReadData.{noEnding, byFullBuffer, completes};
 ghost use Rattle.rules.specs.StartRead.Acceptance as rules;
 ghost use Rattle.message.specs.Found.{startReadIn};
 ghost use Rattle.line.specs.declared.Line.{Line};
@@ -63,7 +63,7 @@ impl Work {
         requires { ⌜ CountedFlow (self .flow) ⌝ }
         requires { ⌜ CountedReading r (now text) ⌝ }
         ensures counted { λ w. ⌜ CountedFlow (w .flow) ⌝ }
-        ensures rule { λ w. ⌜ ((l : Line) (a : List ℕ) → DoesOn (λ k. only full (completes codes byFullBuffer 0 (readingOf k r))) (lent t (now (text .entry)) l) self a (now (messages .entry)) w a (now (messages .exit))) ⌝ }
+        ensures rule { λ w. ⌜ ((l : Line) (a : List ℕ) → DoesOn (λ k. only full (completes codes byFullBuffer noEnding (readingOf k r))) (lent t (now (text .entry)) l) self a (now (messages .entry)) w a (now (messages .exit))) ⌝ }
     {
         if full {
             return self.completes(messages, ending::BUFFER_FULL, 0, r, text, t);

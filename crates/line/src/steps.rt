@@ -28,7 +28,7 @@ pub(crate) const DELETE_LINE: u8 = 21;
 pub(crate) const REDISPLAY: u8 = 18;
 
 // UU: what 127 or 23 does with nothing to delete.
-const UNDERFLOW_BEL: u8 = 1;
+const UNDERFLOW_RINGS: u8 = 1;
 
 const UNDERFLOW_COMPLETES: u8 = 2;
 
@@ -201,7 +201,7 @@ impl Work {
             let next = r.push(text, c);
             return self.completes(messages, ending::UNDERFLOW, 1, next, text, t);
         }
-        if underflow == UNDERFLOW_BEL {
+        if underflow == UNDERFLOW_RINGS {
             return self.put(terminal, BEL);
         }
         self

@@ -7,7 +7,7 @@ use mathlib.Core.List.{List, [], _∷_, map}
 use lib.Dec.{eqb, leb}
 use lib.ListN.{length, drop-of-length-le, length-drop}
 use borrow.Author.Tests.{le-leb, lt-leb, leb-true, leb-false}
-use Rattle.rules.specs.Choice.{pick, isEmpty, all}
+use Rattle.rules.specs.Choice.{pick, isEmpty, allAre}
 use Rattle.rules.specs.Messages.Layout.{byteAt, sizeOf}
 use Rattle.rules.specs.Messages.Parameters.{Shape, cleaned, cut}
 use Rattle.rules.specs.Messages.Forms.{Message, Tail, nothing, text, list, formOf, startRead, readData, write}
@@ -16,7 +16,7 @@ use Rattle.rules.proofs.Tests.{both, thirds, pick-true, pick-false}
 use Rattle.message.specs.declared.Part.{Part}
 use Rattle.message.specs.declared.Message as declared
 use Rattle.message.specs.declared.Found.the-variants as found
-use Rattle.message.specs.Found.{RestFrom, FieldsIn, Finds, partOf, parametersOf, bare, withText, withList, heldIn, placesOf, lies}
+use Rattle.message.specs.Found.{RestFrom, FieldsIn, Finds, partOf, parametersOf, plainMessage, textMessage, listMessage, heldIn, placesOf, lies}
 use Rattle.message.specs.Found.{asHeld, foundIn, foundInside, readAs}
 use Rattle.message.proofs.Heads.{Head}
 
@@ -126,14 +126,14 @@ module _ (kind : ℕ) (s : List ℕ) where
 
     -- by a part that reaches to the end
     module _ {vs : List ℕ} (v : Head (formOf kind .head) 1 s vs) {p : Part} (e : RestFrom head s p) where
-      pub text-fields : formOf kind .tail ≡ text → withText kind vs [] (partOf s p) ≡ message fields
+      pub text-fields : formOf kind .tail ≡ text → textMessage kind vs [] (partOf s p) ≡ message fields
       unfolding behindHead setIn parametersIn textIn
-      text-fields is = ap (withText kind vs []) (e .same) ∙ ap message (fields-are v text is)
+      text-fields is = ap (textMessage kind vs []) (e .same) ∙ ap message (fields-are v text is)
 
-      pub list-fields : (shape : Shape) → formOf kind .tail ≡ list shape → withList kind vs (parametersOf shape s p) ≡ message fields
+      pub list-fields : (shape : Shape) → formOf kind .tail ≡ list shape → listMessage kind vs (parametersOf shape s p) ≡ message fields
       unfolding behindHead parametersOf setIn parametersIn textIn
       list-fields shape is =
-          ap (λ bytes. withList kind vs (map (cleaned shape) (cut shape 0 bytes))) (e .same) ∙ ap message (fields-are v (list shape) is)
+          ap (λ bytes. listMessage kind vs (map (cleaned shape) (cut shape 0 bytes))) (e .same) ∙ ap message (fields-are v (list shape) is)
 
   -- Messages of a fixed length.
   module _ (is : formOf kind .tail ≡ nothing) where
@@ -154,10 +154,10 @@ module _ (kind : ℕ) (s : List ℕ) where
             tail-unsound (nothing-behind ∙ some-not-empty rest (omega arith))
 
     pub fixed-sound : byteAt s 0 ≡ kind → isFree kind ≡ true → length s ≡ head →
-        {vs : List ℕ} → Head (formOf kind .head) 1 s vs → {m : declared.Message} → heldIn s m ≡ bare kind vs → placesOf m ≡ [] →
+        {vs : List ℕ} → Head (formOf kind .head) 1 s vs → {m : declared.Message} → heldIn s m ≡ plainMessage kind vs → placesOf m ≡ [] →
         Finds s (readAs kind s) (found.Message m)
-    unfolding behindHead isEmpty setIn parametersIn textIn all
+    unfolding behindHead isEmpty setIn parametersIn textIn allAre
     fixed-sound k e h {vs} v held none =
         let empty = drop-of-length-le s {i = head} (omega arith) in
-        read-sound (record { fields = held ∙ ap message (fields-are k v nothing is); inside = λ _. ap (all (lies (length s))) none })
+        read-sound (record { fields = held ∙ ap message (fields-are k v nothing is); inside = λ _. ap (allAre (lies (length s))) none })
         (omega arith) (nothing-behind ∙ ap isEmpty empty) (free-defined k e)

@@ -8,7 +8,7 @@ use lib.Dec.{leb, ltb}
 use lib.ListN.{length, take, drop, length-drop}
 use lib.Seq.{drop-drop}
 use borrow.Author.Tests.{le-leb, ltb-true}
-use Rattle.rules.specs.Choice.{all}
+use Rattle.rules.specs.Choice.{allAre}
 use Rattle.rules.specs.Messages.Layout.{word, byteAt, sizeOf, numberAt}
 use Rattle.rules.specs.Messages.Forms.{setAndText, forms, formOf}
 use Rattle.rules.specs.Messages.Codec.{message, behindHead, wholeTail, definedFields, soundAs, fieldsAs, setIn, parametersIn, textIn}
@@ -66,8 +66,8 @@ module _ (s : List ℕ) {count : ℕ} (counted : count ≡ byteAt s 16) where
     unfolding textIn
     text-behind = behind .same ∙ sym (drop-drop count 17 s) ∙ ap₂ drop (sym count-behind) (sym (drop-drop 1 16 s))
 
-    both-lie : soundAs (formOf 2) s ≡ true → all (lies (length s)) (record { start = 17; len = count } ∷ text ∷ []) ≡ true
-    unfolding soundAs formOf forms sizeOf all
+    both-lie : soundAs (formOf 2) s ≡ true → allAre (lies (length s)) (record { start = 17; len = count } ∷ text ∷ []) ≡ true
+    unfolding soundAs formOf forms sizeOf allAre
     both-lie e =
         let tests = thirds (leb 16 (length s)) (wholeTail (formOf 2 .tail) (behindHead (formOf 2) s)) (definedFields (fieldsAs (formOf 2) s)) e in
         let counts = halves (ltb count (length s - 16)) (leb count 32) (sym whole-set ∙ tests .1) in
@@ -97,7 +97,7 @@ module _ (s : List ℕ) {count : ℕ} (counted : count ≡ byteAt s 16) where
                   text = text i;
                 }) ∙
                 fields-are 2 s k flags setAndText refl);
-            inside = λ e. ap₂ (λ p q. all (lies (length s)) (p ∷ q ∷ [])) (are .set-kept) (are .text-kept) ∙ both-lie e;
+            inside = λ e. ap₂ (λ p q. allAre (lies (length s)) (p ∷ q ∷ [])) (are .set-kept) (are .text-kept) ∙ both-lie e;
           };
           long =
               ap (λ p. length (partOf s p)) (are .text-kept) ∙ ap length (behind .same) ∙ size ∙ sym (behind .long) ∙

@@ -6,7 +6,7 @@ use mathlib.Core.Bool.{Bool, true}
 use mathlib.Core.List.{List, [], _∷_, _++_, map}
 use lib.Dec.{leb}
 use lib.ListN.{length, take, drop}
-use Rattle.rules.specs.Choice.{pick, all}
+use Rattle.rules.specs.Choice.{pick, allAre}
 use Rattle.rules.specs.Numbers.{accepted, unsound}
 use Rattle.rules.specs.Messages.Layout.{byteAt, fieldsIn, numberAt}
 use Rattle.rules.specs.Messages.Parameters.{Shape, initiation, question, setting, cleaned, cut}
@@ -32,15 +32,15 @@ partOf s p = take (p .len) (drop (p .start) s)
 unfoldable pub parametersOf : Shape → List ℕ → Part → List (List ℕ)
 parametersOf shape s p = map (cleaned shape) (cut shape 0 (partOf s p))
 
-abbrev pub bare : ℕ → List ℕ → Held
-bare kind numbers = codec.message (plain kind numbers)
+abbrev pub plainMessage : ℕ → List ℕ → Held
+plainMessage kind numbers = codec.message (plain kind numbers)
 
-abbrev pub withText : ℕ → List ℕ → List ℕ → List ℕ → Held
-withText kind numbers set text =
+abbrev pub textMessage : ℕ → List ℕ → List ℕ → List ℕ → Held
+textMessage kind numbers set text =
     codec.message (record { kind = kind; numbers = numbers; set = set; parameters = []; text = text })
 
-abbrev pub withList : ℕ → List ℕ → List (List ℕ) → Held
-withList kind numbers parameters =
+abbrev pub listMessage : ℕ → List ℕ → List (List ℕ) → Held
+listMessage kind numbers parameters =
     codec.message (record { kind = kind; numbers = numbers; set = []; parameters = parameters; text = [] })
 
 -- Start Read: its flags and their widths, and all of it
@@ -80,22 +80,22 @@ writeIn s f =
 -- the fields of each case
 unfoldable pub heldIn : List ℕ → Message → Held
 heldIn s (Initiate f) =
-    withList forms.initiate (f .version ∷ f .eco ∷ f .modification ∷ partOf s (f .revision)) (parametersOf initiation s (f .parameters))
+    listMessage forms.initiate (f .version ∷ f .eco ∷ f .modification ∷ partOf s (f .revision)) (parametersOf initiation s (f .parameters))
 heldIn s (StartRead f) = codec.message (startReadIn s f)
 heldIn s (ReadData f) =
-    withText forms.readData
+    textMessage forms.readData
     (f .code ∷ f .more ∷ f .«low_water» ∷ f .vertical ∷ f .horizontal ∷ f .terminator ∷ []) [] (partOf s (f .text))
-heldIn s (OutOfBand discard character) = bare forms.outOfBand (discard ∷ character ∷ [])
-heldIn s (Unread condition) = bare forms.unread (condition ∷ [])
-heldIn s ClearInput = bare forms.clearInput []
+heldIn s (OutOfBand discard character) = plainMessage forms.outOfBand (discard ∷ character ∷ [])
+heldIn s (Unread condition) = plainMessage forms.unread (condition ∷ [])
+heldIn s ClearInput = plainMessage forms.clearInput []
 heldIn s (Write f) = codec.message (writeIn s f)
-heldIn s (WriteCompletion lost horizontal vertical) = bare forms.writeCompletion (lost ∷ horizontal ∷ vertical ∷ [])
-heldIn s (DiscardState kept) = bare forms.discardState (kept ∷ [])
-heldIn s (ReadCharacteristics p) = withList forms.readCharacteristics [] (parametersOf question s p)
-heldIn s (Characteristics p) = withList forms.characteristics [] (parametersOf setting s p)
-heldIn s CheckInput = bare forms.checkInput []
-heldIn s (InputCount count) = bare forms.inputCount (count ∷ [])
-heldIn s (InputState nonzero) = bare forms.inputState (nonzero ∷ [])
+heldIn s (WriteCompletion lost horizontal vertical) = plainMessage forms.writeCompletion (lost ∷ horizontal ∷ vertical ∷ [])
+heldIn s (DiscardState kept) = plainMessage forms.discardState (kept ∷ [])
+heldIn s (ReadCharacteristics p) = listMessage forms.readCharacteristics [] (parametersOf question s p)
+heldIn s (Characteristics p) = listMessage forms.characteristics [] (parametersOf setting s p)
+heldIn s CheckInput = plainMessage forms.checkInput []
+heldIn s (InputCount count) = plainMessage forms.inputCount (count ∷ [])
+heldIn s (InputState nonzero) = plainMessage forms.inputState (nonzero ∷ [])
 heldIn s (Other kind body) = codec.other kind (partOf s body)
 
 -- the parts of each case
@@ -121,7 +121,7 @@ abbrev pub lies : ℕ → Part → Bool
 lies size p = leb (p .start + p .len) size
 
 abbrev pub allLie : ℕ → Message → Bool
-allLie size m = all (lies size) (placesOf m)
+allLie size m = allAre (lies size) (placesOf m)
 
 -- what reading gives, as what can be held
 unfoldable pub asHeld : Outcome (forms.Message ℕ) → Outcome Held

@@ -8,10 +8,10 @@ use lib.Dec.{ltb, eqb}
 use lib.ListN.{length, getD, take, drop}
 use lib.Seq.{getD-take, getD-drop}
 use borrow.Author.Tests.{eq-eqb, ne-eqb, eqb-true, ltb-true, lt-ltb, le-ltb}
-use Rattle.rules.specs.Choice.{pick, within, all}
+use Rattle.rules.specs.Choice.{pick, within, allAre}
 use Rattle.rules.specs.Messages.Layout.{byteAt, numberAt}
 use Rattle.rules.specs.Messages.Parameters.{Shape, initiation, question, setting, selector, inputCountState, definedSelector, definedValue}
-use Rattle.rules.specs.Messages.Parameters.{valueLimits, limitsOf, sizeOf, soundParameter, cleaned, cut}
+use Rattle.rules.specs.Messages.Parameters.{valueLimits, limitsOf, parameterSize, soundParameter, cleaned, cut}
 use Rattle.rules.proofs.Tests.{pick-true, pick-false, pick-case, all-at}
 use Rattle.rules.proofs.ParameterLists.{Cleanable, positive, initiation-cleanable, question-cleanable, setting-cleanable}
 use Rattle.parameters.specs.declared.limits.Limits.{Limits}
@@ -51,28 +51,28 @@ selector-taken : (n : ℕ) (p : List ℕ) → 2 ≤ n → selector (take n p) �
 selector-taken n p h = ap₂ (λ low high. low + 256 * high) (getD-take n p 0 0 (omega arith)) (getD-take n p 1 0 (omega arith))
 
 abbrev LooksWithin : Shape → Type 0
-LooksWithin shape = (p : List ℕ) → shape .defined (take (sizeOf shape p) p) ≡ shape .defined p
+LooksWithin shape = (p : List ℕ) → shape .defined (take (parameterSize shape p) p) ≡ shape .defined p
 
 question-within : LooksWithin question
-question-within p = ap definedSelector (selector-taken (sizeOf question p) p (size-least question p))
+question-within p = ap definedSelector (selector-taken (parameterSize question p) p (size-least question p))
 
-count-size : (p : List ℕ) → selector p ≡ inputCountState → sizeOf setting p ≡ 4
-unfolding sizeOf limitsOf valueLimits pick
+count-size : (p : List ℕ) → selector p ≡ inputCountState → parameterSize setting p ≡ 4
+unfolding parameterSize limitsOf valueLimits pick
 count-size p e = ap (λ n. 2 + length (valueLimits n)) e
 
 setting-within : LooksWithin setting
 unfolding definedValue pick
-setting-within p = rw (selector-taken (sizeOf setting p) p (size-least setting p)) (by-selector (eqb (selector p) inputCountState) refl)
+setting-within p = rw (selector-taken (parameterSize setting p) p (size-least setting p)) (by-selector (eqb (selector p) inputCountState) refl)
   where
     own : List ℕ
-    own = take (sizeOf setting p) p
+    own = take (parameterSize setting p) p
 
     by-selector : (t : Bool) → eqb (selector p) inputCountState ≡ t →
         pick t (within 1 3 (byteAt own 2 + 256 * byteAt own 3)) (definedSelector (selector p)) ≡
         pick t (within 1 3 (byteAt p 2 + 256 * byteAt p 3)) (definedSelector (selector p))
     by-selector true e =
         let n = count-size p (eqb-true (selector p) inputCountState e) in
-        let size = sizeOf setting p in
+        let size = parameterSize setting p in
         ap₂ (λ low high. within 1 3 (low + 256 * high)) (getD-take size p 2 0 (omega arith)) (getD-take size p 3 0 (omega arith))
     by-selector false e = refl
 
@@ -121,29 +121,29 @@ module _ (kind at : ℕ) (s : List ℕ) where
       clean : Cleanable (shapeOf kind)
       clean = each-shape Cleanable kind initiation-cleanable question-cleanable setting-cleanable
 
-  pub size-by : {l : Limits} → LimitsAre (limitsOf (shapeOf kind) rest) l → 2 + l .0 ≡ sizeOf (shapeOf kind) rest
-  unfolding sizeOf
+  pub size-by : {l : Limits} → LimitsAre (limitsOf (shapeOf kind) rest) l → 2 + l .0 ≡ parameterSize (shapeOf kind) rest
+  unfolding parameterSize
   size-by h = ap (λ n. 2 + n) (h .counted)
 
   -- The list from here on.
   pub sound-step : at < length s →
-      soundFrom kind at s ≡ soundParameter (shapeOf kind) (parameterAt kind at s) && soundFrom kind (at + sizeOf (shapeOf kind) rest) s
-  unfolding soundFrom parameterAt all
-  sound-step h = ap (all (soundParameter (shapeOf kind))) (cut-here (shapeOf kind) at s h)
+      soundFrom kind at s ≡ soundParameter (shapeOf kind) (parameterAt kind at s) && soundFrom kind (at + parameterSize (shapeOf kind) rest) s
+  unfolding soundFrom parameterAt allAre
+  sound-step h = ap (allAre (soundParameter (shapeOf kind))) (cut-here (shapeOf kind) at s h)
 
   pub sound-stops : at < length s → {t : Bool} → t ≡ soundParameter (shapeOf kind) (parameterAt kind at s) → t ≡ false →
       soundFrom kind at s ≡ false
   sound-stops h e f = sound-step h ∙ rw (sym e ∙ f)
 
   pub sound-goes-on : at < length s → {t : Bool} → t ≡ soundParameter (shapeOf kind) (parameterAt kind at s) → t ≡ true →
-      {n : ℕ} → n ≡ sizeOf (shapeOf kind) rest → soundFrom kind (at + n) s ≡ soundFrom kind at s
+      {n : ℕ} → n ≡ parameterSize (shapeOf kind) rest → soundFrom kind (at + n) s ≡ soundFrom kind at s
   sound-goes-on h e f size = sym (sound-step h ∙ rw (sym e ∙ f, ← size))
 
   pub sound-end : length s ≤ at → soundFrom kind at s ≡ true
-  unfolding soundFrom all
-  sound-end h = ap (all (soundParameter (shapeOf kind))) (cut-end (shapeOf kind) at s h)
+  unfolding soundFrom allAre
+  sound-end h = ap (allAre (soundParameter (shapeOf kind))) (cut-end (shapeOf kind) at s h)
 
-  pub parameters-step : at < length s → parametersFrom kind at s ≡ usedAt kind at s ∷ parametersFrom kind (at + sizeOf (shapeOf kind) rest) s
+  pub parameters-step : at < length s → parametersFrom kind at s ≡ usedAt kind at s ∷ parametersFrom kind (at + parameterSize (shapeOf kind) rest) s
   unfolding parametersFrom parameterAt
   parameters-step h = ap (map (cleaned (shapeOf kind))) (cut-here (shapeOf kind) at s h)
 
@@ -152,7 +152,7 @@ module _ (kind at : ℕ) (s : List ℕ) where
   parameters-end h = ap (map (cleaned (shapeOf kind))) (cut-end (shapeOf kind) at s h)
 
   -- Where the next one begins.
-  pub next-inside : at < length s → nextFrom kind at s ≡ at + sizeOf (shapeOf kind) rest
+  pub next-inside : at < length s → nextFrom kind at s ≡ at + parameterSize (shapeOf kind) rest
   unfolding nextFrom
   next-inside h = pick-true _ _ (lt-ltb at (length s) h)
 
@@ -162,7 +162,7 @@ module _ (kind at : ℕ) (s : List ℕ) where
 
   used-past : length s ≤ at → [] ≡ usedAt kind at s
   unfolding parameterAt cleaned zipWith
-  used-past h = sym (ap (cleaned (shapeOf kind)) (none-behind s at (sizeOf (shapeOf kind) rest) h))
+  used-past h = sym (ap (cleaned (shapeOf kind)) (none-behind s at (parameterSize (shapeOf kind) rest) h))
 
   -- What the code finds at a place.
   pub nothing-is : length s ≤ at → ParameterIs kind at s (record { selector = 0; first = 0; second = 0; third = 0; next = at })
@@ -187,7 +187,7 @@ module _ (kind at : ℕ) (s : List ℕ) where
   parameter-is h {l} limits low low< high high< first second third =
       let shape = shapeOf kind in
       let size = size-by limits in
-      let next : at + 2 + l .0 ≡ at + sizeOf shape rest = omega arith in
+      let next : at + 2 + l .0 ≡ at + parameterSize shape rest = omega arith in
       record {
         selected = selected-here shape at s low low< high high<;
         one = first ∙ ap (λ k. byteAt s (at + 2) % k) (limits .one) ∙ sym (used-here shape at s 0);

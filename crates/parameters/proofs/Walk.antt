@@ -10,7 +10,7 @@ use lib.ListN.{length, getD, take, drop, length-take, length-drop, drop-of-lengt
 use lib.Seq.{getD-take, getD-drop, drop-cons, drop-drop, length-take-le}
 use borrow.Author.Tests.{eq-eqb, ne-eqb, ltb-true, ltb-false}
 use Rattle.rules.specs.Messages.Layout.{byteAt}
-use Rattle.rules.specs.Messages.Parameters.{Shape, selector, limitsOf, sizeOf, soundParameter, cleaned, cut}
+use Rattle.rules.specs.Messages.Parameters.{Shape, selector, limitsOf, parameterSize, soundParameter, cleaned, cut}
 use Rattle.rules.proofs.ParameterLists.{cut-cons}
 use Rattle.fields.proofs.Numbers.{byte-behind}
 
@@ -28,12 +28,12 @@ module _ (shape : Shape) where
   unfolding limitsOf
   limits-taken n p h = ap₂ (shape .limits) (getD-take n p 0 0 (omega arith)) (getD-take n p 1 0 (omega arith))
 
-  pub size-taken : (n : ℕ) (p : List ℕ) → 2 ≤ n → sizeOf shape (take n p) ≡ sizeOf shape p
-  unfolding sizeOf
+  pub size-taken : (n : ℕ) (p : List ℕ) → 2 ≤ n → parameterSize shape (take n p) ≡ parameterSize shape p
+  unfolding parameterSize
   size-taken n p h = ap (λ ls. 2 + length ls) (limits-taken n p h)
 
-  pub size-least : (p : List ℕ) → 2 ≤ sizeOf shape p
-  unfolding sizeOf
+  pub size-least : (p : List ℕ) → 2 ≤ parameterSize shape p
+  unfolding parameterSize
   size-least p = omega arith
 
   module _ (at : ℕ) (s : List ℕ) where
@@ -41,7 +41,7 @@ module _ (shape : Shape) where
     rest = drop at s
 
     abbrev size : ℕ
-    size = sizeOf shape rest
+    size = parameterSize shape rest
 
     abbrev here : List ℕ
     here = take size rest
@@ -50,7 +50,7 @@ module _ (shape : Shape) where
     unfolding limitsOf
     limits-here = ap₂ (shape .limits) (byte-behind s at) (getD-drop at s 1 0)
 
-    pub size-here : sizeOf shape here ≡ size
+    pub size-here : parameterSize shape here ≡ size
     size-here = size-taken size rest (size-least rest)
 
     -- cut short, or whole
@@ -61,14 +61,14 @@ module _ (shape : Shape) where
         let d = length-drop at s in
         let e = size-here in
         let least = size-least rest in
-        ap (λ t. t && shape .defined here) (ne-eqb (length here) (sizeOf shape here) (λ q. omega arith))
+        ap (λ t. t && shape .defined here) (ne-eqb (length here) (parameterSize shape here) (λ q. omega arith))
 
     pub sound-whole : at + size ≤ length s → soundParameter shape here ≡ shape .defined here
     unfolding soundParameter
     sound-whole h =
         let d = length-drop at s in
         let l = length-take-le size rest (omega arith) in
-        ap (λ t. t && shape .defined here) (eq-eqb (length here) (sizeOf shape here) (l ∙ sym size-here))
+        ap (λ t. t && shape .defined here) (eq-eqb (length here) (parameterSize shape here) (l ∙ sym size-here))
 
     -- a byte of the parameter
     pub byte-here : (i : ℕ) → i < size → byteAt here i ≡ byteAt s (at + i)
@@ -82,7 +82,7 @@ module _ (shape : Shape) where
 
     -- the bytes behind the first two, unused bits set to 0
     pub used-here : (i : ℕ) → byteAt (cleaned shape here) (suc (suc i)) ≡ byteAt s (at + suc (suc i)) % getD (limitsOf shape rest) i 1
-    unfolding cleaned sizeOf
+    unfolding cleaned parameterSize
     used-here i =
         cleaned-byte here (256 ∷ 256 ∷ limitsOf shape here) (suc (suc i)) ∙
         ap (λ ls. byteAt here (suc (suc i)) % getD ls i 1) (limits-taken size rest (size-least rest)) ∙

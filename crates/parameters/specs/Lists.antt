@@ -5,9 +5,9 @@ use mathlib.Core.Bool.{Bool}
 use mathlib.Core.List.{List, [], _∷_, _++_, map}
 use lib.Dec.{ltb, eqb}
 use lib.ListN.{length, getD, take, drop}
-use Rattle.rules.specs.Choice.{pick, all}
+use Rattle.rules.specs.Choice.{pick, allAre}
 use Rattle.rules.specs.Messages.Layout.{byteAt, bytesOf}
-use Rattle.rules.specs.Messages.Parameters.{Shape, initiation, question, setting, selector, sizeOf, soundParameter, cleaned, cut}
+use Rattle.rules.specs.Messages.Parameters.{Shape, initiation, question, setting, selector, parameterSize, soundParameter, cleaned, cut}
 use Rattle.rules.specs.Messages.Forms as forms
 use Rattle.parameters.specs.declared.Parameter.{Parameter}
 use Rattle.parameters.specs.declared.limits.Limits.{Limits}
@@ -18,11 +18,11 @@ shapeOf kind = pick (eqb kind forms.initiate) initiation (pick (eqb kind forms.r
 
 -- the parameter that begins at a place, or what is there of it
 unfoldable pub parameterAt : ℕ → ℕ → List ℕ → List ℕ
-parameterAt kind at s = take (sizeOf (shapeOf kind) (drop at s)) (drop at s)
+parameterAt kind at s = take (parameterSize (shapeOf kind) (drop at s)) (drop at s)
 
 -- every parameter from a place on is whole and defined
 unfoldable pub soundFrom : ℕ → ℕ → List ℕ → Bool
-soundFrom kind at s = all (soundParameter (shapeOf kind)) (cut (shapeOf kind) zero (drop at s))
+soundFrom kind at s = allAre (soundParameter (shapeOf kind)) (cut (shapeOf kind) zero (drop at s))
 
 -- the parameters from a place on, unused bits set to 0
 unfoldable pub parametersFrom : ℕ → ℕ → List ℕ → List (List ℕ)
@@ -41,7 +41,7 @@ usedAt kind at s = cleaned (shapeOf kind) (parameterAt kind at s)
 
 -- where the parameter behind the one at a place begins; from the end on, the place itself
 unfoldable pub nextFrom : ℕ → ℕ → List ℕ → ℕ
-nextFrom kind at s = pick (ltb at (length s)) (at + sizeOf (shapeOf kind) (drop at s)) at
+nextFrom kind at s = pick (ltb at (length s)) (at + parameterSize (shapeOf kind) (drop at s)) at
 
 -- one parameter of a list: its selector, the three bytes behind it that a line looks at, and where the next one begins; from
 -- the end on it is empty, so that its selector and bytes are 0

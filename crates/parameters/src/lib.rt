@@ -3,7 +3,7 @@ ghost use mathlib.Core.Path.{_≡_};
 ghost use Prim.Native.Nat.{_%_, _<_, _≤_};
 ghost use lib.ListN.{length, drop};
 ghost use Rattle.rules.specs.Messages.Layout.{byteAt};
-ghost use Rattle.rules.specs.Messages.Parameters.{sizeOf, soundParameter};
+ghost use Rattle.rules.specs.Messages.Parameters.{parameterSize, soundParameter};
 ghost use Rattle.parameters.specs.Lists.{ParameterIs, shapeOf, parameterAt, soundFrom};
 use crate::limits::defined_selector;
 use crate::limits::limits_at;
@@ -47,7 +47,7 @@ fn defined_at(kind: u8, s: &[u8], at: usize) -> bool
 // How long the parameter that begins at a place should be.
 fn size_at(kind: u8, s: &[u8], at: usize) -> usize
     requires { ⌜ at < length (now s) ⌝ }
-    ensures { λ r. ⌜ (r ≡ sizeOf (shapeOf kind) (drop at (now (s .entry)))) × (2 ≤ r) × (r ≤ 257) ⌝ }
+    ensures { λ r. ⌜ (r ≡ parameterSize (shapeOf kind) (drop at (now (s .entry)))) × (2 ≤ r) × (r ≤ 257) ⌝ }
 {
     let l = limits_at(kind, s, at);
     2 + l.0 as usize

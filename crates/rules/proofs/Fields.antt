@@ -12,7 +12,7 @@ use lib.Seq.{drop-append-seam}
 use lib.Arith.{digits-lt}
 use lib.Pow.{pow-pos, pow-add, pow-mono, shr-lt}
 use borrow.Author.Tests.{ltb-true, leb-true, lt-ltb}
-use Rattle.rules.specs.Choice.{all}
+use Rattle.rules.specs.Choice.{allAre}
 use Rattle.rules.specs.Messages.Layout.{fieldsIn, numberOf, fits, Group, sizeOf, widthsOf, numberAt, bytesOf, readGroups, writeGroups}
 use Rattle.rules.specs.Messages.Unused.{bitsOf, clearGroups}
 use Rattle.rules.proofs.Tests.{both, halves, all-cons}
@@ -106,7 +106,7 @@ numberAt-bytesOf n v p rest h =
 
 -- Groups: the fields of each take at most the bits of its bytes.
 unfoldable pub roomy : List Group → Bool
-roomy gs = all (λ g. leb (bitsOf (g .widths)) (8 * g .bytes)) gs
+roomy gs = allAre (λ g. leb (bitsOf (g .widths)) (8 * g .bytes)) gs
 
 pub length-writeGroups : (gs : List Group) (vs : List ℕ) → length (writeGroups gs vs) ≡ sizeOf gs
 unfolding writeGroups sizeOf

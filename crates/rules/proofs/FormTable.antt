@@ -4,7 +4,7 @@ use Prim.Native.Nat.{ℕ, zero, suc}
 use mathlib.Core.Bool.{true}
 use mathlib.Core.List.{List, [], _∷_, _++_}
 use lib.ListN.{getD}
-use Rattle.rules.specs.Choice.{all}
+use Rattle.rules.specs.Choice.{allAre}
 use Rattle.rules.specs.Messages.Parameters.{Shape}
 use Rattle.rules.specs.Messages.Forms.{Tail, nothing, text, setAndText, list, Form, forms, noForm, formOf}
 use Rattle.rules.specs.Messages.Unused.{bitsOf}
@@ -14,7 +14,7 @@ use Rattle.rules.proofs.ParameterLists.{Cleanable, initiation-cleanable
 
 -- one test over the table
 pub form-roomy : (kind : ℕ) → roomy (formOf kind .head) ≡ true
-unfolding formOf forms roomy all bitsOf
+unfolding formOf forms roomy allAre bitsOf
 form-roomy kind = all-at (λ f. roomy (f .head)) (noForm ∷ forms) noForm refl refl kind
 
 -- the shapes of a tail, and of the table

@@ -10,9 +10,9 @@ use lib.Dec.{ltb, eqb}
 use lib.ListN.{length, take, drop, replicate, length-append}
 use lib.Seq.{take-at, drop-at}
 use borrow.Author.Tests.{ltb-true, lt-ltb, eqb-true, eq-eqb}
-use Rattle.rules.specs.Choice.{within, all, joined}
+use Rattle.rules.specs.Choice.{within, allAre, joined}
 use Rattle.rules.specs.Messages.Layout.{byteAt}
-use Rattle.rules.specs.Messages.Parameters.{Shape, under, limitsOf, sizeOf, soundParameter, fitsParameter, cleaned, cut}
+use Rattle.rules.specs.Messages.Parameters.{Shape, under, limitsOf, parameterSize, soundParameter, fitsParameter, cleaned, cut}
 use Rattle.rules.specs.Messages.Parameters.{selector, inputCountState, definedSelector, questionLimits, valueLimits, definedValue}
 use Rattle.rules.specs.Messages.Parameters.{initiation, question, setting}
 use Rattle.rules.specs.Messages.Codec.{allBytes}
@@ -27,15 +27,15 @@ module _ (shape : Shape) where
   cut-drop (suc n) (x ∷ xs) = cut-drop n xs
 
   -- a parameter and what stands behind it
-  size-suc : (p : List ℕ) → sizeOf shape p ≡ suc (sizeOf shape p - 1)
-  unfolding sizeOf
+  size-suc : (p : List ℕ) → parameterSize shape p ≡ suc (parameterSize shape p - 1)
+  unfolding parameterSize
   size-suc p = omega arith
 
   pub cut-cons : (x : ℕ) (xs : List ℕ) →
-      cut shape zero (x ∷ xs) ≡ take (sizeOf shape (x ∷ xs)) (x ∷ xs) ∷ cut shape zero (drop (sizeOf shape (x ∷ xs)) (x ∷ xs))
+      cut shape zero (x ∷ xs) ≡ take (parameterSize shape (x ∷ xs)) (x ∷ xs) ∷ cut shape zero (drop (parameterSize shape (x ∷ xs)) (x ∷ xs))
   unfolding cut
   cut-cons x xs =
-      let n = sizeOf shape (x ∷ xs) in
+      let n = parameterSize shape (x ∷ xs) in
       let s = size-suc (x ∷ xs) in
       ap (λ r. take n (x ∷ xs) ∷ r) (cut-drop (n - 1) xs ∙ ap (λ k. cut shape zero (drop k (x ∷ xs))) (sym s))
 
@@ -45,20 +45,20 @@ module _ (shape : Shape) where
   joined-cut zero [] = refl
   joined-cut (suc n) [] = refl
   joined-cut zero (x ∷ xs) =
-      let n = sizeOf shape (x ∷ xs) in
+      let n = parameterSize shape (x ∷ xs) in
       ap (λ k. take k (x ∷ xs) ++ joined (cut shape (n - 1) xs)) (size-suc (x ∷ xs)) ∙ ap (λ r. x ∷ r) (joined-cut (n - 1) xs)
   joined-cut (suc n) (x ∷ xs) = ap (λ r. x ∷ r) (joined-cut n xs)
 
   -- a parameter's size shows in its first two bytes
-  size-append : (p q : List ℕ) → length p ≡ sizeOf shape p → sizeOf shape (p ++ q) ≡ sizeOf shape p
-  unfolding sizeOf limitsOf
+  size-append : (p q : List ℕ) → length p ≡ parameterSize shape p → parameterSize shape (p ++ q) ≡ parameterSize shape p
+  unfolding parameterSize limitsOf
   size-append [] q h = omega arith
   size-append (x ∷ []) q h = omega arith
   size-append (x ∷ y ∷ p) q h = refl
 
-  pub sound-size : (p : List ℕ) → soundParameter shape p ≡ true → length p ≡ sizeOf shape p
+  pub sound-size : (p : List ℕ) → soundParameter shape p ≡ true → length p ≡ parameterSize shape p
   unfolding soundParameter
-  sound-size p e = eqb-true (length p) (sizeOf shape p) (halves (eqb (length p) (sizeOf shape p)) (shape .defined p) e .0)
+  sound-size p e = eqb-true (length p) (parameterSize shape p) (halves (eqb (length p) (parameterSize shape p)) (shape .defined p) e .0)
 
   pub cut-append : (p q : List ℕ) → soundParameter shape p ≡ true → cut shape zero (p ++ q) ≡ p ∷ cut shape zero q
   cut-append [] q e = let n = sound-size [] e in let s = size-suc [] in absurd (omega arith)
@@ -67,7 +67,7 @@ module _ (shape : Shape) where
       let l = n ∙ sym (size-append (x ∷ p) q n) in
       cut-cons x (p ++ q) ∙ ap₂ _∷_ (take-at (x ∷ p) q _ l) (ap (cut shape zero) (drop-at (x ∷ p) q _ l))
 
-  pub cut-joined : (ps : List (List ℕ)) → all (soundParameter shape) ps ≡ true → cut shape zero (joined ps) ≡ ps
+  pub cut-joined : (ps : List (List ℕ)) → allAre (soundParameter shape) ps ≡ true → cut shape zero (joined ps) ≡ ps
   unfolding joined cut
   cut-joined [] e = refl
   cut-joined (p ∷ ps) e =
@@ -78,10 +78,10 @@ module _ (shape : Shape) where
 
 -- limits that leave a value for each byte
 unfoldable pub positive : List ℕ → Bool
-positive ls = all (λ l. ltb 0 l) ls
+positive ls = allAre (λ l. ltb 0 l) ls
 
 pub under-cleaned : (ls p : List ℕ) → positive ls ≡ true → length p ≡ length ls → under ls (zipWith _%_ p ls) ≡ true
-unfolding under zipWith positive all
+unfolding under zipWith positive allAre
 under-cleaned [] [] e h = refl
 under-cleaned [] (b ∷ p) e h = absurd (omega arith)
 under-cleaned (l ∷ ls) [] e h = absurd (omega arith)
@@ -108,7 +108,7 @@ cleaned-under (l ∷ ls) (b ∷ p) e =
 
 -- a byte whose limit is 256 stays
 pub cleaned-at : (ls p : List ℕ) (i : ℕ) → allBytes p ≡ true → byteAt ls i ≡ 256 → byteAt (zipWith _%_ p ls) i ≡ byteAt p i
-unfolding zipWith allBytes all
+unfolding zipWith allBytes allAre
 cleaned-at [] p i e h = omega arith
 cleaned-at (l ∷ ls) [] i e h = refl
 cleaned-at (l ∷ ls) (b ∷ p) zero e h = rw h (mod-eq-of-lt (ltb-true b 256 (halves (ltb b 256) (allBytes p) e .0)))
@@ -132,7 +132,7 @@ module _ (shape : Shape) where
   limits-cleaned p e = ap₂ (shape .limits) (head-cleaned p 0 (omega arith) e) (head-cleaned p 1 (omega arith) e)
 
   pub size-cleaned : (p : List ℕ) → soundParameter shape p ≡ true → length (cleaned shape p) ≡ length p
-  unfolding cleaned sizeOf
+  unfolding cleaned parameterSize
   size-cleaned p e =
       let n = sound-size shape p e in
       length-cleaned (256 ∷ 256 ∷ limitsOf shape p) p (omega arith)
@@ -143,27 +143,27 @@ module _ (shape : Shape) where
 
   module _ (c : Cleanable shape) (p : List ℕ) (bytes : allBytes p ≡ true) (e : soundParameter shape p ≡ true) where
     pub cleaned-sound : soundParameter shape (cleaned shape p) ≡ true
-    unfolding soundParameter sizeOf
+    unfolding soundParameter parameterSize
     cleaned-sound =
-        let h = halves (eqb (length p) (sizeOf shape p)) (shape .defined p) e in
+        let h = halves (eqb (length p) (parameterSize shape p)) (shape .defined p) e in
         let same = ap (λ ls. 2 + length ls) (sym (limits-cleaned p bytes)) in
         let size = size-cleaned p e ∙ sound-size shape p e ∙ same in
-        both (eq-eqb (length (cleaned shape p)) (sizeOf shape (cleaned shape p)) size) (c .kept p bytes (h .1))
+        both (eq-eqb (length (cleaned shape p)) (parameterSize shape (cleaned shape p)) size) (c .kept p bytes (h .1))
 
     pub cleaned-fits : fitsParameter shape (cleaned shape p) ≡ true
-    unfolding fitsParameter sizeOf limitsOf cleaned positive all
+    unfolding fitsParameter parameterSize limitsOf cleaned positive allAre
     cleaned-fits =
         let n = sound-size shape p e in
         rw (limits-cleaned p bytes) (under-cleaned (256 ∷ 256 ∷ limitsOf shape p) p (c .values (byteAt p 0) (byteAt p 1)) (omega arith))
 
   -- Whole lists.
-  pub map-cleaned : (ps : List (List ℕ)) → all (fitsParameter shape) ps ≡ true → map (cleaned shape) ps ≡ ps
+  pub map-cleaned : (ps : List (List ℕ)) → allAre (fitsParameter shape) ps ≡ true → map (cleaned shape) ps ≡ ps
   map-cleaned [] e = refl
   map-cleaned (p ∷ ps) e =
       let h = all-cons (fitsParameter shape) p ps e in
       ap₂ _∷_ (fits-cleaned p (h .0)) (map-cleaned ps (h .1))
 
-  pub length-joined-cleaned : (ps : List (List ℕ)) → all (soundParameter shape) ps ≡ true →
+  pub length-joined-cleaned : (ps : List (List ℕ)) → allAre (soundParameter shape) ps ≡ true →
       length (joined (map (cleaned shape) ps)) ≡ length (joined ps)
   unfolding joined
   length-joined-cleaned [] e = refl
@@ -176,21 +176,21 @@ module _ (shape : Shape) where
   -- what was cut from bytes and cleaned fits, is sound, and takes as many bytes
   module _
       (c : Cleanable shape) (rest : List ℕ)
-      (bytes : allBytes rest ≡ true) (e : all (soundParameter shape) (cut shape zero rest) ≡ true) where
-    cut-bytes : all (λ p. allBytes p && soundParameter shape p) (cut shape zero rest) ≡ true
+      (bytes : allBytes rest ≡ true) (e : allAre (soundParameter shape) (cut shape zero rest) ≡ true) where
+    cut-bytes : allAre (λ p. allBytes p && soundParameter shape p) (cut shape zero rest) ≡ true
     unfolding allBytes
     cut-bytes = all-both allBytes (soundParameter shape) (cut shape zero rest) (rw (← joined-cut shape zero rest, all-joined) at bytes) e
 
     each-cleaned : (q : List ℕ → Bool) → ((p : List ℕ) → allBytes p ≡ true → soundParameter shape p ≡ true → q (cleaned shape p) ≡ true) →
-        all q (map (cleaned shape) (cut shape zero rest)) ≡ true
+        allAre q (map (cleaned shape) (cut shape zero rest)) ≡ true
     each-cleaned q h =
         all-map _ q (cleaned shape) (λ p t. let k = halves (allBytes p) (soundParameter shape p) t in h p (k .0) (k .1))
         (cut shape zero rest) cut-bytes
 
-    pub cut-cleaned-fits : all (fitsParameter shape) (map (cleaned shape) (cut shape zero rest)) ≡ true
+    pub cut-cleaned-fits : allAre (fitsParameter shape) (map (cleaned shape) (cut shape zero rest)) ≡ true
     cut-cleaned-fits = each-cleaned (fitsParameter shape) (cleaned-fits c)
 
-    pub cut-cleaned-sound : all (soundParameter shape) (map (cleaned shape) (cut shape zero rest)) ≡ true
+    pub cut-cleaned-sound : allAre (soundParameter shape) (map (cleaned shape) (cut shape zero rest)) ≡ true
     cut-cleaned-sound = each-cleaned (soundParameter shape) (cleaned-sound c)
 
     pub cut-cleaned-length : length (joined (map (cleaned shape) (cut shape zero rest))) ≡ length rest
@@ -198,7 +198,7 @@ module _ (shape : Shape) where
 
 -- The three shapes.
 positive-replicate : (n : ℕ) → positive (replicate n 256) ≡ true
-unfolding positive all
+unfolding positive allAre
 positive-replicate zero = refl
 positive-replicate (suc n) = positive-replicate n
 
@@ -210,7 +210,7 @@ pub selector-cleaned : (shape : Shape) (p : List ℕ) → allBytes p ≡ true �
 selector-cleaned shape p e = ap₂ (λ low high. low + 256 * high) (head-cleaned shape p 0 (omega arith) e) (head-cleaned shape p 1 (omega arith) e)
 
 pub question-cleanable : Cleanable question
-unfolding questionLimits positive all
+unfolding questionLimits positive allAre
 question-cleanable =
     record {
       values = λ low high. pick-case (λ ls. positive ls ≡ true) _ (λ y. refl) (λ n. refl);
@@ -218,7 +218,7 @@ question-cleanable =
     }
 
 values-positive : (n : ℕ) → positive (valueLimits n) ≡ true
-unfolding valueLimits positive all
+unfolding valueLimits positive allAre
 values-positive n =
     pick-case P _ (λ y. refl) λ n.
     pick-case P _ (λ y. refl) λ n.

@@ -8,7 +8,7 @@ use lib.Dec.{ltb, leb}
 use lib.ListN.{length, length-append, take-append-drop}
 use lib.Seq.{length-take-le, take-append-seam, drop-append-seam}
 use borrow.Author.Tests.{ltb-true, lt-ltb}
-use Rattle.rules.specs.Choice.{isEmpty, all}
+use Rattle.rules.specs.Choice.{isEmpty, allAre}
 use Rattle.rules.specs.Messages.Parameters.{soundParameter, fitsParameter}
 use Rattle.rules.specs.Messages.Forms.{Message, Tail, nothing, text, setAndText, list}
 use Rattle.rules.specs.Messages.Codec.{wholeTail, setIn, parametersIn, textIn, allBytes, tailBytes, fitsTail, setSize}
@@ -57,7 +57,7 @@ tail-reads setAndText m e =
     }
 tail-reads (list shape) m e =
     let ps = m .parameters in
-    let h = quarters (isEmpty (m .set)) (all (fitsParameter shape) ps) (all (soundParameter shape) ps) (isEmpty (m .text)) e in
+    let h = quarters (isEmpty (m .set)) (allAre (fitsParameter shape) ps) (allAre (soundParameter shape) ps) (isEmpty (m .text)) e in
     let back = cut-joined shape ps (h .2) in
     record {
       whole = rw back (h .2);
@@ -79,7 +79,7 @@ tailed t kind numbers rest = record { kind = kind; numbers = numbers; set = setI
 module _ (kind : ℕ) (numbers : List ℕ) where
   pub tail-writes : (t : Tail) (rest : List ℕ) → EachCleanable (shapesIn t) → allBytes rest ≡ true → wholeTail t rest ≡ true →
       Writes t (tailed t kind numbers rest) rest
-  unfolding tailBytes fitsTail wholeTail setIn parametersIn textIn isEmpty allBytes all
+  unfolding tailBytes fitsTail wholeTail setIn parametersIn textIn isEmpty allBytes allAre
   tail-writes nothing rest c bytes e = record { fits = refl; same = ap length (sym (isEmpty-nil rest e)) }
   tail-writes text rest c bytes e = record { fits = bytes; same = refl }
   tail-writes setAndText [] c bytes e = absurd (false≢true e)

@@ -6,7 +6,7 @@ use mathlib.Core.List.{List, [], _∷_, _++_, map, List·Memᴰ, List·Memᴰ·h
 use lib.Dec.{leb, eqb}
 use lib.ListN.{getD, set, take, drop, take-append-drop}
 use borrow.Author.Tests.{leb-true, le-leb, eqb-true, eq-eqb}
-use Rattle.rules.specs.Choice.{pick, Row, firstOf, within, isEmpty, all, any, joined, same}
+use Rattle.rules.specs.Choice.{pick, Row, firstOf, within, isEmpty, allAre, joined, same}
 
 -- The choice.
 module _ {A : Type 0} where
@@ -134,68 +134,68 @@ module _ {A : Type 0} where
   isEmpty-nil (x ∷ xs) e = absurd (false≢true e)
 
   module _ (test : A → Bool) where
-    pub all-cons : (x : A) (xs : List A) → all test (x ∷ xs) ≡ true → (test x ≡ true) × (all test xs ≡ true)
-    unfolding all
-    all-cons x xs e = halves (test x) (all test xs) e
+    pub all-cons : (x : A) (xs : List A) → allAre test (x ∷ xs) ≡ true → (test x ≡ true) × (allAre test xs ≡ true)
+    unfolding allAre
+    all-cons x xs e = halves (test x) (allAre test xs) e
 
-    pub all-more : (x : A) (xs : List A) → test x ≡ true → all test xs ≡ true → all test (x ∷ xs) ≡ true
-    unfolding all
+    pub all-more : (x : A) (xs : List A) → test x ≡ true → allAre test xs ≡ true → allAre test (x ∷ xs) ≡ true
+    unfolding allAre
     all-more x xs p q = both p q
 
-    pub all-append : (xs ys : List A) → all test (xs ++ ys) ≡ all test xs && all test ys
-    unfolding all
+    pub all-append : (xs ys : List A) → allAre test (xs ++ ys) ≡ allAre test xs && allAre test ys
+    unfolding allAre
     all-append [] ys = refl
-    all-append (x ∷ xs) ys = ap (λ b. test x && b) (all-append xs ys) ∙ sym (and-assoc (test x) (all test xs) (all test ys))
+    all-append (x ∷ xs) ys = ap (λ b. test x && b) (all-append xs ys) ∙ sym (and-assoc (test x) (allAre test xs) (allAre test ys))
 
-    pub all-behind : (xs ys : List A) → all test xs ≡ true → all test ys ≡ true → all test (xs ++ ys) ≡ true
+    pub all-behind : (xs ys : List A) → allAre test xs ≡ true → allAre test ys ≡ true → allAre test (xs ++ ys) ≡ true
     all-behind xs ys p q = all-append xs ys ∙ both p q
 
-    pub all-snoc : (xs : List A) (x : A) → all test xs ≡ true → test x ≡ true → all test (xs ++ x ∷ []) ≡ true
-    unfolding all
+    pub all-snoc : (xs : List A) (x : A) → allAre test xs ≡ true → test x ≡ true → allAre test (xs ++ x ∷ []) ≡ true
+    unfolding allAre
     all-snoc xs x p q = all-behind xs (x ∷ []) p (both q refl)
 
-    pub all-halves : (xs ys : List A) → all test (xs ++ ys) ≡ true → (all test xs ≡ true) × (all test ys ≡ true)
-    all-halves xs ys e = halves (all test xs) (all test ys) (rw all-append at e)
+    pub all-halves : (xs ys : List A) → allAre test (xs ++ ys) ≡ true → (allAre test xs ≡ true) × (allAre test ys ≡ true)
+    all-halves xs ys e = halves (allAre test xs) (allAre test ys) (rw all-append at e)
 
-    pub all-split : (n : ℕ) (xs : List A) → all test xs ≡ true → (all test (take n xs) ≡ true) × (all test (drop n xs) ≡ true)
+    pub all-split : (n : ℕ) (xs : List A) → allAre test xs ≡ true → (allAre test (take n xs) ≡ true) × (allAre test (drop n xs) ≡ true)
     all-split n xs e = all-halves (take n xs) (drop n xs) (rw (← take-append-drop n xs) at e)
 
-    pub all-joined : (xss : List (List A)) → all test (joined xss) ≡ all (all test) xss
-    unfolding all joined
+    pub all-joined : (xss : List (List A)) → allAre test (joined xss) ≡ allAre (allAre test) xss
+    unfolding allAre joined
     all-joined [] = refl
-    all-joined (xs ∷ xss) = all-append xs (joined xss) ∙ ap (λ b. all test xs && b) (all-joined xss)
+    all-joined (xs ∷ xss) = all-append xs (joined xss) ∙ ap (λ b. allAre test xs && b) (all-joined xss)
 
-    pub all-member : {x : A} {xs : List A} → List·Memᴰ x xs → all test xs ≡ true → test x ≡ true
+    pub all-member : {x : A} {xs : List A} → List·Memᴰ x xs → allAre test xs ≡ true → test x ≡ true
     all-member (List·Memᴰ·head {x = y} {xs = ys} q) e = ap test q ∙ all-cons y ys e .0
     all-member (List·Memᴰ·tail {x = y} {xs = ys} m) e = all-member m (all-cons y ys e .1)
 
     -- at any place, and past the end if the default passes
-    pub all-at : (xs : List A) (d : A) → all test xs ≡ true → test d ≡ true → (k : ℕ) → test (getD xs k d) ≡ true
+    pub all-at : (xs : List A) (d : A) → allAre test xs ≡ true → test d ≡ true → (k : ℕ) → test (getD xs k d) ≡ true
     all-at [] d e p k = p
     all-at (x ∷ xs) d e p zero = all-cons x xs e .0
     all-at (x ∷ xs) d e p (suc k) = all-at xs d (all-cons x xs e .1) p k
 
-    pub all-set : (xs : List A) (k : ℕ) (v : A) → test v ≡ true → all test xs ≡ true → all test (set xs k v) ≡ true
-    unfolding all
+    pub all-set : (xs : List A) (k : ℕ) (v : A) → test v ≡ true → allAre test xs ≡ true → allAre test (set xs k v) ≡ true
+    unfolding allAre
     all-set [] k v p e = refl
     all-set (x ∷ xs) zero v p e = both p (all-cons x xs e .1)
     all-set (x ∷ xs) (suc k) v p e = let h = all-cons x xs e in both (h .0) (all-set xs k v p (h .1))
 
   -- each element that passes one test passes another, after a step
   pub all-map : {B : Type 0} (p : A → Bool) (q : B → Bool) (f : A → B) → ((x : A) → p x ≡ true → q (f x) ≡ true) →
-      (xs : List A) → all p xs ≡ true → all q (map f xs) ≡ true
-  unfolding all
+      (xs : List A) → allAre p xs ≡ true → allAre q (map f xs) ≡ true
+  unfolding allAre
   all-map p q f h [] e = refl
   all-map p q f h (x ∷ xs) e = let t = all-cons p x xs e in both (h x (t .0)) (all-map p q f h xs (t .1))
 
   pub all-unmap : {B : Type 0} (p : A → Bool) (q : B → Bool) (f : A → B) → ((x : A) → q (f x) ≡ true → p x ≡ true) →
-      (xs : List A) → all q (map f xs) ≡ true → all p xs ≡ true
-  unfolding all
+      (xs : List A) → allAre q (map f xs) ≡ true → allAre p xs ≡ true
+  unfolding allAre
   all-unmap p q f h [] e = refl
-  all-unmap p q f h (x ∷ xs) e = let t = halves (q (f x)) (all q (map f xs)) e in both (h x (t .0)) (all-unmap p q f h xs (t .1))
+  all-unmap p q f h (x ∷ xs) e = let t = halves (q (f x)) (allAre q (map f xs)) e in both (h x (t .0)) (all-unmap p q f h xs (t .1))
 
-  pub all-both : (p q : A → Bool) (xs : List A) → all p xs ≡ true → all q xs ≡ true → all (λ x. p x && q x) xs ≡ true
-  unfolding all
+  pub all-both : (p q : A → Bool) (xs : List A) → allAre p xs ≡ true → allAre q xs ≡ true → allAre (λ x. p x && q x) xs ≡ true
+  unfolding allAre
   all-both p q [] e e′ = refl
   all-both p q (x ∷ xs) e e′ =
       let t = all-cons p x xs e in

@@ -1,5 +1,5 @@
 -- Page 01, "A key arrives", and the clear rule.
-use Prim.Native.Nat.{ℕ, _+_, _%_, min}
+use Prim.Native.Nat.{ℕ, _+_, min}
 use mathlib.Core.Bool.{Bool, true, false, not, _||_}
 use mathlib.Core.List.{[], _∷_, _++_, map}
 use mathlib.Core.Option.{Option, none, some}
@@ -9,20 +9,36 @@ use Rattle.rules.specs.Choice.{pick, bit}
 use Rattle.rules.specs.Numbers.{typeAheadSize, topDropped}
 use Rattle.rules.specs.Messages.Forms as forms
 use Rattle.rules.specs.Messages.Forms.{plain}
+use Rattle.rules.specs.StartRead.{disablesControls}
 use Rattle.rules.specs.Screen.{BEL}
 use Rattle.rules.specs.State.{Characters, Reading, State}
 use Rattle.rules.specs.State.{withTerminal, withTyped, withRead, withIdle, withDiscarding, withQuoting, withDropped}
-use Rattle.rules.specs.Turns.{Part, quote, clear, discard, outOfBand, arrived, control, dropped, cleared}
+use Rattle.rules.specs.Turns.{Part, quote, clear, discard, outOfBand, arrived, control, crowdedOut, cleared}
 use Rattle.rules.specs.Turns.{still, writes, sends, tells, changes, here, _then_}
-use Rattle.rules.specs.ReadData.{byOutOfBand, completes}
+use Rattle.rules.specs.ReadData.{noEnding, byOutOfBand, completes}
 use Rattle.rules.specs.Editing.{deletes, deletesUnseen}
+use Rattle.rules.specs.Characteristics.{outOfBandField, immediateClear, hello}
 
--- the out-of-band field of an attribute: 1 immediate clear, 3 hello (2, deferred clear, is never carried)
+-- keys of rule 3
+abbrev pub quoteKey : ℕ
+quoteKey = 22
+
+abbrev pub clearKey : ℕ
+clearKey = 24
+
+abbrev pub discardKey : ℕ
+discardKey = 15
+
+-- of an attribute; deferred clear is never carried
 unfoldable pub isImmediateClear : ℕ → Bool
-isImmediateClear attribute = eqb (attribute % 4) 1
+isImmediateClear attribute = eqb (outOfBandField attribute) immediateClear
 
 unfoldable pub isHello : ℕ → Bool
-isHello attribute = eqb (attribute % 4) 3
+isHello attribute = eqb (outOfBandField attribute) hello
+
+-- how the clear rule deletes a read's input: rubbed out, or without rubbing out
+pub data Rubbing : Type 0 where
+  rubbingOut withoutRubbing : Rubbing
 
 module _ {C : Type 0} where
   -- a stored key sets idle to 0
@@ -41,11 +57,11 @@ module _ {C : Type 0} where
   countsDropped = changes (λ s. withTerminal (withDropped (min topDropped (s .terminal .dropped + 1)) (s .terminal)) s)
 
   unfoldable pub drops : C → Part C
-  drops c = tells (dropped c ∷ []) then writes (BEL ∷ []) then countsDropped
+  drops c = tells (crowdedOut c ∷ []) then writes (BEL ∷ []) then countsDropped
 
   -- rule 4, with the limit of type-ahead
   unfoldable pub stores : ℕ → Bool → C → Part C
-  stores limit quoted c s = pick (ltb (length (s .typed .typeAhead)) limit) (keeps quoted c) (drops c) s
+  stores limit quoted c = here (λ s. pick (ltb (length (s .typed .typeAhead)) limit) (keeps quoted c) (drops c))
 
   -- rule 1
   unfoldable pub storesQuoted : C → Part C
@@ -57,10 +73,11 @@ module _ {C : Type 0} where
   quotes c =
       tells (control quote c ∷ []) then changes (λ s. withTerminal (withQuoting true (s .terminal)) s)
 
-  -- rule 3, code 15; Discard State says 1 where output is not discarded
+  -- Discard State says 1 where output is not discarded
   unfoldable pub sendsDiscardState : Part C
   sendsDiscardState = here (λ s. sends (plain forms.discardState (bit (not (s .terminal .discarding)) ∷ [])))
 
+  -- rule 3, code 15
   unfoldable pub flipsDiscard : C → Part C
   flipsDiscard c =
       tells (control discard c ∷ []) then
@@ -70,34 +87,30 @@ module _ {C : Type 0} where
   -- a pending read has DDD 3
   unfoldable pub passesControls : Option (Reading C) → Bool
   passesControls none = false
-  passesControls (some r) = eqb (r .terms .disables) 3
+  passesControls (some r) = eqb (r .terms .disables) disablesControls
 
-  -- The clear rule: type-ahead and tokens go,
   unfoldable pub emptiesTyped : Part C
   emptiesTyped =
       here (λ s.
       tells (map (λ k. cleared (k .char)) (s .typed .typeAhead) ++ map cleared (s .typed .token)) then
       changes (withTyped [] []))
 
-  -- and the pending read's input as 21 deletes it, here without rubbing out
-  unfoldable pub clearsUnseen : Option (Reading C) → Part C
-  clearsUnseen none = still
-  clearsUnseen (some r) = deletesUnseen cleared 0 r
-
 module _ {C : Type 0} (chars : Characters C) where
-  -- or rubbed out
-  unfoldable pub clearsSeen : Option (Reading C) → Part C
-  clearsSeen none = still
-  clearsSeen (some r) = deletes chars cleared 0 r
+  -- a pending read's input, as 21 deletes it
+  unfoldable pub clearsInput : Rubbing → Option (Reading C) → Part C
+  clearsInput rubbing none = still
+  clearsInput rubbingOut (some r) = deletes chars cleared 0 r
+  clearsInput withoutRubbing (some r) = deletesUnseen cleared 0 r
 
-  -- the clear rule of 24 and Clear Input
-  unfoldable pub clears : Part C
-  clears s = (emptiesTyped then clearsSeen (s .read)) s
+  -- The clear rule: empty type-ahead, drop held and partial tokens, delete the pending read's input as 21 does.
+  unfoldable pub clearRule : Rubbing → Part C
+  clearRule rubbing = emptiesTyped then here (λ s. clearsInput rubbing (s .read))
 
+  -- rule 3, code 24
   unfoldable pub clearsBy : C → Part C
-  clearsBy c = tells (control clear c ∷ []) then clears
+  clearsBy c = tells (control clear c ∷ []) then clearRule rubbingOut
 
-  -- rule 2, hello
+  -- rule 2, hello; discard control is 0
   unfoldable pub sendsOutOfBand : C → Part C
   sendsOutOfBand c =
       tells (control outOfBand c ∷ []) then sends (plain forms.outOfBand (0 ∷ chars .code c ∷ []))
@@ -105,36 +118,36 @@ module _ {C : Type 0} (chars : Characters C) where
   -- rule 2, immediate clear: a pending read completes, returning no data
   unfoldable pub endsOutOfBand : Option (Reading C) → Part C
   endsOutOfBand none = still
-  endsOutOfBand (some r) = completes chars byOutOfBand 0 r
+  endsOutOfBand (some r) = completes chars byOutOfBand noEnding r
 
   unfoldable pub clearsAtOnce : C → Part C
   clearsAtOnce c =
-      sendsOutOfBand c then emptiesTyped then here (λ s. clearsUnseen (s .read)) then here (λ s. endsOutOfBand (s .read))
+      sendsOutOfBand c then clearRule withoutRubbing then here (λ s. endsOutOfBand (s .read))
 
   -- rule 3, then 4
   unfoldable pub controlled : C → Part C
   controlled c =
-      pick (eqb (chars .code c) 22) (quotes c)
-      (pick (eqb (chars .code c) 24) (clearsBy c)
-      (pick (eqb (chars .code c) 15) (flipsDiscard c)
+      pick (eqb (chars .code c) quoteKey) (quotes c)
+      (pick (eqb (chars .code c) clearKey) (clearsBy c)
+      (pick (eqb (chars .code c) discardKey) (flipsDiscard c)
       (stores typeAheadSize false c)))
 
   abbrev pub attributeOf : C → State C → ℕ
   attributeOf c s = getD (s .host .attributes) (chars .code c) 0
 
   -- the first rule that applies is the only one
-  unfoldable pub ruled : C → Part C
-  ruled c s =
+  unfoldable pub byFirstRule : C → Part C
+  byFirstRule c =
+      here (λ s.
       pick (s .terminal .quoting) (storesQuoted c)
       (pick (isHello (attributeOf c s)) (sendsOutOfBand c)
       (pick (isImmediateClear (attributeOf c s)) (clearsAtOnce c)
       (pick (passesControls (s .read)) (stores typeAheadSize false c)
-      (controlled c))))
-      s
+      (controlled c)))))
 
   -- before Initiate only rule 4 applies
   unfoldable pub arrives : C → Part C
-  arrives c s =
-      (tells (arrived c (isHello (attributeOf c s) || isImmediateClear (attributeOf c s)) ∷ []) then
-      pick (s .host .begun) (ruled c) (stores typeAheadSize false c))
-      s
+  arrives c =
+      here (λ s.
+      tells (arrived c (isHello (attributeOf c s) || isImmediateClear (attributeOf c s)) ∷ []) then
+      pick (s .host .begun) (byFirstRule c) (stores typeAheadSize false c))

@@ -1,12 +1,12 @@
--- Page 01, "Bench cases": the starred ones as one table, and what it is for a row to hold.
+-- Page 01, "Bench cases": the starred ones as one table, and what it is for a case to hold.
 use Prim.Native.Nat.{ℕ, suc}
 use mathlib.Core.Bool.{Bool, true, false, _&&_}
 use mathlib.Core.List.{List, [], _∷_, _++_}
 use lib.Dec.{eqb}
 use lib.ListN.{take, replicate}
 use Rattle.rules.specs.Choice.{pick, joined, same}
-use Rattle.rules.specs.Numbers.{terminalArea, messageArea, typeAheadSize}
-use Rattle.rules.specs.Messages.Forms.{Message}
+use Rattle.rules.specs.Numbers.{terminalArea, messageArea, typeAheadSize, accepted, unsound}
+use Rattle.rules.specs.Messages.Forms.{Message, startRead}
 use Rattle.rules.specs.Messages.Codec as codec
 use Rattle.rules.specs.Messages.Codec.{Outcome, refused, sound, read, written}
 use Rattle.rules.specs.State.{State, fresh, codes}
@@ -20,13 +20,13 @@ pub record Exchange : Type 0 where
   pub messages : List ℕ
   pub dropped : ℕ
 
-pub data Row : Type 0 where
+pub data Case : Type 0 where
   -- these bytes read as these fields
-  reads : List ℕ → Message ℕ → Row
+  reads : List ℕ → Message ℕ → Case
   -- these bytes, read without a line and written again, give this number and these bytes
-  copies : List ℕ → ℕ → List ℕ → Row
+  copies : List ℕ → ℕ → List ℕ → Case
   -- these calls, from a fresh line, answer this
-  runs : List Exchange → Row
+  runs : List Exchange → Case
 
 -- equal lists of lists
 unfoldable pub sameAll : List (List ℕ) → List (List ℕ) → Bool
@@ -46,11 +46,11 @@ readsAs m (sound f) =
 
 unfoldable pub endsIn : ℕ → List ℕ → Outcome (List ℕ) → Bool
 endsIn number bytes (refused n) = eqb number n && same bytes []
-endsIn number bytes (sound b) = eqb number 0 && same bytes b
+endsIn number bytes (sound b) = eqb number accepted && same bytes b
 
-unfoldable pub copied : Outcome (Message ℕ) → Outcome (List ℕ)
-copied (refused n) = refused n
-copied (sound m) = written messageArea (codec.message m)
+unfoldable pub copyOf : Outcome (Message ℕ) → Outcome (List ℕ)
+copyOf (refused n) = refused n
+copyOf (sound m) = written messageArea (codec.message m)
 
 unfoldable pub answersAs : Exchange → Answer ℕ → Bool
 answersAs e a =
@@ -63,13 +63,13 @@ unfoldable pub runsAs : State ℕ → List Exchange → Bool
 runsAs s [] = true
 runsAs s (e ∷ es) = let a = answer codes (e .call) s in answersAs e a && runsAs (a .turn .state) es
 
-unfoldable pub holds : Row → Bool
+unfoldable pub holds : Case → Bool
 holds (reads bytes m) = readsAs m (read bytes)
-holds (copies bytes number again) = endsIn number again (copied (read bytes))
+holds (copies bytes number again) = endsIn number again (copyOf (read bytes))
 holds (runs es) = runsAs fresh es
 
 -- the places of the rows that do not hold, counted from a number
-unfoldable pub failures : ℕ → List Row → List ℕ
+unfoldable pub failures : ℕ → List Case → List ℕ
 failures n [] = []
 failures n (r ∷ rs) = pick (holds r) [] (n ∷ []) ++ failures (suc n) rs
 
@@ -89,10 +89,10 @@ says e number terminal messages = asked terminalArea messageArea e number termin
 
 -- a key is stored, and a step takes one
 abbrev pub stored : ℕ → Exchange
-stored code = says (key code) 0 [] []
+stored code = says (key code) accepted [] []
 
 abbrev pub stepped : List ℕ → List ℕ → Exchange
-stepped terminal messages = says step 0 terminal messages
+stepped terminal messages = says step accepted terminal messages
 
 -- a key, and the step that takes it
 abbrev pub typed : ℕ → List ℕ → List ℕ → List Exchange
@@ -104,7 +104,7 @@ told bytes number terminal messages = says (message bytes) number terminal messa
 -- Initiate and ours, which every line begins with
 abbrev pub initiated : Exchange
 initiated =
-    told (0x01 ∷ 0x00 ∷ 0x01 ∷ 0x00 ∷ 0x00 ∷ replicate 8 0x20) 0 []
+    told (0x01 ∷ 0x00 ∷ 0x01 ∷ 0x00 ∷ 0x00 ∷ replicate 8 0x20) accepted []
     (0x19 ∷ 0x00 ∷ 0x01 ∷ 0x00 ∷ 0x01 ∷ 0x00 ∷ 0x00 ∷
     (replicate 8 0x20 ++
     (0x01 ∷ 0x02 ∷ 0x00 ∷ 0x01 ∷ 0x02 ∷ 0x02 ∷ 0x84 ∷ 0x00 ∷ 0x03 ∷ 0x02 ∷ 0xFE ∷ 0x7F ∷ [])))
@@ -114,20 +114,67 @@ abbrev pub startA : List ℕ
 startA = 0x02 ∷ 0x01 ∷ 0x90 ∷ 0x00 ∷ 0x50 ∷ 0x00 ∷ 0x02 ∷ 0x00 ∷ 0x00 ∷ 0x00 ∷ 0x02 ∷ 0x00 ∷ 0x00 ∷ 0x00 ∷ 0x02 ∷ 0x00 ∷ 0x00 ∷ 0x3F ∷ 0x20 ∷ []
 
 abbrev pub startedA : Exchange
-startedA = told startA 0 (0x3F ∷ 0x20 ∷ []) []
+startedA = told startA accepted (0x3F ∷ 0x20 ∷ []) []
 
 -- Characteristics that turn escape recognition on
 abbrev pub recognising : Exchange
-recognising = told (0x0B ∷ 0x00 ∷ 0x06 ∷ 0x02 ∷ 0x01 ∷ []) 0 [] []
+recognising = told (0x0B ∷ 0x00 ∷ 0x06 ∷ 0x02 ∷ 0x01 ∷ []) accepted [] []
+
+-- the numbers of a Start Read by name, and in the order of its head
+pub record StartReadNumbers : Type 0 where
+  pub underflow : ℕ
+  pub clears : ℕ
+  pub formats : ℕ
+  pub vertical : ℕ
+  pub continues : ℕ
+  pub raises : ℕ
+  pub disables : ℕ
+  pub silent : ℕ
+  pub terminatorEcho : ℕ
+  pub timed : ℕ
+  pub setChoice : ℕ
+  pub escapes : ℕ
+  pub maxLength : ℕ
+  pub endOfData : ℕ
+  pub timeout : ℕ
+  pub endOfPrompt : ℕ
+  pub startOfDisplay : ℕ
+  pub lowWater : ℕ
+
+abbrev pub inOrder : StartReadNumbers → List ℕ
+inOrder h =
+    h .underflow ∷ h .clears ∷ h .formats ∷ h .vertical ∷ h .continues ∷ h .raises ∷ h .disables ∷ h .silent ∷ h .terminatorEcho ∷ h .timed ∷
+    h .setChoice ∷ h .escapes ∷ h .maxLength ∷ h .endOfData ∷ h .timeout ∷ h .endOfPrompt ∷ h .startOfDisplay ∷ h .lowWater ∷ []
 
 -- The starred cases in order; D and H have two rows each.
-unfoldable pub starred : List Row
+unfoldable pub starred : List Case
 starred =
     -- A: UU 1, T 1, ZZ 2, 80 characters, prompt "? "
     reads startA
     (record {
-      kind = 2;
-      numbers = 1 ∷ 0 ∷ 0 ∷ 0 ∷ 0 ∷ 0 ∷ 0 ∷ 0 ∷ 1 ∷ 0 ∷ 2 ∷ 0 ∷ 80 ∷ 2 ∷ 0 ∷ 2 ∷ 0 ∷ 2 ∷ [];
+      kind = startRead;
+      numbers =
+          inOrder
+          (record {
+            underflow = 1;
+            clears = 0;
+            formats = 0;
+            vertical = 0;
+            continues = 0;
+            raises = 0;
+            disables = 0;
+            silent = 0;
+            terminatorEcho = 1;
+            timed = 0;
+            setChoice = 2;
+            escapes = 0;
+            maxLength = 80;
+            endOfData = 2;
+            timeout = 0;
+            endOfPrompt = 2;
+            startOfDisplay = 0;
+            lowWater = 2;
+          });
       set = [];
       parameters = [];
       text = 0x3F ∷ 0x20 ∷ [];
@@ -141,15 +188,15 @@ starred =
     typed 0x35 (0x35 ∷ []) [] ++
     typed 0x0D (0x0D ∷ 0x0A ∷ []) (0x0B ∷ 0x00 ∷ 0x03 ∷ 0x00 ∷ 0x02 ∷ 0x00 ∷ 0x01 ∷ 0x00 ∷ 0x02 ∷ 0x00 ∷ 0x33 ∷ 0x35 ∷ 0x0D ∷ []))) ∷
     -- C: A without its last byte
-    runs (initiated ∷ told (take 18 startA) 5 [] [] ∷ []) ∷
+    runs (initiated ∷ told (take 18 startA) unsound [] [] ∷ []) ∷
     -- D: END-OF-DATA 132 of 132 completes at once; MAX-LENGTH 133 is 5
     runs
     (initiated ∷
-    told ((0x02 ∷ 0x00 ∷ 0x00 ∷ 0x00 ∷ 0x84 ∷ 0x00 ∷ 0x84 ∷ 0x00 ∷ 0x00 ∷ 0x00 ∷ 0x00 ∷ 0x00 ∷ 0x00 ∷ 0x00 ∷ 0x84 ∷ 0x00 ∷ 0x00 ∷ []) ++ replicate 132 0x41) 0 (replicate 132 0x41)
+    told ((0x02 ∷ 0x00 ∷ 0x00 ∷ 0x00 ∷ 0x84 ∷ 0x00 ∷ 0x84 ∷ 0x00 ∷ 0x00 ∷ 0x00 ∷ 0x00 ∷ 0x00 ∷ 0x00 ∷ 0x00 ∷ 0x84 ∷ 0x00 ∷ 0x00 ∷ []) ++ replicate 132 0x41) accepted (replicate 132 0x41)
     ((0x8C ∷ 0x00 ∷ 0x03 ∷ 0x04 ∷ 0x84 ∷ 0x00 ∷ 0x00 ∷ 0x84 ∷ 0x84 ∷ 0x00 ∷ []) ++ replicate 132 0x41) ∷ []) ∷
-    runs (initiated ∷ told (0x02 ∷ 0x00 ∷ 0x00 ∷ 0x00 ∷ 0x85 ∷ 0x00 ∷ 0x00 ∷ 0x00 ∷ 0x00 ∷ 0x00 ∷ 0x00 ∷ 0x00 ∷ 0x00 ∷ 0x00 ∷ 0x00 ∷ 0x00 ∷ 0x00 ∷ []) 5 [] [] ∷ []) ∷
+    runs (initiated ∷ told (0x02 ∷ 0x00 ∷ 0x00 ∷ 0x00 ∷ 0x85 ∷ 0x00 ∷ 0x00 ∷ 0x00 ∷ 0x00 ∷ 0x00 ∷ 0x00 ∷ 0x00 ∷ 0x00 ∷ 0x00 ∷ 0x00 ∷ 0x00 ∷ 0x00 ∷ []) unsound [] [] ∷ []) ∷
     -- E: MAX-LENGTH 0, buffer full, no data
-    runs (initiated ∷ told (0x02 ∷ 0x00 ∷ 0x00 ∷ 0x00 ∷ 0x00 ∷ 0x00 ∷ 0x00 ∷ 0x00 ∷ 0x00 ∷ 0x00 ∷ 0x00 ∷ 0x00 ∷ 0x00 ∷ 0x00 ∷ 0x00 ∷ 0x00 ∷ 0x00 ∷ []) 0 [] (0x08 ∷ 0x00 ∷ 0x03 ∷ 0x04 ∷ 0x00 ∷ 0x00 ∷ 0x00 ∷ 0x00 ∷ 0x00 ∷ 0x00 ∷ []) ∷ []) ∷
+    runs (initiated ∷ told (0x02 ∷ 0x00 ∷ 0x00 ∷ 0x00 ∷ 0x00 ∷ 0x00 ∷ 0x00 ∷ 0x00 ∷ 0x00 ∷ 0x00 ∷ 0x00 ∷ 0x00 ∷ 0x00 ∷ 0x00 ∷ 0x00 ∷ 0x00 ∷ 0x00 ∷ []) accepted [] (0x08 ∷ 0x00 ∷ 0x03 ∷ 0x04 ∷ 0x00 ∷ 0x00 ∷ 0x00 ∷ 0x00 ∷ 0x00 ∷ 0x00 ∷ []) ∷ []) ∷
     -- F: DEL at once
     runs (initiated ∷ startedA ∷ typed 0x7F (0x07 ∷ []) []) ∷
     -- G: 22, then 13 as data, which is returned with the 13 that ends the read
@@ -168,37 +215,37 @@ starred =
     typed 7 [] (0x0B ∷ 0x00 ∷ 0x03 ∷ 0x02 ∷ 0x02 ∷ 0x00 ∷ 0x00 ∷ 0x02 ∷ 0x00 ∷ 0x00 ∷ 0x1B ∷ 0x5B ∷ 0x07 ∷ []))) ∷
     -- I: room for 2, token of 3
     runs
-    (initiated ∷ recognising ∷ told (0x02 ∷ 0x00 ∷ 0x80 ∷ 0x00 ∷ 0x02 ∷ 0x00 ∷ 0x00 ∷ 0x00 ∷ 0x00 ∷ 0x00 ∷ 0x00 ∷ 0x00 ∷ 0x00 ∷ 0x00 ∷ 0x00 ∷ 0x00 ∷ 0x00 ∷ []) 0 [] [] ∷
+    (initiated ∷ recognising ∷ told (0x02 ∷ 0x00 ∷ 0x80 ∷ 0x00 ∷ 0x02 ∷ 0x00 ∷ 0x00 ∷ 0x00 ∷ 0x00 ∷ 0x00 ∷ 0x00 ∷ 0x00 ∷ 0x00 ∷ 0x00 ∷ 0x00 ∷ 0x00 ∷ 0x00 ∷ []) accepted [] [] ∷
     (typed 27 [] [] ++ typed 91 [] [] ++ typed 65 [] (0x08 ∷ 0x00 ∷ 0x03 ∷ 0x18 ∷ 0x00 ∷ 0x00 ∷ 0x00 ∷ 0x00 ∷ 0x00 ∷ 0x00 ∷ []))) ∷
     -- J: the 65th waiting key
     runs
     (initiated ∷
     (replicate typeAheadSize (stored 0x30) ++
-    asked terminalArea messageArea (key 0x30) 0 (0x07 ∷ []) [] 1 ∷ [])) ∷ []
+    asked terminalArea messageArea (key 0x30) accepted (0x07 ∷ []) [] 1 ∷ [])) ∷ []
 
 -- Rows of our own, for the mistakes that page 01 warns of and the starred cases do not show.
-unfoldable pub warned : List Row
+unfoldable pub warned : List Case
 warned =
     -- waiting for one more key after the buffer is full
     runs
-    (initiated ∷ told (0x02 ∷ 0x00 ∷ 0x80 ∷ 0x00 ∷ 0x02 ∷ 0x00 ∷ 0x00 ∷ 0x00 ∷ 0x00 ∷ 0x00 ∷ 0x00 ∷ 0x00 ∷ 0x00 ∷ 0x00 ∷ 0x00 ∷ 0x00 ∷ 0x00 ∷ []) 0 [] [] ∷
+    (initiated ∷ told (0x02 ∷ 0x00 ∷ 0x80 ∷ 0x00 ∷ 0x02 ∷ 0x00 ∷ 0x00 ∷ 0x00 ∷ 0x00 ∷ 0x00 ∷ 0x00 ∷ 0x00 ∷ 0x00 ∷ 0x00 ∷ 0x00 ∷ 0x00 ∷ 0x00 ∷ []) accepted [] [] ∷
     (typed 0x31 (0x31 ∷ []) [] ++
     typed 0x32 (0x32 ∷ []) (0x0A ∷ 0x00 ∷ 0x03 ∷ 0x04 ∷ 0x00 ∷ 0x00 ∷ 0x00 ∷ 0x02 ∷ 0x02 ∷ 0x00 ∷ 0x31 ∷ 0x32 ∷ []))) ∷
     -- testing the set before raising: "a", raised, is the terminator "A"
     runs
-    (initiated ∷ told (0x02 ∷ 0x80 ∷ 0x40 ∷ 0x00 ∷ 0x50 ∷ 0x00 ∷ 0x00 ∷ 0x00 ∷ 0x00 ∷ 0x00 ∷ 0x00 ∷ 0x00 ∷ 0x00 ∷ 0x00 ∷ 0x00 ∷ 0x00 ∷ 0x09 ∷ 0x00 ∷ 0x00 ∷ 0x00 ∷ 0x00 ∷ 0x00 ∷ 0x00 ∷ 0x00 ∷ 0x00 ∷ 0x02 ∷ []) 0 [] [] ∷
+    (initiated ∷ told (0x02 ∷ 0x80 ∷ 0x40 ∷ 0x00 ∷ 0x50 ∷ 0x00 ∷ 0x00 ∷ 0x00 ∷ 0x00 ∷ 0x00 ∷ 0x00 ∷ 0x00 ∷ 0x00 ∷ 0x00 ∷ 0x00 ∷ 0x00 ∷ 0x09 ∷ 0x00 ∷ 0x00 ∷ 0x00 ∷ 0x00 ∷ 0x00 ∷ 0x00 ∷ 0x00 ∷ 0x00 ∷ 0x02 ∷ []) accepted [] [] ∷
     typed 0x61 [] (0x09 ∷ 0x00 ∷ 0x03 ∷ 0x00 ∷ 0x00 ∷ 0x00 ∷ 0x00 ∷ 0x00 ∷ 0x00 ∷ 0x00 ∷ 0x41 ∷ [])) ∷
     -- quoting after out-of-band: a quoted hello character is data
     runs
-    (initiated ∷ told (0x0B ∷ 0x00 ∷ 0x02 ∷ 0x02 ∷ 0x03 ∷ 0xFF ∷ 0x03 ∷ []) 0 [] [] ∷ startedA ∷ stored 22 ∷ typed 3 (0x5E ∷ 0x43 ∷ []) []) ∷
+    (initiated ∷ told (0x0B ∷ 0x00 ∷ 0x02 ∷ 0x02 ∷ 0x03 ∷ 0xFF ∷ 0x03 ∷ []) accepted [] [] ∷ startedA ∷ stored 22 ∷ typed 3 (0x5E ∷ 0x43 ∷ []) []) ∷
     -- rubbing out a tab as one column: from column 2 it is six
     runs
     (initiated ∷ startedA ∷
     (typed 9 (replicate 6 0x20) [] ++ typed 127 (joined (replicate 6 (0x08 ∷ 0x20 ∷ 0x08 ∷ []))) [])) ∷
     -- echoing with a changed characteristic in mid read
-    runs (initiated ∷ startedA ∷ told (0x0B ∷ 0x00 ∷ 0x05 ∷ 0x02 ∷ 0x00 ∷ []) 0 [] [] ∷ typed 0x31 (0x31 ∷ []) []) ∷
+    runs (initiated ∷ startedA ∷ told (0x0B ∷ 0x00 ∷ 0x05 ∷ 0x02 ∷ 0x00 ∷ []) accepted [] [] ∷ typed 0x31 (0x31 ∷ []) []) ∷
     -- fields that the line ignores are kept, and unused bits are written 0
-    copies (0x02 ∷ 0x01 ∷ 0x90 ∷ 0xFC ∷ 0x50 ∷ 0x00 ∷ 0x02 ∷ 0x00 ∷ 0x07 ∷ 0x00 ∷ 0x02 ∷ 0x00 ∷ 0x00 ∷ 0x00 ∷ 0x02 ∷ 0x00 ∷ 0x02 ∷ 0xFF ∷ 0x00 ∷ 0x3F ∷ 0x20 ∷ []) 0
+    copies (0x02 ∷ 0x01 ∷ 0x90 ∷ 0xFC ∷ 0x50 ∷ 0x00 ∷ 0x02 ∷ 0x00 ∷ 0x07 ∷ 0x00 ∷ 0x02 ∷ 0x00 ∷ 0x00 ∷ 0x00 ∷ 0x02 ∷ 0x00 ∷ 0x02 ∷ 0xFF ∷ 0x00 ∷ 0x3F ∷ 0x20 ∷ []) accepted
     (0x02 ∷ 0x01 ∷ 0x90 ∷ 0x00 ∷ 0x50 ∷ 0x00 ∷ 0x02 ∷ 0x00 ∷ 0x07 ∷ 0x00 ∷ 0x02 ∷ 0x00 ∷ 0x00 ∷ 0x00 ∷ 0x02 ∷ 0x00 ∷ 0x02 ∷ 0xFF ∷ 0x00 ∷ 0x3F ∷ 0x20 ∷ []) ∷
-    copies (0x0B ∷ 0xFF ∷ 0x02 ∷ 0x02 ∷ 0x41 ∷ 0xFF ∷ 0x83 ∷ 0x09 ∷ 0x02 ∷ 0xFF ∷ 0x0A ∷ 0x02 ∷ 0xF5 ∷ []) 0
+    copies (0x0B ∷ 0xFF ∷ 0x02 ∷ 0x02 ∷ 0x41 ∷ 0xFF ∷ 0x83 ∷ 0x09 ∷ 0x02 ∷ 0xFF ∷ 0x0A ∷ 0x02 ∷ 0xF5 ∷ []) accepted
     (0x0B ∷ 0x00 ∷ 0x02 ∷ 0x02 ∷ 0x41 ∷ 0xFF ∷ 0x03 ∷ 0x09 ∷ 0x02 ∷ 0x01 ∷ 0x0A ∷ 0x02 ∷ 0x05 ∷ []) ∷ []

@@ -6,22 +6,23 @@ use mathlib.Core.List.{List, [], _∷_, map}
 use mathlib.Core.Option.{Option, none, some}
 use lib.Dec.{ltb}
 use lib.ListN.{length}
-use Rattle.rules.specs.Choice.{all}
-use Rattle.rules.specs.Numbers.{inputSize, typeAheadSize, tokenSize, terminalArea, messageArea, topColumn, topDropped}
+use Rattle.rules.specs.Choice.{allAre}
+use Rattle.rules.specs.Numbers.{codeCount, inputSize, typeAheadSize, tokenSize, terminalArea, messageArea, topColumn, topDropped}
 use Rattle.rules.specs.Messages.Forms.{Message}
-use Rattle.rules.specs.Messages.Codec.{sound, allBytes, read}
+use Rattle.rules.specs.Messages.Parameters.{sevenBits}
+use Rattle.rules.specs.Messages.Codec.{setSize, sound, allBytes, read}
 use Rattle.rules.specs.State.{Host, Terminal, Typed, Terms, Reading, State, codes}
 use Rattle.rules.specs.Editing.{endOf}
 use Rattle.rules.specs.Calls.{Event, key, step, tick, message, Answer, sentBytes, messageBytes}
 
 -- an attribute has seven bits
 unfoldable pub isAttribute : ℕ → Bool
-isAttribute a = ltb a 128
+isAttribute a = ltb a sevenBits
 
 pub record BoundedHost (h : Host) : Type 0 where
-  pub table : length (h .attributes) ≡ 256
-  pub attributes : all isAttribute (h .attributes) ≡ true
-  pub setLength : length (h .lastSet) ≤ 32
+  pub table : length (h .attributes) ≡ codeCount
+  pub attributes : allAre isAttribute (h .attributes) ≡ true
+  pub setLength : length (h .lastSet) ≤ setSize
   pub setBytes : allBytes (h .lastSet) ≡ true
 
 pub record BoundedTerminal (t : Terminal) : Type 0 where
@@ -38,7 +39,7 @@ pub record BoundedTyped (t : Typed ℕ) : Type 0 where
 pub record BoundedTerms (t : Terms) : Type 0 where
   pub largest : t .maxLength ≤ inputSize
   pub prompt : length (t .prompt) ≤ t .endOfPrompt
-  pub setLength : length (t .set) ≤ 32
+  pub setLength : length (t .set) ≤ setSize
   pub setBytes : allBytes (t .set) ≡ true
   pub underflow : t .underflow ≤ 2
   pub disables : t .disables ≤ 3

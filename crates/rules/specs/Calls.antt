@@ -5,20 +5,21 @@ use mathlib.Core.List.{List, [], _∷_, _++_, map}
 use mathlib.Core.Option.{Option, none, some}
 use lib.Dec.{leb, eqb}
 use lib.ListN.{length, drop}
-use Rattle.rules.specs.Choice.{pick, Row, _when_, firstOf, all, joined}
+use Rattle.rules.specs.Choice.{pick, Row, _when_, firstOf, allAre, joined}
 use Rattle.rules.specs.Numbers.{terminalArea, messageArea, accepted, smallArea, wrongLength, wrongType, wrongTime, unsound, notCarried}
-use Rattle.rules.specs.Messages.Layout.{byteAt, bytesOf}
+use Rattle.rules.specs.Messages.Layout.{bytesOf}
 use Rattle.rules.specs.Messages.Parameters.{selector}
 use Rattle.rules.specs.Messages.Forms as forms
-use Rattle.rules.specs.Messages.Forms.{Message, formOf}
+use Rattle.rules.specs.Messages.Forms.{Message, typeIn, formOf}
 use Rattle.rules.specs.Messages.Codec.{Outcome, refused, sound, soundLength, definedKind, read, bytesAs}
+use Rattle.rules.specs.Messages.Fields.{lock, newline, prefix, postfix, transparent}
 use Rattle.rules.specs.StartRead.{startOfDisplay, continues, vertical}
 use Rattle.rules.specs.State.{Characters, Reading, State, fresh}
 use Rattle.rules.specs.Turns.{Turn, Part, still}
 use Rattle.rules.specs.Arrival.{arrives}
 use Rattle.rules.specs.Steps.{steps, ticks}
 use Rattle.rules.specs.Characteristics.{isCarried, carriesSettings, report}
-use Rattle.rules.specs.Host.{obeys, lock, newline, prefix, postfix, transparent}
+use Rattle.rules.specs.Host.{obeys}
 
 -- an incoming event: a key, a step, a tick, or a host message's bytes
 pub data Event (C : Type 0) : Type 0 where
@@ -96,7 +97,7 @@ module _ {C : Type 0} where
   -- 6: a Read Characteristics whose answer and its length pass the message area
   unfoldable pub carriesQuestions : State C → Message ℕ → Bool
   carriesQuestions s m =
-      all (λ p. isCarried (selector p)) (m .parameters) &&
+      allAre (λ p. isCarried (selector p)) (m .parameters) &&
       leb (length (framed (sentBytes (report (s .host) m)))) messageArea
 
   unfoldable pub isCarriedBy : State C → Message ℕ → Bool
@@ -116,15 +117,15 @@ module _ {C : Type 0} where
   unfoldable pub refusals : State C → List ℕ → List Row
   refusals s bytes =
       wrongLength when not (soundLength (length bytes)) ∷
-      wrongType when not (isHosts (byteAt bytes 0)) ∷
-      wrongTime when not (isTimely (byteAt bytes 0) s) ∷
+      wrongType when not (isHosts (typeIn bytes)) ∷
+      wrongTime when not (isTimely (typeIn bytes) s) ∷
       unsound when isRefused (read bytes) ∷
       notCarried when not (carries s (read bytes)) ∷
       []
 
   -- the message in a host message's bytes, unless a row applies
-  unfoldable pub considered : State C → List ℕ → Outcome (Message ℕ)
-  considered s bytes = firstOf refused (read bytes) (refusals s bytes)
+  unfoldable pub received : State C → List ℕ → Outcome (Message ℕ)
+  received s bytes = firstOf refused (read bytes) (refusals s bytes)
 
   -- a refusal writes nothing and leaves the line as it was
   unfoldable pub refuses : ℕ → State C → Answer C
@@ -134,16 +135,17 @@ module _ {C : Type 0} where
   does f s = record { number = accepted; turn = f s }
 
 module _ {C : Type 0} (chars : Characters C) where
-  unfoldable pub hears : Outcome (Message ℕ) → State C → Answer C
-  hears (refused n) = refuses n
-  hears (sound m) = does (obeys chars m)
+  unfoldable pub answersMessage : Outcome (Message ℕ) → State C → Answer C
+  answersMessage (refused n) = refuses n
+  answersMessage (sound m) = does (obeys chars m)
 
   unfoldable pub answers : Event C → State C → Answer C
   answers (key c) s = does (arrives chars c) s
   answers step s = does (steps chars) s
   answers tick s = does (ticks chars) s
-  answers (message bytes) s = hears (considered s bytes) s
+  answers (message bytes) s = answersMessage (received s bytes) s
 
+  -- row 1 comes first, whatever the event
   unfoldable pub answer : Call C → State C → Answer C
   answer c s = firstOf refuses (answers (c .event)) (smallArea when not (areRoomy (c .terminal) (c .messages)) ∷ []) s
 

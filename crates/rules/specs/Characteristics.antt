@@ -4,7 +4,7 @@ use mathlib.Core.Bool.{Bool, false, not, _||_}
 use mathlib.Core.List.{List, [], _∷_, map}
 use lib.Dec.{eqb}
 use lib.ListN.{getD, set}
-use Rattle.rules.specs.Choice.{pick, bit, any, all}
+use Rattle.rules.specs.Choice.{pick, isOn, bit, anyIs, allAre}
 use Rattle.rules.specs.Messages.Layout.{byteAt}
 use Rattle.rules.specs.Messages.Parameters.{selector, characterAttributes, raiseInput, normalEcho, escapeRecognition, autoPrompt}
 use Rattle.rules.specs.Messages.Forms.{Message, characteristics}
@@ -19,11 +19,32 @@ isCarried n =
 unfoldable pub masked : ℕ → ℕ → ℕ → ℕ → ℕ
 masked zero mask old new = 0
 masked (suc width) mask old new =
-    pick (eqb (mask % 2) 1) (new % 2) (old % 2) + 2 * masked width (mask / 2) (old / 2) (new / 2)
+    pick (isOn (mask % 2)) (new % 2) (old % 2) + 2 * masked width (mask / 2) (old / 2) (new / 2)
 
--- CHARACTER, MASK and ATTRIBUTES act on one place of the table
+-- behind a parameter's selector: a switch's value, or CHARACTER, MASK and ATTRIBUTES
+abbrev pub valueIn : List ℕ → ℕ
+valueIn p = byteAt p 2
+
+abbrev pub characterIn : List ℕ → ℕ
+characterIn p = byteAt p 2
+
+abbrev pub maskIn : List ℕ → ℕ
+maskIn p = byteAt p 3
+
+abbrev pub attributesIn : List ℕ → ℕ
+attributesIn p = byteAt p 4
+
+-- the used bits of an attribute, and the mask that has them all
+abbrev pub attributeBits : ℕ
+attributeBits = 7
+
+abbrev pub wholeMask : ℕ
+wholeMask = 127
+
+-- they act on one place of the table
 unfoldable pub withAttribute : List ℕ → List ℕ → List ℕ
-withAttribute p table = set table (byteAt p 2) (masked 7 (byteAt p 3) (getD table (byteAt p 2) 0) (byteAt p 4))
+withAttribute p table =
+    set table (characterIn p) (masked attributeBits (maskIn p) (getD table (characterIn p) 0) (attributesIn p))
 
 unfoldable pub withSwitch : ℕ → Bool → Switches → Switches
 withSwitch n on s =
@@ -38,15 +59,27 @@ withSwitch n on s =
 unfoldable pub withParameter : List ℕ → Host → Host
 withParameter p h =
     pick (eqb (selector p) characterAttributes) (withAttributes (withAttribute p (h .attributes)) h)
-    (withSwitches (withSwitch (selector p) (eqb (byteAt p 2) 1) (h .switches)) h)
+    (withSwitches (withSwitch (selector p) (isOn (valueIn p)) (h .switches)) h)
 
 unfoldable pub withParameters : List (List ℕ) → Host → Host
 withParameters [] h = h
 withParameters (p ∷ ps) h = withParameters ps (withParameter p h)
 
--- out-of-band field 2
+-- the out-of-band field of an attribute, and its values; 0 is none
+abbrev pub outOfBandField : ℕ → ℕ
+outOfBandField attribute = attribute % 4
+
+abbrev pub immediateClear : ℕ
+immediateClear = 1
+
+abbrev pub deferredClear : ℕ
+deferredClear = 2
+
+abbrev pub hello : ℕ
+hello = 3
+
 unfoldable pub isDeferredClear : ℕ → Bool
-isDeferredClear attribute = eqb (attribute % 4) 2
+isDeferredClear attribute = eqb (outOfBandField attribute) deferredClear
 
 -- what a switch's selector reports
 unfoldable pub switchOf : ℕ → Switches → Bool
@@ -56,11 +89,11 @@ switchOf n s =
     (pick (eqb n escapeRecognition) (s .recognising)
     (s .prompting)))
 
--- the answer to one parameter of Read Characteristics; the MASK is the seven used bits
+-- the answer to one parameter of Read Characteristics
 unfoldable pub reported : Host → List ℕ → List ℕ
 reported h p =
     pick (eqb (selector p) characterAttributes)
-    (byteAt p 0 ∷ byteAt p 1 ∷ byteAt p 2 ∷ 127 ∷ getD (h .attributes) (byteAt p 2) 0 ∷ [])
+    (byteAt p 0 ∷ byteAt p 1 ∷ characterIn p ∷ wholeMask ∷ getD (h .attributes) (characterIn p) 0 ∷ [])
     (byteAt p 0 ∷ byteAt p 1 ∷ bit (switchOf (selector p) (h .switches)) ∷ [])
 
 unfoldable pub report : {C : Type 0} → Host → Message ℕ → Message C
@@ -70,6 +103,6 @@ report h m =
 -- Characteristics are carried where all are of the five and no character is left deferred-clear
 unfoldable pub carriesSettings : Host → Message ℕ → Bool
 carriesSettings h m =
-    pick (all (λ p. isCarried (selector p)) (m .parameters))
-    (not (any isDeferredClear (withParameters (m .parameters) h .attributes)))
+    pick (allAre (λ p. isCarried (selector p)) (m .parameters))
+    (not (anyIs isDeferredClear (withParameters (m .parameters) h .attributes)))
     false

@@ -27,6 +27,10 @@ firstOf answer otherwise (r ∷ rows) = pick (r .applies) (answer (r .number)) (
 unfoldable pub within : ℕ → ℕ → ℕ → Bool
 within low high n = leb low n && leb n high
 
+-- a flag of one bit is set
+abbrev pub isOn : ℕ → Bool
+isOn flag = eqb flag 1
+
 -- a flag as a number
 unfoldable pub bit : Bool → ℕ
 bit test = pick test 1 0
@@ -36,13 +40,13 @@ module _ {A : Type 0} where
   isEmpty [] = true
   isEmpty (x ∷ xs) = false
 
-  unfoldable pub all : (A → Bool) → List A → Bool
-  all test [] = true
-  all test (x ∷ xs) = test x && all test xs
+  unfoldable pub allAre : (A → Bool) → List A → Bool
+  allAre test [] = true
+  allAre test (x ∷ xs) = test x && allAre test xs
 
-  unfoldable pub any : (A → Bool) → List A → Bool
-  any test [] = false
-  any test (x ∷ xs) = test x || any test xs
+  unfoldable pub anyIs : (A → Bool) → List A → Bool
+  anyIs test [] = false
+  anyIs test (x ∷ xs) = test x || anyIs test xs
 
   unfoldable pub joined : List (List A) → List A
   joined [] = []

@@ -10,6 +10,16 @@ use Rattle.rules.specs.Screen.{CR, LF, echoAll, marksBehind, rubOut}
 use Rattle.rules.specs.State.{Characters, Reading, withRead, withFrom}
 use Rattle.rules.specs.Turns.{Fate, Part, writes, tells, changes, here, _then_}
 
+-- keys that edit, with DEL
+abbrev pub deleteWordKey : ℕ
+deleteWordKey = 23
+
+abbrev pub deleteLineKey : ℕ
+deleteLineKey = 21
+
+abbrev pub redisplayKey : ℕ
+redisplayKey = 18
+
 -- word class: ASCII letter or digit, or neither
 unfoldable pub isWord : ℕ → Bool
 isWord n = within 48 57 n || within 65 90 n || within 97 122 n

@@ -4,41 +4,19 @@ use mathlib.Core.Bool.{true, false, not, _&&_}
 use mathlib.Core.List.{List, [], _∷_}
 use lib.Dec.{eqb}
 use lib.ListN.{replicate}
-use Rattle.rules.specs.Choice.{pick, bit, isEmpty}
+use Rattle.rules.specs.Choice.{pick, isOn, bit, isEmpty}
 use Rattle.rules.specs.Numbers.{messageSize, inputSize}
 use Rattle.rules.specs.Messages.Layout.{bytesOf}
 use Rattle.rules.specs.Messages.Forms as forms
-use Rattle.rules.specs.Messages.Forms.{Message, number, plain}
+use Rattle.rules.specs.Messages.Forms.{Message, plain}
+use Rattle.rules.specs.Messages.Fields.{keepsOutput, wantsCompletion}
 use Rattle.rules.specs.Screen.{SP, change}
 use Rattle.rules.specs.State.{Characters, State, withHost, withTerminal, withBegun, withDiscarding}
 use Rattle.rules.specs.Turns.{Part, writes, sends, changes, here, _then_, only}
 use Rattle.rules.specs.ReadData.{unreads, checksInput}
-use Rattle.rules.specs.Arrival.{clears}
+use Rattle.rules.specs.Arrival.{rubbingOut, clearRule}
 use Rattle.rules.specs.StartRead.Acceptance.{startsRead}
 use Rattle.rules.specs.Characteristics.{withParameters, report}
-
--- Write's fields by 000's letters: lock UU, newline L, don't-discard D, prefix PP, postfix QQ, completion S, transparent T
-module _ {D : Type 0} where
-  abbrev pub lock : Message D → ℕ
-  lock m = number m 0
-
-  abbrev pub newline : Message D → ℕ
-  newline m = number m 1
-
-  abbrev pub keepsOutput : Message D → ℕ
-  keepsOutput m = number m 2
-
-  abbrev pub prefix : Message D → ℕ
-  prefix m = number m 5
-
-  abbrev pub postfix : Message D → ℕ
-  postfix m = number m 6
-
-  abbrev pub wantsCompletion : Message D → ℕ
-  wantsCompletion m = number m 7
-
-  abbrev pub transparent : Message D → ℕ
-  transparent m = number m 8
 
 -- our Initiate: version 1.0.0, spaces, and parameters 1 (message size), 2 (input size) and 3 (messages 1 to 14)
 unfoldable pub ourInitiate : {D : Type 0} → Message D
@@ -66,7 +44,7 @@ module _ {C : Type 0} where
 
   -- don't-discard turns output discard off, without a message
   unfoldable pub stopsDiscarding : ℕ → Part C
-  stopsDiscarding keeps = only (eqb keeps 1) (changes (λ s. withTerminal (withDiscarding false (s .terminal)) s))
+  stopsDiscarding keeps = only (isOn keeps) (changes (λ s. withTerminal (withDiscarding false (s .terminal)) s))
 
   -- data, unless output discard is on
   unfoldable pub writesUnlessDiscarding : List ℕ → Part C
@@ -74,7 +52,7 @@ module _ {C : Type 0} where
 
   -- Write Completion, when asked for
   unfoldable pub sendsCompletion : ℕ → Message ℕ → State C → Part C
-  sendsCompletion wants m before = only (eqb wants 1) (here (λ s. sends (completion m before s)))
+  sendsCompletion wants m before = only (isOn wants) (here (λ s. sends (completion m before s)))
 
   -- Write sends its data unless output discard is on; don't-discard first turns it off. Echo and prompts are never discarded: no other rule that
   -- writes looks at it. The flags for first and last part change nothing: none looks at them.
@@ -98,7 +76,7 @@ module _ {C : Type 0} (chars : Characters C) where
       pick (eqb (m .kind) forms.initiate) initiates
       (pick (eqb (m .kind) forms.startRead) (startsRead chars m)
       (pick (eqb (m .kind) forms.unread) (unreads chars m)
-      (pick (eqb (m .kind) forms.clearInput) (clears chars)
+      (pick (eqb (m .kind) forms.clearInput) (clearRule chars rubbingOut)
       (pick (eqb (m .kind) forms.write) (writesOut m)
       (pick (eqb (m .kind) forms.readCharacteristics) (reports m)
       (pick (eqb (m .kind) forms.characteristics) (setsCharacteristics m)

@@ -2,5 +2,6 @@
 pub mod Layout
 pub mod Parameters
 pub mod Forms
+pub mod Fields
 pub mod Codec
 pub mod Unused

@@ -24,6 +24,10 @@ terminalArea = 4096
 unfoldable pub messageArea : ℕ
 messageArea = 256
 
+-- character codes, each with its attribute
+abbrev pub codeCount : ℕ
+codeCount = 256
+
 -- the top of the column, and where the dropped count stops
 unfoldable pub topColumn : ℕ
 topColumn = 999

@@ -6,7 +6,8 @@ use mathlib.Core.Option.{Option, none, some}
 use lib.Dec.{eqb}
 use lib.ListN.{length}
 use Rattle.rules.specs.Choice.{bit, isEmpty}
-use Rattle.rules.specs.Messages.Forms.{Message, plain, number, readData, inputCount}
+use Rattle.rules.specs.Messages.Forms.{Message, plain, readData, inputCount}
+use Rattle.rules.specs.Messages.Fields.{unreadCondition, unreadAlways}
 use Rattle.rules.specs.Screen.{change}
 use Rattle.rules.specs.State.{Characters, State, Reading, Typed, withRead, withToken}
 use Rattle.rules.specs.Token.{isWhole, isPartial}
@@ -40,6 +41,17 @@ byUnderflow = 7
 abbrev pub byAbsentee : ℕ
 byAbsentee = 8
 
+-- bytes of its type and head, in front of DATA
+abbrev pub readDataHeader : ℕ
+readDataHeader = 8
+
+-- how many characters at the end of a read are a terminator, token or underflow code
+abbrev pub noEnding : ℕ
+noEnding = 0
+
+abbrev pub oneEnding : ℕ
+oneEnding = 1
+
 module _ {C : Type 0} where
   -- type-ahead plus token bytes
   unfoldable pub waitingCount : Typed C → ℕ
@@ -49,7 +61,7 @@ module _ {C : Type 0} where
   endsRead = changes (withRead none)
 
   unfoldable pub checksInput : Part C
-  checksInput s = sends (plain inputCount (waitingCount (s .typed) ∷ [])) s
+  checksInput = here (λ s. sends (plain inputCount (waitingCount (s .typed) ∷ [])))
 
 module _ {C : Type 0} (chars : Characters C) where
   abbrev pub tokenCodes : State C → List ℕ
@@ -59,7 +71,7 @@ module _ {C : Type 0} (chars : Characters C) where
   unfoldable pub moreData : State C → Bool
   moreData s = not (isEmpty (s .typed .typeAhead)) || isWhole (tokenCodes s)
 
-  -- the read's answer: its code, and how many characters at the end are a terminator, token or underflow code
+  -- the read's answer: its code, and how many characters end it
   unfoldable pub answerOf : ℕ → ℕ → Reading C → State C → Message C
   answerOf code ending r s =
       record {
@@ -79,10 +91,9 @@ module _ {C : Type 0} (chars : Characters C) where
 
   -- a completion drops a partial token
   unfoldable pub losesPartial : Part C
-  losesPartial s =
-      only (isPartial (tokenCodes s))
-      (tells (map lost (s .typed .token)) then changes (withToken []))
-      s
+  losesPartial =
+      here (λ s.
+      only (isPartial (tokenCodes s)) (tells (map lost (s .typed .token)) then changes (withToken [])))
 
   unfoldable pub sendsReadData : ℕ → ℕ → Reading C → Part C
   sendsReadData code ending r = here (λ s. sends (answerOf code ending r s))
@@ -93,11 +104,11 @@ module _ {C : Type 0} (chars : Characters C) where
   -- Unread (always), and Unread (empty), which looks at type-ahead, tokens and input
   unfoldable pub unreadsWhile : Option (Reading C) → Message ℕ → Part C
   unreadsWhile none m = still
-  unreadsWhile (some r) m = λ s.
+  unreadsWhile (some r) m =
+      here (λ s.
       only
-      (eqb (number m 0) 0 || isEmpty (s .typed .typeAhead) && isEmpty (s .typed .token) && isEmpty (r .input))
-      (completes byUnread 0 r)
-      s
+      (eqb (unreadCondition m) unreadAlways || isEmpty (s .typed .typeAhead) && isEmpty (s .typed .token) && isEmpty (r .input))
+      (completes byUnread noEnding r))
 
   unfoldable pub unreads : Message ℕ → Part C
-  unreads m s = unreadsWhile (s .read) m s
+  unreads m = here (λ s. unreadsWhile (s .read) m)

@@ -28,8 +28,18 @@ CR = 13
 abbrev pub SP : ℕ
 SP = 32
 
+abbrev pub QUESTION : ℕ
+QUESTION = 0x3F
+
+abbrev pub CARET : ℕ
+CARET = 0x5E
+
 abbrev pub DEL : ℕ
 DEL = 127
+
+-- columns from one tab stop to the next
+abbrev pub tabWidth : ℕ
+tabWidth = 8
 
 -- a mark or a space: what takes a column
 unfoldable pub isMark : ℕ → Bool
@@ -37,7 +47,7 @@ isMark n = within 32 126 n || within 160 254 n
 
 -- from a column to the next multiple of 8
 abbrev pub toTab : ℕ → ℕ
-toTab column = 8 - column % 8
+toTab column = tabWidth - column % tabWidth
 
 -- the column after a byte
 unfoldable pub columnAfter : ℕ → ℕ → ℕ
@@ -76,13 +86,13 @@ unfoldable pub echo : ℕ → ℕ → List ℕ
 echo column n =
     pick (isMark n) (n ∷ [])
     (pick (eqb n HT) (replicate (toTab column) SP)
-    (pick (leb n 31) (0x5E ∷ (n + 64) ∷ [])
-    (pick (eqb n DEL) (0x5E ∷ 0x3F ∷ [])
+    (pick (leb n 31) (CARET ∷ (n + 64) ∷ [])
+    (pick (eqb n DEL) (CARET ∷ QUESTION ∷ [])
     [])))
 
 -- a terminator's echo: 13 is CR LF
-unfoldable pub terminatorEcho : ℕ → ℕ → List ℕ
-terminatorEcho column n = pick (eqb n CR) (CR ∷ LF ∷ []) (echo column n)
+unfoldable pub echoTerminator : ℕ → ℕ → List ℕ
+echoTerminator column n = pick (eqb n CR) (CR ∷ LF ∷ []) (echo column n)
 
 -- the echo of a text from a column on
 unfoldable pub echoAll : ℕ → List ℕ → List ℕ

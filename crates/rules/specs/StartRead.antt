@@ -5,13 +5,20 @@ use mathlib.Core.Bool.{Bool, _&&_}
 use mathlib.Core.List.{List, [], _∷_}
 use lib.Dec.{leb, eqb}
 use lib.ListN.{length}
-use Rattle.rules.specs.Choice.{pick}
+use Rattle.rules.specs.Choice.{pick, isOn}
 use Rattle.rules.specs.Messages.Layout.{byteAt}
 use Rattle.rules.specs.Messages.Forms.{Message, number}
 
 -- UU: what 127 or 23 does with nothing to delete
 abbrev pub underflow : {D : Type 0} → Message D → ℕ
 underflow m = number m 0
+
+-- BEL, or the read completes; 0 is nothing
+abbrev pub underflowRings : ℕ
+underflowRings = 1
+
+abbrev pub underflowCompletes : ℕ
+underflowCompletes = 2
 
 -- C: clear type-ahead
 abbrev pub clears : {D : Type 0} → Message D → ℕ
@@ -33,9 +40,26 @@ continues m = number m 4
 abbrev pub raises : {D : Type 0} → Message D → ℕ
 raises m = number m 5
 
+-- II and EE: as the characteristic says, or on; 1 is off
+abbrev pub asCharacteristic : ℕ
+asCharacteristic = 0
+
+abbrev pub switchedOn : ℕ
+switchedOn = 2
+
 -- DDD: disable control
 abbrev pub disables : {D : Type 0} → Message D → ℕ
 disables m = number m 6
+
+-- nothing; 21 and 18; 2 is all editing; and arrival rule 3 as well
+abbrev pub disablesNothing : ℕ
+disablesNothing = 0
+
+abbrev pub disablesLines : ℕ
+disablesLines = 1
+
+abbrev pub disablesControls : ℕ
+disablesControls = 3
 
 -- N: no echo
 abbrev pub silent : {D : Type 0} → Message D → ℕ
@@ -52,6 +76,13 @@ timed m = number m 9
 -- ZZ: which termination set
 abbrev pub setChoice : {D : Type 0} → Message D → ℕ
 setChoice m = number m 10
+
+-- the last one given, or this one; 2 is the universal set
+abbrev pub choosesLast : ℕ
+choosesLast = 0
+
+abbrev pub choosesThis : ℕ
+choosesThis = 1
 
 -- EE: recognise escape sequences
 abbrev pub escapes : {D : Type 0} → Message D → ℕ
@@ -98,7 +129,7 @@ soundStartRead largest m =
 
 -- code c is in the set when bit c mod 8 of byte c div 8 is 1
 unfoldable pub inSet : List ℕ → ℕ → Bool
-inSet set c = eqb (byteAt set (c / 8) / 2 ^ (c % 8) % 2) 1
+inSet set c = isOn (byteAt set (c / 8) / 2 ^ (c % 8) % 2)
 
 -- the universal set: codes 0 to 31 except 8, 9, 18, 21, 23
 unfoldable pub universal : List ℕ
@@ -106,4 +137,4 @@ universal = 0b11111111 ∷ 0b11111100 ∷ 0b01011011 ∷ 0b11111111 ∷ []
 
 -- ZZ 0: the last set given with ZZ 1; 1: this set; 2: universal
 unfoldable pub chosenSet : {D : Type 0} → List ℕ → Message D → List ℕ
-chosenSet last m = pick (eqb (setChoice m) 0) last (pick (eqb (setChoice m) 1) (m .set) universal)
+chosenSet last m = pick (eqb (setChoice m) choosesLast) last (pick (eqb (setChoice m) choosesThis) (m .set) universal)

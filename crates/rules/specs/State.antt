@@ -5,6 +5,7 @@ use mathlib.Core.List.{List, []}
 use mathlib.Core.Option.{Option, none}
 use lib.ListN.{replicate}
 use Rattle.rules.specs.Choice.{pick, within}
+use Rattle.rules.specs.Numbers.{codeCount}
 use Rattle.rules.specs.StartRead.{universal}
 use Rattle.rules.specs.Screen.{Screen}
 
@@ -35,7 +36,7 @@ pub record Host : Type 0 where
   -- Initiate was accepted
   pub begun : Bool
   pub switches : Switches
-  -- 256 character attributes
+  -- an attribute for each character code
   pub attributes : List ℕ
   -- the last set given with ZZ 1, universal if none was
   pub lastSet : List ℕ
@@ -103,7 +104,7 @@ unfoldable pub freshSwitches : Switches
 freshSwitches = record { raising = false; echoing = true; recognising = false; prompting = false }
 
 unfoldable pub freshHost : Host
-freshHost = record { begun = false; switches = freshSwitches; attributes = replicate 256 0; lastSet = universal }
+freshHost = record { begun = false; switches = freshSwitches; attributes = replicate codeCount 0; lastSet = universal }
 
 unfoldable pub freshTerminal : Terminal
 freshTerminal =

@@ -6,14 +6,14 @@ use mathlib.Core.Option.{Option, none, some}
 use lib.Dec.{leb, ltb, eqb}
 use lib.ListN.{length}
 use Rattle.rules.specs.Choice.{pick, isEmpty}
-use Rattle.rules.specs.Screen.{BEL, DEL, echo, terminatorEcho}
+use Rattle.rules.specs.Screen.{BEL, DEL, echo, echoTerminator}
 use Rattle.rules.specs.State.{Characters, Key, Reading, State, withTyped, withToken, withRead, withInput, withIdle}
-use Rattle.rules.specs.StartRead.{inSet}
+use Rattle.rules.specs.StartRead.{underflowRings, underflowCompletes, disablesNothing, disablesLines, inSet}
 use Rattle.rules.specs.Token.{ESC, CSI, standing, isValid, isWhole, isPartial}
 use Rattle.rules.specs.Turns.{Part, edit, control, taken, tokened, edited, still, writes, tells, changes, here, _then_, only}
-use Rattle.rules.specs.ReadData.{byTerminator, byValidToken, byInvalidToken, byFullBuffer, byTimeout, byUnderflow, byAbsentee}
+use Rattle.rules.specs.ReadData.{noEnding, oneEnding, byTerminator, byValidToken, byInvalidToken, byFullBuffer, byTimeout, byUnderflow, byAbsentee}
 use Rattle.rules.specs.ReadData.{tokenCodes, completes}
-use Rattle.rules.specs.Editing.{endOf, inputCodes, leftBy23, deletes, redisplays}
+use Rattle.rules.specs.Editing.{deleteWordKey, deleteLineKey, redisplayKey, endOf, inputCodes, leftBy23, deletes, redisplays}
 
 module _ {C : Type 0} where
   abbrev pub columnNow : State C → ℕ
@@ -25,7 +25,8 @@ module _ {C : Type 0} where
   -- DDD 1: 21 and 18 do not edit; 2 and 3: none do
   unfoldable pub editsBy : ℕ → Reading C → Bool
   editsBy code r =
-      (eqb code DEL || eqb code 23) && leb (r .terms .disables) 1 || (eqb code 21 || eqb code 18) && eqb (r .terms .disables) 0
+      (eqb code DEL || eqb code deleteWordKey) && leb (r .terms .disables) disablesLines ||
+      (eqb code deleteLineKey || eqb code redisplayKey) && eqb (r .terms .disables) disablesNothing
 
   unfoldable pub beginsToken : ℕ → Reading C → Bool
   beginsToken code r = (eqb code ESC || eqb code CSI) && r .terms .recognises
@@ -53,7 +54,7 @@ module _ {C : Type 0} (chars : Characters C) where
   unfoldable pub takesToken : Reading C → Part C
   takesToken r =
       here (λ s.
-      pick (leb (endOf r + length (s .typed .token)) (r .terms .maxLength)) (endsByToken r) (completes chars byAbsentee 0 r))
+      pick (leb (endOf r + length (s .typed .token)) (r .terms .maxLength)) (endsByToken r) (completes chars byAbsentee noEnding r))
 
   -- rules 1 and 3: a key goes into a token, and a finished one is treated as held, in the same step
   unfoldable pub addsToToken : C → Reading C → Part C
@@ -67,26 +68,26 @@ module _ {C : Type 0} (chars : Characters C) where
   echoesIf wanted c = here (λ s. writes (pick wanted (echo (columnNow s) (chars .code c)) []))
 
   unfoldable pub echoesTerminatorIf : Bool → C → Part C
-  echoesTerminatorIf wanted c = here (λ s. writes (pick wanted (terminatorEcho (columnNow s) (chars .code c)) []))
+  echoesTerminatorIf wanted c = here (λ s. writes (pick wanted (echoTerminator (columnNow s) (chars .code c)) []))
 
   -- rule 7, data: append, echo; complete, buffer full, at MAX-LENGTH
   unfoldable pub takesData : C → Reading C → Part C
   takesData c r =
       changes (withRead (some (appended (c ∷ []) r))) then
       echoesIf (r .terms .echoes) c then
-      only (eqb (endOf r + 1) (r .terms .maxLength)) (completes chars byFullBuffer 0 (appended (c ∷ []) r))
+      only (eqb (endOf r + 1) (r .terms .maxLength)) (completes chars byFullBuffer noEnding (appended (c ∷ []) r))
 
   -- rule 5, a terminator: it echoes only with T and in a read that echoes
   unfoldable pub terminates : C → Reading C → Part C
   terminates c r =
       echoesTerminatorIf (r .terms .terminatorEcho && r .terms .echoes) c then
-      completes chars byTerminator 1 (appended (c ∷ []) r)
+      completes chars byTerminator oneEnding (appended (c ∷ []) r)
 
   -- 127 or 23 with nothing to delete, by UU
   unfoldable pub underflows : C → Reading C → Part C
   underflows c r =
-      pick (eqb (r .terms .underflow) 2) (completes chars byUnderflow 1 (appended (c ∷ []) r))
-      (tells (control edit c ∷ []) then only (eqb (r .terms .underflow) 1) (writes (BEL ∷ [])))
+      pick (eqb (r .terms .underflow) underflowCompletes) (completes chars byUnderflow oneEnding (appended (c ∷ []) r))
+      (tells (control edit c ∷ []) then only (eqb (r .terms .underflow) underflowRings) (writes (BEL ∷ [])))
 
   -- 127 and 23, which leave so many characters
   unfoldable pub erases : ℕ → C → Reading C → Part C
@@ -103,8 +104,8 @@ module _ {C : Type 0} (chars : Characters C) where
   unfoldable pub edits : C → Reading C → Part C
   edits c r =
       pick (eqb (chars .code c) DEL) (erases (length (r .input) - 1) c r)
-      (pick (eqb (chars .code c) 23) (erases (leftBy23 (inputCodes chars r)) c r)
-      (pick (eqb (chars .code c) 21) (erasesAll c r)
+      (pick (eqb (chars .code c) deleteWordKey) (erases (leftBy23 (inputCodes chars r)) c r)
+      (pick (eqb (chars .code c) deleteLineKey) (erasesAll c r)
       (showsAgain c r)))
 
   -- rules 5, 6 and 7, after raising
@@ -120,16 +121,16 @@ module _ {C : Type 0} (chars : Characters C) where
 
   -- the rules in order
   unfoldable pub takes : Key C → Reading C → Part C
-  takes k r s =
+  takes k r =
+      here (λ s.
       pick (isPartial (tokenCodes chars s)) (addsToToken (k .char) r)
       (pick (k .quoted) (takesData (k .char) r)
       (pick (beginsToken (chars .code (k .char)) r) (addsToToken (k .char) r)
-      (takesPlain (raisedBy r (k .char)) r)))
-      s
+      (takesPlain (raisedBy r (k .char)) r))))
 
   -- one key is taken from type-ahead; with type-ahead empty a read with Q and TIMEOUT 0 completes
   unfoldable pub takesFirst : List (Key C) → Reading C → Part C
-  takesFirst [] r = only (r .terms .timed && eqb (r .terms .timeout) 0) (completes chars byTimeout 0 r)
+  takesFirst [] r = only (r .terms .timed && eqb (r .terms .timeout) 0) (completes chars byTimeout noEnding r)
   takesFirst (k ∷ ks) r =
       tells (taken (k .char) (r .terms) ∷ []) then
       changes (keyTaken ks r) then
@@ -141,11 +142,11 @@ module _ {C : Type 0} (chars : Characters C) where
   stepsWhile (some r) = here (λ s. pick (isWhole (tokenCodes chars s)) (takesToken r) (takesFirst (s .typed .typeAhead) r))
 
   unfoldable pub steps : Part C
-  steps s = stepsWhile (s .read) s
+  steps = here (λ s. stepsWhile (s .read))
 
   -- Tick: idle rises by one; at TIMEOUT the read completes
   unfoldable pub idles : Reading C → Part C
-  idles r = pick (leb (r .terms .timeout) (r .idle + 1)) (completes chars byTimeout 0 r) (setsIdle (r .idle + 1) r)
+  idles r = pick (leb (r .terms .timeout) (r .idle + 1)) (completes chars byTimeout noEnding r) (setsIdle (r .idle + 1) r)
 
   unfoldable pub ticksWhile : Option (Reading C) → Part C
   ticksWhile none = still
@@ -159,4 +160,4 @@ module _ {C : Type 0} (chars : Characters C) where
       (idles r))
 
   unfoldable pub ticks : Part C
-  ticks s = ticksWhile (s .read) s
+  ticks = here (λ s. ticksWhile (s .read))

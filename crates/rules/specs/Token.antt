@@ -13,6 +13,23 @@ ESC = 27
 abbrev pub CSI : ℕ
 CSI = 155
 
+-- "["
+abbrev pub BRACKET : ℕ
+BRACKET = 91
+
+-- the bytes of a sequence by what they do in it; a final byte straight after 27, or after 27 and intermediate bytes, may be lower
+abbrev pub isIntermediate : ℕ → Bool
+isIntermediate n = within 32 47 n
+
+abbrev pub isParameter : ℕ → Bool
+isParameter n = within 48 63 n
+
+abbrev pub isFinal : ℕ → Bool
+isFinal n = within 64 126 n
+
+abbrev pub isLowFinal : ℕ → Bool
+isLowFinal n = within 48 126 n
+
 -- how far the bytes go
 pub data Place : Type 0 where
   -- no byte
@@ -32,11 +49,10 @@ pub data Place : Type 0 where
 
 unfoldable pub next : Place → ℕ → Place
 next empty n = pick (eqb n ESC) escape (pick (eqb n CSI) parameters invalid)
-next escape n = pick (eqb n 91) parameters (pick (within 32 47 n) middle (pick (within 48 126 n) valid invalid))
-next middle n = pick (within 32 47 n) middle (pick (within 48 126 n) valid invalid)
-next parameters n =
-    pick (within 48 63 n) parameters (pick (within 32 47 n) intermediates (pick (within 64 126 n) valid invalid))
-next intermediates n = pick (within 32 47 n) intermediates (pick (within 64 126 n) valid invalid)
+next escape n = pick (eqb n BRACKET) parameters (pick (isIntermediate n) middle (pick (isLowFinal n) valid invalid))
+next middle n = pick (isIntermediate n) middle (pick (isLowFinal n) valid invalid)
+next parameters n = pick (isParameter n) parameters (pick (isIntermediate n) intermediates (pick (isFinal n) valid invalid))
+next intermediates n = pick (isIntermediate n) intermediates (pick (isFinal n) valid invalid)
 next valid n = invalid
 next invalid n = invalid
 

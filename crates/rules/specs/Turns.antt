@@ -16,7 +16,8 @@ pub data Fate (C : Type 0) : Type 0 where
   -- it arrived; its attribute was then hello or immediate clear, or not
   arrived : C → Bool → Fate C
   control : Control → C → Fate C
-  dropped : C → Fate C
+  -- type-ahead was full
+  crowdedOut : C → Fate C
   -- a step took it, while a read with these terms was pending
   taken : C → Terms → Fate C
   tokened : C → Fate C

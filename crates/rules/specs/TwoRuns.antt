@@ -6,28 +6,28 @@ use mathlib.Core.Bool.{Bool, true, false, not, Bool·beq, _&&_}
 use mathlib.Core.List.{List, [], _∷_, map}
 use lib.Dec.{eqb}
 use lib.ListN.{length}
-use Rattle.rules.specs.Choice.{pick, within, all, joined, same}
+use Rattle.rules.specs.Choice.{pick, within, allAre, joined, same}
 use Rattle.rules.specs.Messages.Forms.{Message, readData}
 use Rattle.rules.specs.StartRead.{inSet}
 use Rattle.rules.specs.Editing.{isWord}
 use Rattle.rules.specs.State.{Characters, Terms, raised, codes}
 use Rattle.rules.specs.Turns.{Control, quote, clear, discard, outOfBand, edit}
-use Rattle.rules.specs.Turns.{Fate, arrived, control, dropped, taken, tokened, cleared, lost, edited}
+use Rattle.rules.specs.Turns.{Fate, arrived, control, crowdedOut, taken, tokened, cleared, lost, edited}
 use Rattle.rules.specs.Calls.{Event, key, step, tick, message, Call, Answer, mapText, sentBytes, framed, messageBytes, run}
 
 -- Two lists of calls.
 
-unfoldable pub kindOf : {C : Type 0} → Event C → ℕ
-kindOf (key c) = 0
-kindOf step = 1
-kindOf tick = 2
-kindOf (message bytes) = 3
+unfoldable pub eventKind : {C : Type 0} → Event C → ℕ
+eventKind (key c) = 0
+eventKind step = 1
+eventKind tick = 2
+eventKind (message bytes) = 3
 
-unfoldable pub bytesOf : {C : Type 0} → Event C → List ℕ
-bytesOf (key c) = []
-bytesOf step = []
-bytesOf tick = []
-bytesOf (message bytes) = bytes
+unfoldable pub eventBytes : {C : Type 0} → Event C → List ℕ
+eventBytes (key c) = []
+eventBytes step = []
+eventBytes tick = []
+eventBytes (message bytes) = bytes
 
 -- a key's code; no other event has one
 unfoldable pub codeOf : Event ℕ → ℕ
@@ -41,8 +41,8 @@ unfoldable pub agree : Call ℕ → Call ℕ → Bool
 agree c d =
     eqb (c .terminal) (d .terminal) &&
     eqb (c .messages) (d .messages) &&
-    eqb (kindOf (c .event)) (kindOf (d .event)) &&
-    same (bytesOf (c .event)) (bytesOf (d .event))
+    eqb (eventKind (c .event)) (eventKind (d .event)) &&
+    same (eventBytes (c .event)) (eventBytes (d .event))
 
 -- the runs differ only in some typed characters
 unfoldable pub alike : List (Call ℕ) → List (Call ℕ) → Bool
@@ -115,12 +115,25 @@ history cs = joined (map (λ a. a .turn .fates) (run placedCodes (placed 0 cs)))
 unfoldable pub fateTest : {C : Type 0} → (C → Bool → Bool) → (Control → C → Bool) → (C → Terms → Bool) → (C → Bool) → Fate C → Bool
 fateTest onArrived onControl onTaken onToken (arrived c band) = onArrived c band
 fateTest onArrived onControl onTaken onToken (control purpose c) = onControl purpose c
-fateTest onArrived onControl onTaken onToken (dropped c) = true
+fateTest onArrived onControl onTaken onToken (crowdedOut c) = true
 fateTest onArrived onControl onTaken onToken (taken c terms) = onTaken c terms
 fateTest onArrived onControl onTaken onToken (tokened c) = onToken c
 fateTest onArrived onControl onTaken onToken (cleared c) = true
 fateTest onArrived onControl onTaken onToken (lost c) = true
 fateTest onArrived onControl onTaken onToken (edited c) = true
+
+-- of one fate alone
+abbrev pub ifArrived : {C : Type 0} → (C → Bool → Bool) → Fate C → Bool
+ifArrived test = fateTest test (λ purpose c. true) (λ c terms. true) (λ c. true)
+
+abbrev pub ifControl : {C : Type 0} → (Control → C → Bool) → Fate C → Bool
+ifControl test = fateTest (λ c band. true) test (λ c terms. true) (λ c. true)
+
+abbrev pub ifTaken : {C : Type 0} → (C → Terms → Bool) → Fate C → Bool
+ifTaken test = fateTest (λ c band. true) (λ purpose c. true) test (λ c. true)
+
+abbrev pub ifTokened : {C : Type 0} → (C → Bool) → Fate C → Bool
+ifTokened test = fateTest (λ c band. true) (λ purpose c. true) (λ c terms. true) test
 
 unfoldable pub isOutOfBand : Control → Bool
 isOutOfBand quote = false
@@ -133,29 +146,27 @@ isOutOfBand edit = false
 module _ {C : Type 0} (code : C → ℕ) (changed : C → Bool) where
   -- it is not out-of-band when it arrives
   unfoldable pub inBand : Fate C → Bool
-  inBand = fateTest (λ c band. not (changed c && band)) (λ purpose c. true) (λ c terms. true) (λ c. true)
+  inBand = ifArrived (λ c band. not (changed c && band))
 
   -- arrival rule 2 does not act on it: weaker, since a quoted key may have the attribute
   unfoldable pub unacted : Fate C → Bool
-  unacted = fateTest (λ c band. true) (λ purpose c. not (changed c && isOutOfBand purpose)) (λ c terms. true) (λ c. true)
+  unacted = ifControl (λ purpose c. not (changed c && isOutOfBand purpose))
 
   -- never taken by an echoing read
   unfoldable pub unechoed : Fate C → Bool
-  unechoed = fateTest (λ c band. true) (λ purpose c. true) (λ c terms. not (changed c && terms .echoes)) (λ c. true)
+  unechoed = ifTaken (λ c terms. not (changed c && terms .echoes))
 
   -- nor into an escape sequence
   unfoldable pub untokened : Fate C → Bool
-  untokened = fateTest (λ c band. true) (λ purpose c. true) (λ c terms. true) (λ c. not (changed c))
+  untokened = ifTokened (λ c. not (changed c))
 
   -- not in the termination set of a read that takes it
   unfoldable pub unset : Fate C → Bool
-  unset =
-      fateTest (λ c band. true) (λ purpose c. true) (λ c terms. not (changed c && inSet (terms .set) (code c))) (λ c. true)
+  unset = ifTaken (λ c terms. not (changed c && inSet (terms .set) (code c)))
 
   -- nor is its raised form
   unfoldable pub unsetRaised : Fate C → Bool
-  unsetRaised =
-      fateTest (λ c band. true) (λ purpose c. true) (λ c terms. not (changed c && inSet (terms .set) (raised (code c)))) (λ c. true)
+  unsetRaised = ifTaken (λ c terms. not (changed c && inSet (terms .set) (raised (code c))))
 
 unfoldable pub isChanged : List (Call ℕ) → List (Call ℕ) → Placed → Bool
 isChanged cs ds (typedAt place n) = changedAt cs ds place
@@ -166,7 +177,7 @@ abbrev pub Supposition : Type 0
 Supposition = (Placed → ℕ) → (Placed → Bool) → Fate Placed → Bool
 
 unfoldable pub inBoth : Supposition → List (Call ℕ) → List (Call ℕ) → Bool
-inBoth test cs ds = all (test codeIn (isChanged cs ds)) (history cs) && all (test codeIn (isChanged cs ds)) (history ds)
+inBoth test cs ds = allAre (test codeIn (isChanged cs ds)) (history cs) && allAre (test codeIn (isChanged cs ds)) (history ds)
 
 -- the suppositions one after the other, over what is supposed of a key's arrival
 unfoldable pub suppositions : Supposition → List (Call ℕ) → List (Call ℕ) → List Bool
@@ -182,7 +193,7 @@ suppositions arrival cs ds =
     []
 
 unfoldable pub supposed : Supposition → List (Call ℕ) → List (Call ℕ) → Bool
-supposed arrival cs ds = all (λ b. b) (suppositions arrival cs ds)
+supposed arrival cs ds = allAre (λ b. b) (suppositions arrival cs ds)
 
 -- What everyone sees of an answer.
 

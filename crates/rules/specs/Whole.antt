@@ -1,4 +1,4 @@
--- One name that opens the rules' definitions, for what is proved by computing: a part for each file, and the whole. Area and Bounds have no part.
+-- One name that opens the rules' definitions, for what is proved by computing: a part for each file, and the whole. Area and Bounds have no part, and Messages/Fields needs none.
 use mathlib.Core.List.{zipWith}
 use Rattle.rules.specs.Choice
 use Rattle.rules.specs.Numbers
@@ -25,7 +25,7 @@ use Rattle.rules.specs.TwoRuns
 use Rattle.rules.specs.TwoRuns.Examples
 
 unfoldable pub openChoice : Unit {0}
-unfolding Choice.pick Choice.firstOf Choice.within Choice.bit Choice.isEmpty Choice.all Choice.any Choice.joined Choice.same
+unfolding Choice.pick Choice.firstOf Choice.within Choice.bit Choice.isEmpty Choice.allAre Choice.anyIs Choice.joined Choice.same
 openChoice = tt
 
 unfoldable pub openNumbers : Unit {0}
@@ -37,7 +37,7 @@ unfolding Layout.fieldsIn Layout.numberOf Layout.fits Layout.sizeOf Layout.width
 openLayout = tt
 
 unfoldable pub openParameters : Unit {0}
-unfolding zipWith Parameters.definedSelector Parameters.questionLimits Parameters.valueLimits Parameters.definedValue Parameters.under Parameters.limitsOf Parameters.sizeOf Parameters.soundParameter Parameters.fitsParameter Parameters.cleaned Parameters.cut
+unfolding zipWith Parameters.definedSelector Parameters.questionLimits Parameters.valueLimits Parameters.definedValue Parameters.under Parameters.limitsOf Parameters.parameterSize Parameters.soundParameter Parameters.fitsParameter Parameters.cleaned Parameters.cut
 openParameters = tt
 
 unfoldable pub openForms : Unit {0}
@@ -57,7 +57,7 @@ unfolding StartRead.soundStartRead StartRead.inSet StartRead.universal StartRead
 openStartRead = tt
 
 unfoldable pub openScreen : Unit {0}
-unfolding Screen.isMark Screen.columnAfter Screen.columnAfterAll Screen.shown Screen.shownAll Screen.change Screen.echo Screen.terminatorEcho Screen.echoAll Screen.marksBehind Screen.rubOut
+unfolding Screen.isMark Screen.columnAfter Screen.columnAfterAll Screen.shown Screen.shownAll Screen.change Screen.echo Screen.echoTerminator Screen.echoAll Screen.marksBehind Screen.rubOut
 openScreen = tt
 
 unfoldable pub openState : Unit {0}
@@ -81,11 +81,11 @@ unfolding Editing.isWord Editing.leading Editing.leftBy23 Editing.endOf Editing.
 openEditing = tt
 
 unfoldable pub openArrival : Unit {0}
-unfolding Arrival.isImmediateClear Arrival.isHello Arrival.idleAgain Arrival.keeps Arrival.countsDropped Arrival.drops Arrival.stores Arrival.storesQuoted Arrival.quotes Arrival.sendsDiscardState Arrival.flipsDiscard Arrival.passesControls Arrival.emptiesTyped Arrival.clearsUnseen Arrival.clearsSeen Arrival.clears Arrival.clearsBy Arrival.sendsOutOfBand Arrival.endsOutOfBand Arrival.clearsAtOnce Arrival.controlled Arrival.ruled Arrival.arrives
+unfolding Arrival.isImmediateClear Arrival.isHello Arrival.idleAgain Arrival.keeps Arrival.countsDropped Arrival.drops Arrival.stores Arrival.storesQuoted Arrival.quotes Arrival.sendsDiscardState Arrival.flipsDiscard Arrival.passesControls Arrival.emptiesTyped Arrival.clearsInput Arrival.clearRule Arrival.clearsBy Arrival.sendsOutOfBand Arrival.endsOutOfBand Arrival.clearsAtOnce Arrival.controlled Arrival.byFirstRule Arrival.arrives
 openArrival = tt
 
 unfoldable pub openAcceptance : Unit {0}
-unfolding Acceptance.chosen Acceptance.hidesLF Acceptance.termsOf Acceptance.readingOf Acceptance.remembersSet Acceptance.clearsFirst Acceptance.feedsLine Acceptance.autoPrompts Acceptance.completesIfFull Acceptance.begins Acceptance.startsRead
+unfolding Acceptance.chosen Acceptance.hidesLF Acceptance.shownPrompt Acceptance.dataBehind Acceptance.hidesInput Acceptance.openedTerms Acceptance.openedRead Acceptance.remembersSet Acceptance.clearsFirst Acceptance.feedsLine Acceptance.autoPrompts Acceptance.completesIfFull Acceptance.begins Acceptance.startsRead
 openAcceptance = tt
 
 unfoldable pub openSteps : Unit {0}
@@ -101,15 +101,15 @@ unfolding Host.ourInitiate Host.initiates Host.completion Host.stopsDiscarding H
 openHost = tt
 
 unfoldable pub openCalls : Unit {0}
-unfolding Calls.framed Calls.areaAfter Calls.mapText Calls.sentBytes Calls.isServers Calls.isHosts Calls.isRefused Calls.carriesStartRead Calls.carriesWrite Calls.isPending Calls.isTimely Calls.carriesQuestions Calls.isCarriedBy Calls.carries Calls.refusals Calls.considered Calls.refuses Calls.does Calls.hears Calls.answers Calls.answer Calls.messageBytes Calls.runFrom Calls.run
+unfolding Calls.framed Calls.areaAfter Calls.mapText Calls.sentBytes Calls.isServers Calls.isHosts Calls.isRefused Calls.carriesStartRead Calls.carriesWrite Calls.isPending Calls.isTimely Calls.carriesQuestions Calls.isCarriedBy Calls.carries Calls.refusals Calls.received Calls.refuses Calls.does Calls.answersMessage Calls.answers Calls.answer Calls.messageBytes Calls.runFrom Calls.run
 openCalls = tt
 
 unfoldable pub openBench : Unit {0}
-unfolding Bench.sameAll Bench.readsAs Bench.endsIn Bench.copied Bench.answersAs Bench.runsAs Bench.holds Bench.failures Bench.starred Bench.warned
+unfolding Bench.sameAll Bench.readsAs Bench.endsIn Bench.copyOf Bench.answersAs Bench.runsAs Bench.holds Bench.failures Bench.starred Bench.warned
 openBench = tt
 
 unfoldable pub openTwoRuns : Unit {0}
-unfolding TwoRuns.kindOf TwoRuns.bytesOf TwoRuns.codeOf TwoRuns.agree TwoRuns.alike TwoRuns.changedAt TwoRuns.eachChanged TwoRuns.isPrinting TwoRuns.bothPrinting TwoRuns.sameClass TwoRuns.codeIn TwoRuns.raisedIn TwoRuns.placedEvent TwoRuns.placed TwoRuns.history TwoRuns.fateTest TwoRuns.isOutOfBand TwoRuns.inBand TwoRuns.unacted TwoRuns.unechoed TwoRuns.untokened TwoRuns.unset TwoRuns.unsetRaised TwoRuns.isChanged TwoRuns.inBoth TwoRuns.suppositions TwoRuns.supposed TwoRuns.blanked TwoRuns.seen
+unfolding TwoRuns.eventKind TwoRuns.eventBytes TwoRuns.codeOf TwoRuns.agree TwoRuns.alike TwoRuns.changedAt TwoRuns.eachChanged TwoRuns.isPrinting TwoRuns.bothPrinting TwoRuns.sameClass TwoRuns.codeIn TwoRuns.raisedIn TwoRuns.placedEvent TwoRuns.placed TwoRuns.history TwoRuns.fateTest TwoRuns.isOutOfBand TwoRuns.inBand TwoRuns.unacted TwoRuns.unechoed TwoRuns.untokened TwoRuns.unset TwoRuns.unsetRaised TwoRuns.isChanged TwoRuns.inBoth TwoRuns.suppositions TwoRuns.supposed TwoRuns.blanked TwoRuns.seen
 openTwoRuns = tt
 
 unfoldable pub openExamples : Unit {0}

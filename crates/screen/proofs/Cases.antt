@@ -6,7 +6,7 @@ use mathlib.Core.List.{[], _∷_}
 use lib.ListN.{replicate}
 use borrow.Author.Tests.{eq-eqb, ne-eqb, le-leb, lt-leb}
 use Rattle.rules.specs.Numbers.{topColumn}
-use Rattle.rules.specs.Screen.{BS, HT, LF, CR, SP, DEL, isMark, toTab, columnAfter, echo, terminatorEcho}
+use Rattle.rules.specs.Screen.{BS, HT, LF, CR, SP, DEL, isMark, toTab, columnAfter, echo, echoTerminator}
 use Rattle.rules.proofs.Tests.{pick-true, pick-false}
 
 module _ (column b : ℕ) where
@@ -61,10 +61,10 @@ module _ (column : ℕ) {n : ℕ} where
         echo-none d =
             pick-false _ _ m ∙ pick-false _ _ (ne-eqb n HT t) ∙ pick-false _ _ (lt-leb n 31 k) ∙ pick-false _ _ (ne-eqb n DEL d)
 
-  pub terminatorEcho-CR : n ≡ CR → terminatorEcho column n ≡ CR ∷ LF ∷ []
-  unfolding terminatorEcho
-  terminatorEcho-CR e = pick-true _ _ (eq-eqb n CR e)
+  pub echoTerminator-CR : n ≡ CR → echoTerminator column n ≡ CR ∷ LF ∷ []
+  unfolding echoTerminator
+  echoTerminator-CR e = pick-true _ _ (eq-eqb n CR e)
 
-  pub terminatorEcho-other : (n ≡ CR → ⊥) → terminatorEcho column n ≡ echo column n
-  unfolding terminatorEcho
-  terminatorEcho-other e = pick-false _ _ (ne-eqb n CR e)
+  pub echoTerminator-other : (n ≡ CR → ⊥) → echoTerminator column n ≡ echo column n
+  unfolding echoTerminator
+  echoTerminator-other e = pick-false _ _ (ne-eqb n CR e)

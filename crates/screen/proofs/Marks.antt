@@ -9,7 +9,7 @@ use lib.ListN.{length, getD, take, drop, replicate}
 use lib.ListN.{length-append, length-take, length-drop, take-append-drop, drop-of-length-le}
 use lib.Seq.{take-take}
 use borrow.Author.Tests.{leb-true}
-use Rattle.rules.specs.Choice.{pick, all}
+use Rattle.rules.specs.Choice.{pick, allAre}
 use Rattle.rules.specs.Numbers.{topColumn}
 use Rattle.rules.specs.Screen.{SP, isMark, toTab, columnAfter, columnAfterAll, echo, echoAll, marksBehind}
 use Rattle.rules.proofs.Tests.{pick-true, pick-false, pick-case, within-true, both, all-cons}
@@ -23,17 +23,17 @@ low-mark : (b : ℕ) → 32 ≤ b → b ≤ 126 → isMark b ≡ true
 unfolding isMark
 low-mark b p q = rw (within-true 32 126 b p q)
 
-spaces-marks : (k : ℕ) → all isMark (replicate k SP) ≡ true
-unfolding all
+spaces-marks : (k : ℕ) → allAre isMark (replicate k SP) ≡ true
+unfolding allAre
 spaces-marks zero = refl
 spaces-marks (suc k) = both (low-mark SP (omega arith) (omega arith)) (spaces-marks k)
 
-caret-marks : (b : ℕ) → 32 ≤ b → b ≤ 126 → all isMark (0x5E ∷ b ∷ []) ≡ true
-unfolding all
+caret-marks : (b : ℕ) → 32 ≤ b → b ≤ 126 → allAre isMark (0x5E ∷ b ∷ []) ≡ true
+unfolding allAre
 caret-marks b p q = both (low-mark 0x5E (omega arith) (omega arith)) (both (low-mark b p q) refl)
 
-echo-marks : (column n : ℕ) → all isMark (echo column n) ≡ true
-unfolding echo all
+echo-marks : (column n : ℕ) → allAre isMark (echo column n) ≡ true
+unfolding echo allAre
 echo-marks column n =
     pick-case P _ (λ m. both m refl) λ _.
     pick-case P _ (λ _. spaces-marks (toTab column)) λ _.
@@ -41,9 +41,9 @@ echo-marks column n =
     pick-case P _ (λ _. caret-marks 0x3F (omega arith) (omega arith)) λ _. refl
   where
     P : List ℕ → Type 0
-    P bs = all isMark bs ≡ true
+    P bs = allAre isMark bs ≡ true
 
-marks-column : (b : ℕ) (bs : List ℕ) (column : ℕ) → all isMark (b ∷ bs) ≡ true →
+marks-column : (b : ℕ) (bs : List ℕ) (column : ℕ) → allAre isMark (b ∷ bs) ≡ true →
     columnAfterAll column (b ∷ bs) ≡ min topColumn (column + length (b ∷ bs))
 unfolding columnAfterAll
 marks-column b [] column m = column-mark column b (all-cons isMark b [] m .0)
@@ -54,7 +54,7 @@ marks-column b (d ∷ bs) column m =
     omega arith
 
 -- so the column behind an echo goes by its length
-marks-after : (column : ℕ) (bs : List ℕ) → all isMark bs ≡ true →
+marks-after : (column : ℕ) (bs : List ℕ) → allAre isMark bs ≡ true →
     columnAfterAll column bs ≡ pick (eqb (length bs) 0) column (min topColumn (column + length bs))
 unfolding columnAfterAll
 marks-after column [] m = sym (pick-true column (min topColumn (column + 0)) refl)

@@ -6,7 +6,7 @@ use mathlib.Core.List.{List, [], _∷_}
 use lib.Dec.{leb, ltb}
 use lib.ListN.{length}
 use borrow.Author.Tests.{lt-ltb}
-use Rattle.rules.specs.Choice.{pick, isEmpty, all}
+use Rattle.rules.specs.Choice.{pick, isEmpty, allAre}
 use Rattle.rules.specs.Messages.Layout.{byteAt, widthsOf, fits}
 use Rattle.rules.specs.Messages.Forms.{forms, formOf}
 use Rattle.rules.specs.Messages.Codec.{allBytes, definedFields, fitsTail, fitsAs, fitsHeld}
@@ -17,14 +17,14 @@ use Rattle.message.specs.declared.Part.{Part}
 use Rattle.message.specs.declared.Message.{Message}
 use Rattle.message.specs.declared.Message.the-variants.{StartRead, OutOfBand, Unread, WriteCompletion, DiscardState, InputCount, InputState}
 use Rattle.message.specs.declared.StartReadFields.{StartReadFields}
-use Rattle.message.specs.Found.{partOf, heldIn, startReadIn, withText}
+use Rattle.message.specs.Found.{partOf, heldIn, startReadIn, textMessage}
 use Rattle.writing.specs.Fits.{FitsIn}
 use Rattle.writing.specs.Parts.{partsOf}
 use Rattle.writing.proofs.Lengths.{parts-length}
 
 -- the bytes of a slice are bytes, and so are those of a part
 pub bytes-all : (s : List ℕ) → ((i : ℕ) → byteAt s i < 256) → allBytes s ≡ true
-unfolding allBytes all
+unfolding allBytes allAre
 bytes-all [] h = refl
 bytes-all (b ∷ s) h = both (lt-ltb b 256 (h zero)) (bytes-all s (λ i. h (suc i)))
 
@@ -71,14 +71,14 @@ module _ (s : List ℕ) where
   count-fits x h = sym (both (both (both (lt-ltb x 65536 h) refl) refl) refl)
 
 pub read-data-fits : (code more : ℕ) {low v h t : ℕ} (text : List ℕ) → low < 65536 → v < 256 → h < 256 → t < 65536 → allBytes text ≡ true →
-    ltb code 16 && ltb more 2 && leb code 13 ≡ fitsHeld (withText 3 (code ∷ more ∷ low ∷ v ∷ h ∷ t ∷ []) [] text)
+    ltb code 16 && ltb more 2 && leb code 13 ≡ fitsHeld (textMessage 3 (code ∷ more ∷ low ∷ v ∷ h ∷ t ∷ []) [] text)
 unfolding fitsHeld fitsAs formOf forms widthsOf fits fitsTail definedFields pick isEmpty
 read-data-fits code more {low} {v} {h} {t} text low< v< h< t< bytes =
     simp (lt-ltb low 65536 low<, lt-ltb v 256 v<, lt-ltb h 256 h<, lt-ltb t 65536 t<, bytes, and-true, and-assoc)
 
 pub write-fits : (a b c d e f g h i : ℕ) {v w : ℕ} (text : List ℕ) → v < 256 → w < 256 → allBytes text ≡ true →
     ltb a 4 && ltb b 2 && ltb c 2 && ltb d 2 && ltb e 2 && ltb f 4 && ltb g 4 && ltb h 2 && ltb i 2 && leb f 2 && leb g 2 ≡
-    fitsHeld (withText 7 (a ∷ b ∷ c ∷ d ∷ e ∷ f ∷ g ∷ h ∷ i ∷ v ∷ w ∷ []) [] text)
+    fitsHeld (textMessage 7 (a ∷ b ∷ c ∷ d ∷ e ∷ f ∷ g ∷ h ∷ i ∷ v ∷ w ∷ []) [] text)
 unfolding fitsHeld fitsAs formOf forms widthsOf fits fitsTail definedFields pick isEmpty
 write-fits a b c d e f g h i {v} {w} text v< w< bytes = simp (lt-ltb v 256 v<, lt-ltb w 256 w<, bytes, and-true, and-assoc)
 

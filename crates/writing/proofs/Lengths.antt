@@ -9,11 +9,11 @@ use lib.Dec.{leb}
 use lib.ListN.{length, take, drop, length-append, length-take, length-drop}
 use lib.Seq.{length-take-le}
 use borrow.Author.Tests.{le-leb, leb-true}
-use Rattle.rules.specs.Choice.{all, joined}
+use Rattle.rules.specs.Choice.{allAre, joined}
 use Rattle.rules.specs.Calls.{framed, sentBytes}
 use Rattle.rules.specs.Messages.Layout as layout
 use Rattle.rules.specs.Messages.Layout.{writeGroups}
-use Rattle.rules.specs.Messages.Parameters.{Shape, initiation, question, setting, limitsOf, sizeOf, cleaned, cut}
+use Rattle.rules.specs.Messages.Parameters.{Shape, initiation, question, setting, limitsOf, parameterSize, cleaned, cut}
 use Rattle.rules.specs.Messages.Forms as forms
 use Rattle.rules.specs.Messages.Forms.{Tail, nothing, text, setAndText, list, Form, formOf}
 use Rattle.rules.specs.Messages.Codec.{tailBytes, bytesAs, bytesOf}
@@ -36,22 +36,22 @@ use Rattle.writing.specs.Framed.{Sendable}
 -- A parameter list: cleaning keeps the length, whole or not.
 module _ (shape : Shape) where
   abbrev short : List ℕ → Type 0
-  short p = length p ≤ sizeOf shape p
+  short p = length p ≤ parameterSize shape p
 
   -- what is cut is no longer than it should be
-  pub cut-short : (n : ℕ) (xs : List ℕ) → all (λ p. leb (length p) (sizeOf shape p)) (cut shape n xs) ≡ true
-  unfolding cut all
+  pub cut-short : (n : ℕ) (xs : List ℕ) → allAre (λ p. leb (length p) (parameterSize shape p)) (cut shape n xs) ≡ true
+  unfolding cut allAre
   cut-short zero [] = refl
   cut-short (suc n) [] = refl
   cut-short (suc n) (x ∷ xs) = cut-short n xs
   cut-short zero (x ∷ xs) =
-      let size = sizeOf shape (x ∷ xs) in
+      let size = parameterSize shape (x ∷ xs) in
       let l = length-take size (x ∷ xs) in
       let same = size-taken shape size (x ∷ xs) (size-least shape (x ∷ xs)) in
-      both (le-leb (length (take size (x ∷ xs))) (sizeOf shape (take size (x ∷ xs))) (omega arith)) (cut-short (size - 1) xs)
+      both (le-leb (length (take size (x ∷ xs))) (parameterSize shape (take size (x ∷ xs))) (omega arith)) (cut-short (size - 1) xs)
 
   pub cleaned-length : (p : List ℕ) → short p → length (cleaned shape p) ≡ length p
-  unfolding cleaned sizeOf zipWith
+  unfolding cleaned parameterSize zipWith
   cleaned-length p h = zipped p (256 ∷ 256 ∷ limitsOf shape p) (omega arith)
     where
       zipped : (p ls : List ℕ) → length p ≤ length ls → length (zipWith _%_ p ls) ≡ length p
@@ -59,7 +59,7 @@ module _ (shape : Shape) where
       zipped (b ∷ p) [] h = absurd (omega arith)
       zipped (b ∷ p) (l ∷ ls) h = ap suc (zipped p ls (omega arith))
 
-  joined-length : (ps : List (List ℕ)) → all (λ p. leb (length p) (sizeOf shape p)) ps ≡ true →
+  joined-length : (ps : List (List ℕ)) → allAre (λ p. leb (length p) (parameterSize shape p)) ps ≡ true →
       length (joined (map (cleaned shape) ps)) ≡ length (joined ps)
   unfolding joined
   joined-length [] e = refl
@@ -154,7 +154,7 @@ module _ (size : ℕ) where
   unfolding inside
   four-lie p l s t r = both (both (both l s) t) r
 
-  first-lies : (p : Part) (ps : List Part) → all (lies size) (p ∷ ps) ≡ true → Lies p
+  first-lies : (p : Part) (ps : List Part) → allAre (lies size) (p ∷ ps) ≡ true → Lies p
   first-lies p ps e = all-cons (lies size) p ps e .0
 
   bare-inside : (kind head : ℕ) → inside size (parts.bare kind head) ≡ true

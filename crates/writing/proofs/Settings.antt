@@ -9,7 +9,7 @@ use lib.ListN.{length, getD, drop}
 use borrow.Author.Tests.{lt-ltb}
 use Rattle.rules.specs.Choice.{pick, joined}
 use Rattle.rules.specs.Messages.Layout.{byteAt, numberOf, fits, bytesOf}
-use Rattle.rules.specs.Messages.Parameters.{Shape, selector, valueLimits, limitsOf, sizeOf, soundParameter, cleaned}
+use Rattle.rules.specs.Messages.Parameters.{Shape, selector, valueLimits, limitsOf, parameterSize, soundParameter, cleaned}
 use Rattle.rules.proofs.Tests.{both, halves, pick-case}
 use Rattle.rules.proofs.Fields.{fieldsIn-numberOf}
 use Rattle.rules.proofs.ParameterLists.{sound-size, size-cleaned}
@@ -65,7 +65,7 @@ module _ (t : List ℕ) (i : ℕ) (h : i < length t) (e : soundFrom 11 i t ≡ t
   here = parameterAt 11 i t
 
   abbrev size : ℕ
-  size = sizeOf (shapeOf 11) (drop i t)
+  size = parameterSize (shapeOf 11) (drop i t)
 
   tests : (soundParameter (shapeOf 11) here ≡ true) × (soundFrom 11 (i + size) t ≡ true)
   tests = halves (soundParameter (shapeOf 11) here) (soundFrom 11 (i + size) t) (sym (sound-step 11 i t h) ∙ e)
@@ -76,7 +76,7 @@ module _ (t : List ℕ) (i : ℕ) (h : i < length t) (e : soundFrom 11 i t ≡ t
       size-cleaned (shapeOf 11) here (tests .0) ∙ sound-size (shapeOf 11) here (tests .0) ∙ size-here (shapeOf 11) i t
 
   few : size ≤ 5
-  unfolding shapeOf pick sizeOf limitsOf
+  unfolding shapeOf pick parameterSize limitsOf
   few = omega (arith, few-values (byteAt (drop i t) 0 + 256 * byteAt (drop i t) 1))
 
   behind : p .next ≡ i + size

@@ -9,7 +9,7 @@ use lib.Dec.{leb, ltb, eqb}
 use lib.ListN.{length, take, drop, replicate}
 use lib.Seq.{take-append-seam}
 use borrow.Author.Tests.{ltb-true, ltb-false, leb-true, eqb-true}
-use Rattle.rules.specs.Choice.{pick, isEmpty, all, joined}
+use Rattle.rules.specs.Choice.{pick, isEmpty, allAre, joined}
 use Rattle.rules.specs.Numbers.{messageSize, messageArea, accepted, smallArea, wrongLength, wrongType, unsound}
 use Rattle.rules.specs.Calls.{areaAfter}
 use Rattle.rules.specs.Messages.Layout.{widthsOf, fits, writeGroups}
@@ -87,10 +87,10 @@ put-in-front {o} {bytes} {before} {after} {n} e room w =
 
 -- Bytes whose limits are all 256 are their own.
 full : List ℕ → Bool
-full ls = all (λ l. eqb l 256) ls
+full ls = allAre (λ l. eqb l 256) ls
 
 zip-full : (p ls : List ℕ) → allBytes p ≡ true → length p ≤ length ls → full ls ≡ true → zipWith _%_ p ls ≡ p
-unfolding allBytes all zipWith full
+unfolding allBytes allAre zipWith full
 zip-full [] ls b h e = refl
 zip-full (x ∷ p) [] b h e = absurd (omega arith)
 zip-full (x ∷ p) (l ∷ ls) b h e =
@@ -99,28 +99,28 @@ zip-full (x ∷ p) (l ∷ ls) b h e =
     ap₂ _∷_ (ap (λ k. x % k) (eqb-true l 256 (t .0)) ∙ mod-eq-of-lt (ltb-true x 256 (u .0))) (zip-full p ls (u .1) (omega arith) (t .1))
 
 module _ (shape : Shape) (whole : (low high : ℕ) → full (shape .limits low high) ≡ true) where
-  each-own : (ps : List (List ℕ)) → all allBytes ps ≡ true → all (λ p. leb (length p) (parameters.sizeOf shape p)) ps ≡ true → map (cleaned shape) ps ≡ ps
-  unfolding cleaned parameters.sizeOf limitsOf full all
+  each-own : (ps : List (List ℕ)) → allAre allBytes ps ≡ true → allAre (λ p. leb (length p) (parameters.parameterSize shape p)) ps ≡ true → map (cleaned shape) ps ≡ ps
+  unfolding cleaned parameters.parameterSize limitsOf full allAre
   each-own [] b e = refl
   each-own (p ∷ ps) b e =
       let c = all-cons allBytes p ps b in
-      let s = all-cons (λ p. leb (length p) (parameters.sizeOf shape p)) p ps e in
-      let h = leb-true (length p) (parameters.sizeOf shape p) (s .0) in
+      let s = all-cons (λ p. leb (length p) (parameters.parameterSize shape p)) p ps e in
+      let h = leb-true (length p) (parameters.parameterSize shape p) (s .0) in
       ap₂ _∷_ (zip-full p (256 ∷ 256 ∷ limitsOf shape p) (c .0) (omega arith) (whole _ _)) (each-own ps (c .1) (s .1))
 
   own-bytes : (xs : List ℕ) → allBytes xs ≡ true → xs ≡ joined (map (cleaned shape) (cut shape zero xs))
   unfolding allBytes
   own-bytes xs b =
-      let cut-bytes : all allBytes (cut shape zero xs) ≡ true = rw (← joined-cut shape zero xs, all-joined) at b in
+      let cut-bytes : allAre allBytes (cut shape zero xs) ≡ true = rw (← joined-cut shape zero xs, all-joined) at b in
       sym (ap joined (each-own (cut shape zero xs) cut-bytes (cut-short shape zero xs)) ∙ joined-cut shape zero xs)
 
 full-replicate : (n : ℕ) → full (replicate n 256) ≡ true
-unfolding full all
+unfolding full allAre
 full-replicate zero = refl
 full-replicate (suc n) = full-replicate n
 
 full-question : (n : ℕ) → full (questionLimits n) ≡ true
-unfolding questionLimits full all
+unfolding questionLimits full allAre
 full-question n = pick-case (λ ls. full ls ≡ true) _ (λ y. refl) (λ n. refl)
 
 -- A message that fits: its type, its list and its bytes, by its parts.

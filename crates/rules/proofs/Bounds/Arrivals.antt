@@ -12,8 +12,8 @@ use Rattle.rules.specs.State.{Reading, State, codes, withTerminal, withD
 use Rattle.rules.specs.Turns.{cleared}
 use Rattle.rules.specs.Editing.{endOf}
 use Rattle.rules.specs.ReadData.{byOutOfBand}
-use Rattle.rules.specs.Arrival.{idleAgain, keeps, countsDropped, drops, stores, storesQuoted, quotes, sendsDiscardState, flipsDiscard, emptiesTyped, clearsUnseen}
-use Rattle.rules.specs.Arrival.{clearsSeen, clears, clearsBy, sendsOutOfBand, endsOutOfBand, clearsAtOnce, controlled, ruled, arrives}
+use Rattle.rules.specs.Arrival.{idleAgain, keeps, countsDropped, drops, stores, storesQuoted, quotes, sendsDiscardState, flipsDiscard, emptiesTyped, clearsInput}
+use Rattle.rules.specs.Arrival.{Rubbing, rubbingOut, withoutRubbing, clearRule, clearsBy, sendsOutOfBand, endsOutOfBand, clearsAtOnce, controlled, byFirstRule, arrives}
 use Rattle.rules.specs.Bounds.{BoundedReading, BoundedRead}
 use Rattle.rules.proofs.Bounds.Bytes.{no-bytes, one-byte, bytes-append}
 use Rattle.rules.proofs.Bounds.Turns.{OfRead, Steady, Good, Fine, fine, reset, retyped, reread}
@@ -75,22 +75,23 @@ module _ {s : State ℕ} (c : ℕ) (h : Steady BoundedRead s) where
       tells-then _ _ (changes-then _ _
       (sends-good _ (discardState-sent _) (omega arith) (terminal-same (not (s .terminal .discarding)) (s .terminal .quoting) h)))
 
--- The clear rule.
+-- The clear rule, and how many bytes it writes at most.
+abbrev rubbed : Rubbing → ℕ
+rubbed rubbingOut = 24 * inputSize
+rubbed withoutRubbing = 0
+
 pub emptiesTyped-good : {R : OfRead} {bytes area : ℕ} {s : State ℕ} → Steady R s → Good R bytes area (emptiesTyped s)
 unfolding emptiesTyped
 emptiesTyped-good h =
     tells-then _ _ (changes-good _ (retyped h (record { typeAhead = omega arith; token = omega arith; keyBytes = no-bytes; tokenBytes = no-bytes })))
 
 module _ {s : State ℕ} (h : Steady BoundedRead s) where
-  clearsUnseen-good : {bytes area : ℕ} (o : Option (Reading ℕ)) → BoundedRead o → Good BoundedRead bytes area (clearsUnseen o s)
-  unfolding clearsUnseen
-  clearsUnseen-good none b = still-good h
-  clearsUnseen-good (some r) b = deletesUnseen-good cleared 0 r b h
-
-  clearsSeen-good : {area : ℕ} (o : Option (Reading ℕ)) → BoundedRead o → Good BoundedRead (24 * inputSize) area (clearsSeen codes o s)
-  unfolding clearsSeen
-  clearsSeen-good none b = still-good h
-  clearsSeen-good (some r) b = deletes-good cleared 0 r b h
+  clearsInput-good : {area : ℕ} (rubbing : Rubbing) (o : Option (Reading ℕ)) → BoundedRead o →
+      Good BoundedRead (rubbed rubbing) area (clearsInput codes rubbing o s)
+  unfolding clearsInput
+  clearsInput-good rubbing none b = still-good h
+  clearsInput-good rubbingOut (some r) b = deletes-good cleared 0 r b h
+  clearsInput-good withoutRubbing (some r) b = deletesUnseen-good cleared 0 r b h
 
   endsOutOfBand-good : {bytes : ℕ} (o : Option (Reading ℕ)) → BoundedRead o → Good BoundedRead bytes (10 + inputSize) (endsOutOfBand codes o s)
   unfolding endsOutOfBand
@@ -98,11 +99,13 @@ module _ {s : State ℕ} (h : Steady BoundedRead s) where
   endsOutOfBand-good (some r) b = completes-good byOutOfBand 0 r (omega arith) (bounded-answerable r b) h
 
 module _ {s : State ℕ} (h : Steady BoundedRead s) where
-  pub clears-fine : Fine (clears codes s)
-  unfolding clears
-  clears-fine =
-      fine (24 * inputSize) 0 (omega arith) (omega arith)
-      (quiet-then _ _ (emptiesTyped-good h) λ s₁ h₁. clearsSeen-good h₁ (s .read) (h .read))
+  clearRule-good : {area : ℕ} (rubbing : Rubbing) → Good BoundedRead (rubbed rubbing) area (clearRule codes rubbing s)
+  unfolding clearRule
+  clearRule-good rubbing = quiet-then _ _ (emptiesTyped-good h) λ s₁ h₁. clearsInput-good h₁ rubbing (s₁ .read) (h₁ .read)
+
+module _ {s : State ℕ} (h : Steady BoundedRead s) where
+  pub clearRule-fine : Fine (clearRule codes rubbingOut s)
+  clearRule-fine = fine (24 * inputSize) 0 (omega arith) (omega arith) (clearRule-good h rubbingOut)
 
   module _ (c : ℕ) (byte : c < 256) where
     sendsOutOfBand-good : {bytes : ℕ} → Good BoundedRead bytes 5 (sendsOutOfBand codes c s)
@@ -114,9 +117,8 @@ module _ {s : State ℕ} (h : Steady BoundedRead s) where
     clearsAtOnce-fine =
         fine 0 (inputSize + 15) (omega arith) (omega arith)
         (then-good _ _ 0 0 5 (10 + inputSize) (omega arith) (omega arith) sendsOutOfBand-good λ s₁ h₁.
-        quiet-then _ _ (emptiesTyped-good h₁) λ s₂ h₂.
-        quiet-then _ _ (clearsUnseen-good h₂ (s₂ .read) (h₂ .read)) λ s₃ h₃.
-        endsOutOfBand-good h₃ (s₃ .read) (h₃ .read))
+        quiet-then _ _ (clearRule-good h₁ withoutRubbing) λ s₂ h₂.
+        endsOutOfBand-good h₂ (s₂ .read) (h₂ .read))
 
     stores-fine : (quoted : Bool) → Fine (stores typeAheadSize quoted c s)
     stores-fine quoted = fine 1 0 (omega arith) (omega arith) (stores-good c byte h quoted)
@@ -125,13 +127,13 @@ module _ {s : State ℕ} (h : Steady BoundedRead s) where
     unfolding controlled clearsBy
     controlled-fine =
         pick-good _ _ _ (λ y. quotes-good c h) λ n.
-        pick-good _ _ _ (λ y. tells-then _ _ clears-fine) λ n.
+        pick-good _ _ _ (λ y. tells-then _ _ clearRule-fine) λ n.
         pick-good _ _ _ (λ y. fine 0 4 (omega arith) (omega arith) (flipsDiscard-good c h)) λ n.
         stores-fine false
 
-    ruled-fine : Fine (ruled codes c s)
-    unfolding ruled storesQuoted
-    ruled-fine =
+    byFirstRule-fine : Fine (byFirstRule codes c s)
+    unfolding byFirstRule storesQuoted
+    byFirstRule-fine =
         pick-good _ _ _
         (λ y. changes-then _ _ (fine 1 0 (omega arith) (omega arith) (stores-good c byte (terminal-same (s .terminal .discarding) false h) true))) λ n.
         pick-good _ _ _ (λ y. fine 0 5 (omega arith) (omega arith) sendsOutOfBand-good) λ n.
@@ -141,4 +143,4 @@ module _ {s : State ℕ} (h : Steady BoundedRead s) where
 
     pub arrives-fine : Fine (arrives codes c s)
     unfolding arrives
-    arrives-fine = tells-then _ _ (pick-good _ _ _ (λ y. ruled-fine) (λ n. stores-fine false))
+    arrives-fine = tells-then _ _ (pick-good _ _ _ (λ y. byFirstRule-fine) (λ n. stores-fine false))

@@ -8,7 +8,7 @@ use mathlib.Core.Option.{some}
 use lib.Dec.{eqb}
 use lib.ListN.{length, take, drop, length-take, length-drop, length-map}
 use borrow.Author.Tests.{eqb-false}
-use Rattle.rules.specs.Choice.{bit, all}
+use Rattle.rules.specs.Choice.{bit, allAre}
 use Rattle.rules.specs.Numbers.{inputSize, topColumn}
 use Rattle.rules.specs.Messages.Forms.{Message}
 use Rattle.rules.specs.Messages.Codec.{allBytes}
@@ -16,7 +16,7 @@ use Rattle.rules.specs.State.{State, codes, withFrom}
 use Rattle.rules.specs.Editing.{endOf}
 use Rattle.rules.specs.StartRead as fields
 use Rattle.rules.specs.StartRead.{universal, chosenSet}
-use Rattle.rules.specs.StartRead.Acceptance.{hidesLF, termsOf, readingOf, remembersSet, clearsFirst, feedsLine, autoPrompts, completesIfFull, begins, startsRead}
+use Rattle.rules.specs.StartRead.Acceptance.{shownPrompt, dataBehind, hidesInput, hidesLF, openedTerms, openedRead, remembersSet, clearsFirst, feedsLine, autoPrompts, completesIfFull, begins, startsRead}
 use Rattle.rules.specs.Bounds.{BoundedTerms, BoundedRead}
 use Rattle.rules.proofs.Tests.{pick-case}
 use Rattle.rules.proofs.Bounds.Bytes.{bytes-drop}
@@ -32,12 +32,12 @@ abbrev SetBounded : List ℕ → Type 0
 SetBounded set = (length set ≤ 32) × (allBytes set ≡ true)
 
 chosenSet-bounded : (last : List ℕ) (m : Message ℕ) → SetBounded last → SetBounded (m .set) → SetBounded (chosenSet last m)
-unfolding chosenSet universal allBytes all
+unfolding chosenSet universal allBytes allAre
 chosenSet-bounded last m h k = pick-case SetBounded _ (λ y. h) λ n. pick-case SetBounded _ (λ y. k) λ n. (omega arith, refl)
 
 module _ (m : Message ℕ) (known : Startable m) {s : State ℕ} (h : Steady BoundedRead s) where
-  terms-bounded : BoundedTerms (termsOf codes m s)
-  unfolding termsOf
+  terms-bounded : BoundedTerms (openedTerms codes m s)
+  unfolding openedTerms shownPrompt
   terms-bounded =
       let front = take (fields.endOfPrompt m) (m .text) in
       let n = length-take (fields.endOfPrompt m) (m .text) in
@@ -54,12 +54,12 @@ module _ (m : Message ℕ) (known : Startable m) {s : State ℕ} (h : Steady Bou
       }
 
   -- what stands behind the prompt
-  input-bytes : allBytes (readingOf codes m s .input) ≡ true
-  unfolding readingOf
+  input-bytes : allBytes (openedRead codes m s .input) ≡ true
+  unfolding openedRead dataBehind hidesInput
   input-bytes = rw map-same (bytes-drop (fields.endOfPrompt m) (m .text) (known .textBytes))
 
-  input-length : fields.endOfPrompt m + length (readingOf codes m s .input) ≡ fields.endOfData m
-  unfolding readingOf
+  input-length : fields.endOfPrompt m + length (openedRead codes m s .input) ≡ fields.endOfData m
+  unfolding openedRead dataBehind hidesInput
   input-length =
       let back = drop (fields.endOfPrompt m) (m .text) in
       let n = length-map back (codes .given) in
@@ -68,15 +68,15 @@ module _ (m : Message ℕ) (known : Startable m) {s : State ℕ} (h : Steady Bou
       let t = known .text in
       omega arith
 
-  reading-answerable : Answerable (readingOf codes m s)
-  unfolding readingOf
+  reading-answerable : Answerable (openedRead codes m s)
+  unfolding openedRead dataBehind hidesInput
   reading-answerable = let n = input-length in record { input = omega arith; lowWater = omega arith; bytes = input-bytes }
 
   abbrev full : Bool
   full = eqb (fields.endOfData m) (fields.maxLength m)
 
-  reading-bounded : (column : ℕ) → column ≤ topColumn → Unless full (some (withFrom column (readingOf codes m s)))
-  unfolding readingOf termsOf endOf
+  reading-bounded : (column : ℕ) → column ≤ topColumn → Unless full (some (withFrom column (openedRead codes m s)))
+  unfolding openedRead dataBehind hidesInput openedTerms shownPrompt endOf
   reading-bounded column top n =
       let end = input-length in
       let more = eqb-false (fields.endOfData m) (fields.maxLength m) n in
@@ -89,10 +89,10 @@ module _ (m : Message ℕ) (known : Startable m) {s : State ℕ} (h : Steady Bou
         from = top;
       }
 
-  begins-good : Good BoundedRead (2 + 8 * inputSize) (10 + inputSize) (begins codes m (readingOf codes m s) s)
-  unfolding begins clearsFirst feedsLine autoPrompts completesIfFull readingOf termsOf
+  begins-good : Good BoundedRead (2 + 8 * inputSize) (10 + inputSize) (begins codes m (openedRead codes m s) s)
+  unfolding begins clearsFirst feedsLine autoPrompts completesIfFull openedRead dataBehind hidesInput openedTerms shownPrompt
   begins-good =
-      let r = readingOf codes m s in
+      let r = openedRead codes m s in
       let t = terms-bounded in
       let n = input-length in
       quiet-then _ _ (only-good _ _ (λ y. emptiesTyped-good h) (λ n. h)) λ s₁ h₁.

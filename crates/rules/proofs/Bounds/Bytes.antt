@@ -5,16 +5,16 @@ use mathlib.Core.Bool.{true}
 use mathlib.Core.List.{List, [], _∷_, _++_}
 use lib.ListN.{take, drop}
 use borrow.Author.Tests.{lt-ltb}
-use Rattle.rules.specs.Choice.{all}
+use Rattle.rules.specs.Choice.{allAre}
 use Rattle.rules.specs.Messages.Codec.{allBytes}
 use Rattle.rules.proofs.Tests.{both, all-append, all-split}
 
 pub no-bytes : allBytes [] ≡ true
-unfolding allBytes all
+unfolding allBytes allAre
 no-bytes = refl
 
 pub one-byte : (n : ℕ) → n < 256 → allBytes (n ∷ []) ≡ true
-unfolding allBytes all
+unfolding allBytes allAre
 one-byte n h = both (lt-ltb n 256 h) refl
 
 pub bytes-append : (ns ks : List ℕ) → allBytes ns ≡ true → allBytes ks ≡ true → allBytes (ns ++ ks) ≡ true

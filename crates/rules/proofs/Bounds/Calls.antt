@@ -4,16 +4,15 @@ use Prim.Native.Nat.{ℕ}
 use native.Mathlib.Omega.{arith}
 use mathlib.Core.Bool.{true}
 use mathlib.Core.List.{List, [], _∷_}
-use lib.ListN.{length}
 use borrow.Author.Tests.{ltb-true, not-false}
-use Rattle.rules.specs.Choice.{firstOf, all}
+use Rattle.rules.specs.Choice.{firstOf, allAre}
 use Rattle.rules.specs.Messages.Forms.{Message}
 use Rattle.rules.specs.Messages.Codec.{Outcome, refused, sound, read, allBytes}
 use Rattle.rules.specs.State.{State, codes, freshHost, freshTerminal, fresh}
 use Rattle.rules.specs.StartRead.{universal}
 use Rattle.rules.specs.Characteristics.{isDeferredClear}
-use Rattle.rules.specs.Calls.{Event, key, step, tick, message, Call, Answer, isCarriedBy, carries, refusals, considered}
-use Rattle.rules.specs.Calls.{refuses, does, hears, answers, answer, messageBytes, runFrom, run}
+use Rattle.rules.specs.Calls.{Event, key, step, tick, message, Call, Answer, isCarriedBy, carries, refusals, received}
+use Rattle.rules.specs.Calls.{refuses, does, answersMessage, answers, answer, messageBytes, runFrom, run}
 use Rattle.rules.specs.Bounds.{isAttribute, BoundedRead, Bounded, isByteEvent, Within, AllWithin}
 use Rattle.rules.proofs.Tests.{pick-case, pick-second, all-cons}
 use Rattle.rules.proofs.Outcomes.{refused-sound}
@@ -24,7 +23,7 @@ use Rattle.rules.proofs.Bounds.Steps.{steps-fine, ticks-fine}
 use Rattle.rules.proofs.Bounds.Hosts.{obeys-fine}
 
 pub fresh-bounded : Bounded fresh
-unfolding fresh freshHost freshTerminal universal allBytes all isAttribute isDeferredClear
+unfolding fresh freshHost freshTerminal universal allBytes allAre isAttribute isDeferredClear
 fresh-bounded =
     record {
       host = record { table = refl; attributes = refl; setLength = omega arith; setBytes = refl };
@@ -50,9 +49,9 @@ fine-within a g =
 
 -- A message that is obeyed was read, and is carried.
 module _ (s : State ℕ) where
-  pub considered-sound : (bytes : List ℕ) (m : Message ℕ) → considered s bytes ≡ sound m → (read bytes ≡ sound m) × (isCarriedBy s m ≡ true)
-  unfolding considered refusals firstOf carries
-  considered-sound bytes m e =
+  pub received-sound : (bytes : List ℕ) (m : Message ℕ) → received s bytes ≡ sound m → (read bytes ≡ sound m) × (isCarriedBy s m ≡ true)
+  unfolding received refusals firstOf carries
+  received-sound bytes m e =
       let size = pick-second _ refused-sound e in
       let kind = pick-second _ refused-sound (size .1) in
       let time = pick-second _ refused-sound (kind .1) in
@@ -65,11 +64,11 @@ module _ {s : State ℕ} (h : Steady BoundedRead s) where
   unfolding refuses
   refuses-within n = fine-within _ (still-good h)
 
-  hears-within : (bytes : List ℕ) → allBytes bytes ≡ true → (o : Outcome (Message ℕ)) → considered s bytes ≡ o → Within (hears codes o s)
-  unfolding hears does
-  hears-within bytes small (refused n) e = refuses-within n
-  hears-within bytes small (sound m) e =
-      let c = considered-sound s bytes m e in
+  answersMessage-within : (bytes : List ℕ) → allBytes bytes ≡ true → (o : Outcome (Message ℕ)) → received s bytes ≡ o → Within (answersMessage codes o s)
+  unfolding answersMessage does
+  answersMessage-within bytes small (refused n) e = refuses-within n
+  answersMessage-within bytes small (sound m) e =
+      let c = received-sound s bytes m e in
       fine-within _ (obeys-fine h m (read-sent bytes m small (c .0)) (c .1))
 
   answers-within : (e : Event ℕ) → isByteEvent e ≡ true → Within (answers codes e s)
@@ -77,7 +76,7 @@ module _ {s : State ℕ} (h : Steady BoundedRead s) where
   answers-within (key c) byte = fine-within _ (arrives-fine h c (ltb-true c 256 byte))
   answers-within step byte = fine-within _ (steps-fine h)
   answers-within tick byte = fine-within _ (ticks-fine h)
-  answers-within (message bytes) small = hears-within bytes small (considered s bytes) refl
+  answers-within (message bytes) small = answersMessage-within bytes small (received s bytes) refl
 
 pub call-within : (c : Call ℕ) (s : State ℕ) → isByteEvent (c .event) ≡ true → Bounded s → Within (answer codes c s)
 unfolding answer firstOf
@@ -86,7 +85,7 @@ call-within c s byte b =
     (λ y. refuses-within (steady b) _)
     (λ n. answers-within (steady b) (c .event) byte)
 
-runFrom-within : (cs : List (Call ℕ)) (s : State ℕ) → all (λ c. isByteEvent (c .event)) cs ≡ true → Bounded s → AllWithin (runFrom codes s cs)
+runFrom-within : (cs : List (Call ℕ)) (s : State ℕ) → allAre (λ c. isByteEvent (c .event)) cs ≡ true → Bounded s → AllWithin (runFrom codes s cs)
 unfolding runFrom
 runFrom-within [] s bytes b = tt
 runFrom-within (c ∷ cs) s bytes b =
@@ -94,6 +93,6 @@ runFrom-within (c ∷ cs) s bytes b =
     let w = call-within c s (h .0) b in
     (w, runFrom-within cs (answer codes c s .turn .state) (h .1) (w .state))
 
-pub run-within : (cs : List (Call ℕ)) → all (λ c. isByteEvent (c .event)) cs ≡ true → AllWithin (run codes cs)
+pub run-within : (cs : List (Call ℕ)) → allAre (λ c. isByteEvent (c .event)) cs ≡ true → AllWithin (run codes cs)
 unfolding run
 run-within cs bytes = runFrom-within cs fresh bytes fresh-bounded

@@ -22,7 +22,7 @@ use Rattle.rules.proofs.Bounds.Turns.{Steady, Fine, fine, roomier, reho
 use Rattle.rules.proofs.Bounds.Turns.{still-good, changes-good, writes-good, sends-good, changes-then, quiet-then, writes-sends, pick-good, only-good}
 use Rattle.rules.proofs.Bounds.Messages.{completion-sent, inputCount-sent, initiate-sent}
 use Rattle.rules.proofs.Bounds.Reads.{bounded-answerable, completes-fine}
-use Rattle.rules.proofs.Bounds.Arrivals.{terminal-same, clears-fine}
+use Rattle.rules.proofs.Bounds.Arrivals.{terminal-same, clearRule-fine}
 use Rattle.rules.proofs.Bounds.Received.{write-text, startable}
 use Rattle.rules.proofs.Bounds.Begins.{startsRead-fine}
 use Rattle.rules.proofs.Bounds.Settings.{settings-fine}
@@ -66,7 +66,7 @@ module _ {s : State ℕ} (h : Steady BoundedRead s) where
       pick-good _ _ _ (λ y. initiates-fine) λ n.
       pick-good _ _ _ (λ y. startsRead-fine m (startable m (eqb-true (m .kind) startRead y) (sym (pick-true _ _ y) ∙ carried) (sent .fit)) h) λ no-start.
       pick-good _ _ _ (λ y. unreadsWhile-fine (s .read) m (h .read)) λ n.
-      pick-good _ _ _ (λ y. clears-fine h) λ n.
+      pick-good _ _ _ (λ y. clearRule-fine h) λ n.
       pick-good _ _ _ (λ y. writesOut-fine m (write-text m (eqb-true (m .kind) write y) sent)) λ no-write.
       pick-good _ _ _
       (λ y.

@@ -7,7 +7,7 @@ use mathlib.Core.Bool.{Bool, true}
 use mathlib.Core.List.{List, [], _∷_}
 use lib.ListN.{length}
 use borrow.Author.Tests.{le-leb}
-use Rattle.rules.specs.Choice.{pick, within, bit, isEmpty, all, joined}
+use Rattle.rules.specs.Choice.{pick, within, bit, isEmpty, allAre, joined}
 use Rattle.rules.specs.Numbers.{messageSize, inputSize}
 use Rattle.rules.specs.Messages.Layout.{fits, sizeOf, widthsOf, fieldsIn, bytesOf}
 use Rattle.rules.specs.Messages.Parameters.{initiation, limitsOf, soundParameter, fitsParameter}
@@ -82,7 +82,7 @@ word-fits kind v h =
     under-true (256 ∷ 256 ∷ 256 ∷ 256 ∷ []) (kind ∷ 2 ∷ bytesOf 2 v) (omega arith)
 
 pub initiate-sent : Sent 25 ourInitiate
-unfolding definedKind within formOf forms definedFields pick widthsOf sizeOf fitsAs fitsTail tailBytes isEmpty ourInitiate all soundParameter parameters.sizeOf limitsOf joined fieldsIn fits
+unfolding definedKind within formOf forms definedFields pick widthsOf sizeOf fitsAs fitsTail tailBytes isEmpty ourInitiate allAre soundParameter parameters.parameterSize limitsOf joined fieldsIn fits
 initiate-sent =
     let n = sent-length ourInitiate in
     let words = both (word-fits 1 messageSize (omega arith)) (both (word-fits 2 inputSize (omega arith)) (both (word-fits 3 0x7FFE (omega arith)) refl)) in

@@ -8,12 +8,12 @@ use mathlib.Core.List.{List, [], _∷_, map}
 use lib.Dec.{leb, eqb}
 use lib.ListN.{length, getD}
 use borrow.Author.Tests.{ltb-true, leb-true, eqb-true, eq-eqb}
-use Rattle.rules.specs.Choice.{pick, within, bit, isEmpty, all}
+use Rattle.rules.specs.Choice.{pick, within, bit, isEmpty, allAre}
 use Rattle.rules.specs.Numbers.{messageArea}
 use Rattle.rules.specs.Messages.Layout.{byteAt, fits, widthsOf}
 use Rattle.rules.specs.Messages.Parameters.{selector, characterAttributes, raiseInput, normalEcho, escapeRecognition, autoPrompt, inputCountState}
 use Rattle.rules.specs.Messages.Parameters.{definedSelector, questionLimits, valueLimits, definedValue, question, setting}
-use Rattle.rules.specs.Messages.Parameters.{under, limitsOf, sizeOf, soundParameter, fitsParameter}
+use Rattle.rules.specs.Messages.Parameters.{under, limitsOf, parameterSize, soundParameter, fitsParameter}
 use Rattle.rules.specs.Messages.Forms.{Message, forms, formOf, readCharacteristics}
 use Rattle.rules.specs.Messages.Codec.{definedKind, definedFields, fitsTail, fitsAs}
 use Rattle.rules.specs.State.{Host, State}
@@ -60,7 +60,7 @@ abbrev Whole : List ℕ → Type 0
 Whole q = (fitsParameter setting q ≡ true) × (soundParameter setting q ≡ true)
 
 whole : (q ls : List ℕ) → Carried (selector q) → valueLimits (selector q) ≡ ls → under (256 ∷ 256 ∷ ls) q ≡ true → Whole q
-unfolding fitsParameter soundParameter limitsOf sizeOf definedValue
+unfolding fitsParameter soundParameter limitsOf parameterSize definedValue
 whole q ls c e h =
     let n = under-length (256 ∷ 256 ∷ ls) q h in
     let l = ap (λ ks. length ks) e in (
@@ -92,19 +92,19 @@ module _ (h : Host) (b : BoundedHost h) where
       (sym (c .limits) ∙ pick-false _ _ n) (under-true _ _ (omega arith)))
 
   reported-all : (q : List ℕ → Bool) → ((p : List ℕ) → fitsParameter question p ≡ true → isCarried (selector p) ≡ true → q (reported h p) ≡ true) →
-      (ps : List (List ℕ)) → all (fitsParameter question) ps ≡ true → all (λ p. isCarried (selector p)) ps ≡ true →
-      all q (map (reported h) ps) ≡ true
+      (ps : List (List ℕ)) → allAre (fitsParameter question) ps ≡ true → allAre (λ p. isCarried (selector p)) ps ≡ true →
+      allAre q (map (reported h) ps) ≡ true
   reported-all q f ps fit five =
       all-map _ q (reported h)
       (λ p t. let k = halves (fitsParameter question p) (isCarried (selector p)) t in f p (k .0) (k .1)) ps
       (all-both (fitsParameter question) (λ p. isCarried (selector p)) ps fit five)
 
-  report-fit : (m : Message ℕ) → m .kind ≡ readCharacteristics → Fit m → all (λ p. isCarried (selector p)) (m .parameters) ≡ true → Fit (report h m)
+  report-fit : (m : Message ℕ) → m .kind ≡ readCharacteristics → Fit m → allAre (λ p. isCarried (selector p)) (m .parameters) ≡ true → Fit (report h m)
   unfolding report formOf forms widthsOf fits fitsAs fitsTail isEmpty definedKind within definedFields pick
   report-fit m e known five =
       let ps = m .parameters in
       let parts = fit-parts m readCharacteristics e known in
-      let fit = quarters (isEmpty (m .set)) (all (fitsParameter question) ps) (all (soundParameter question) ps) (isEmpty (m .text)) (parts .1) .1 in
+      let fit = quarters (isEmpty (m .set)) (allAre (fitsParameter question) ps) (allAre (soundParameter question) ps) (isEmpty (m .text)) (parts .1) .1 in
       record {
         kind = refl;
         fits = both (both refl (both
@@ -117,7 +117,7 @@ pub reports-fine : {s : State ℕ} (m : Message ℕ) → m .kind ≡ readCharact
 unfolding reports carriesQuestions
 reports-fine {s = s} m e known carries h =
     let answer = report (s .host) m in
-    let k = halves (all (λ p. isCarried (selector p)) (m .parameters)) (leb (length (framed (sentBytes answer))) messageArea) carries in
+    let k = halves (allAre (λ p. isCarried (selector p)) (m .parameters)) (leb (length (framed (sentBytes answer))) messageArea) carries in
     let room = leb-true (length (framed (sentBytes answer))) messageArea (k .1) in
     let n = framed-length (sentBytes answer) in
     sends-good answer (record { fit = report-fit (s .host) (h .host) m e known (k .0); size = le-refl (length (sentBytes answer)) }) (omega arith) h

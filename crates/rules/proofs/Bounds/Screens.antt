@@ -8,7 +8,7 @@ use lib.ListN.{length, take, drop, length-append, length-replicate, length-drop}
 use Rattle.rules.specs.Choice.{joined}
 use Rattle.rules.specs.Numbers.{topColumn}
 use Rattle.rules.specs.Screen.{Screen, SP, toTab, columnAfter, columnAfterAll, shown, shownAll, change}
-use Rattle.rules.specs.Screen.{echo, terminatorEcho, echoAll, marksBehind, rubOut}
+use Rattle.rules.specs.Screen.{echo, echoTerminator, echoAll, marksBehind, rubOut}
 use Rattle.rules.proofs.Tests.{pick-case}
 
 pub record BoundedScreen (s : Screen) : Type 0 where
@@ -56,9 +56,9 @@ echo-length column n =
     pick-case Short _ (λ y. omega arith) λ n.
     pick-case Short _ (λ y. omega arith) λ n. omega arith
 
-pub terminatorEcho-length : (column n : ℕ) → length (terminatorEcho column n) ≤ 8
-unfolding terminatorEcho Short
-terminatorEcho-length column n = pick-case Short _ (λ y. omega arith) (λ e. echo-length column n)
+pub echoTerminator-length : (column n : ℕ) → length (echoTerminator column n) ≤ 8
+unfolding echoTerminator Short
+echoTerminator-length column n = pick-case Short _ (λ y. omega arith) (λ e. echo-length column n)
 
 pub echoAll-length : (column : ℕ) (ns : List ℕ) → length (echoAll column ns) ≤ 8 * length ns
 unfolding echoAll

@@ -8,7 +8,7 @@ use mathlib.Core.List.{List, [], _∷_}
 use lib.Dec.{ltb, eqb}
 use lib.ListN.{length, getD, length-set}
 use borrow.Author.Tests.{lt-ltb}
-use Rattle.rules.specs.Choice.{all}
+use Rattle.rules.specs.Choice.{allAre}
 use Rattle.rules.specs.Messages.Layout.{byteAt}
 use Rattle.rules.specs.Messages.Codec.{allBytes}
 use Rattle.rules.specs.Messages.Forms.{Message}
@@ -32,7 +32,7 @@ masked-under (suc width) mask old new =
 -- What parameters keep, whatever they hold: 256 places of seven bits, and the set.
 record Seven (h : Host) : Type 0 where
   table : length (h .attributes) ≡ 256
-  seven : all (λ a. ltb a 128) (h .attributes) ≡ true
+  seven : allAre (λ a. ltb a 128) (h .attributes) ≡ true
   setLength : length (h .lastSet) ≤ 32
   setBytes : allBytes (h .lastSet) ≡ true
 

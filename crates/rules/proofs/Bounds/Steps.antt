@@ -11,7 +11,6 @@ use borrow.Author.Tests.{ltb-true, leb-true, leb-false, eqb-false, not-false}
 use Rattle.rules.specs.Choice.{pick}
 use Rattle.rules.specs.Numbers.{inputSize, tokenSize}
 use Rattle.rules.specs.Messages.Codec.{allBytes}
-use Rattle.rules.specs.Screen.{terminatorEcho}
 use Rattle.rules.specs.State.{Key, Reading, State, codes, raised, withIdle}
 use Rattle.rules.specs.Token.{Place, empty, invalid, placeFrom, isFinished, standing, isWhole}
 use Rattle.rules.specs.Turns.{Fate, edited}
@@ -22,7 +21,7 @@ use Rattle.rules.specs.Steps.{showsAgain, edits, takesPlain, raisedBy, t
 use Rattle.rules.specs.Bounds.{BoundedTyped, BoundedReading, BoundedRead}
 use Rattle.rules.proofs.Tests.{pick-case, all-cons}
 use Rattle.rules.proofs.Bounds.Bytes.{one-byte, bytes-append}
-use Rattle.rules.proofs.Bounds.Screens.{echo-length, terminatorEcho-length}
+use Rattle.rules.proofs.Bounds.Screens.{echo-length, echoTerminator-length}
 use Rattle.rules.proofs.Bounds.Turns.{Steady, Fine, fine, retyped, reread}
 use Rattle.rules.proofs.Bounds.Turns.{still-good, changes-good, writes-good, tells-then, changes-then, writes-sends, pick-good, only-good}
 use Rattle.rules.proofs.Bounds.Reads.{Answerable, bounded-answerable, emptied, completes-good, completes-fine, completes-full, deletes-good, redisplays-good}
@@ -140,7 +139,7 @@ module _ (r : Reading ℕ) (b : BoundedReading r) where
     unfolding terminates echoesTerminatorIf
     terminates-fine h =
         fine 8 (10 + inputSize) (omega arith) (omega arith)
-        (writes-sends _ _ (writes-good _ (echoed-length (r .terms .terminatorEcho && r .terms .echoes) _ (terminatorEcho-length _ c)) h) λ s₁ h₁.
+        (writes-sends _ _ (writes-good _ (echoed-length (r .terms .terminatorEcho && r .terms .echoes) _ (echoTerminator-length _ c)) h) λ s₁ h₁.
         completes-good byTerminator 1 (appended (c ∷ []) r) (omega arith) one-answerable h₁)
 
     underflows-fine : {s : State ℕ} → Steady BoundedRead s → Fine (underflows codes c r s)

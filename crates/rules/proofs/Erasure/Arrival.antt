@@ -8,8 +8,8 @@ use lib.ListN.{length-map}
 use Rattle.rules.specs.State.{Characters, Reading}
 use Rattle.rules.specs.Turns.{cleared}
 use Rattle.rules.specs.Arrival.{idleAgain, keeps, countsDropped, drops, stores, storesQuoted, quotes, sendsDiscardState, flipsDiscard, passesControls}
-use Rattle.rules.specs.Arrival.{emptiesTyped, clearsUnseen, clearsSeen, clears, clearsBy}
-use Rattle.rules.specs.Arrival.{sendsOutOfBand, endsOutOfBand, clearsAtOnce, controlled, ruled, arrives}
+use Rattle.rules.specs.Arrival.{Rubbing, rubbingOut, withoutRubbing, emptiesTyped, clearsInput, clearRule, clearsBy}
+use Rattle.rules.specs.Arrival.{sendsOutOfBand, endsOutOfBand, clearsAtOnce, controlled, byFirstRule, arrives}
 use Rattle.rules.proofs.Erasure.Maps.{Maps, mapReading}
 use Rattle.rules.proofs.Erasure.Parts.{Erases, erases-here, erases-still, erases-writes, erases-plain, erases-tells, erases-changes}
 use Rattle.rules.proofs.Erasure.Parts.{erases-then, erases-pick}
@@ -60,23 +60,20 @@ module _ {C D : Type 0} {f : C → D} {cs : Characters C} {ds : Characters D} (m
   erase-emptiesTyped =
       record { at = λ s. erases-here s (erases-then (erases-tells _ (simp (map-append, map-map))) (erases-changes _ _ (λ s. refl))) }
 
-  erase-clearsUnseen : (x : Option (Reading C)) → Erases f (clearsUnseen x) (clearsUnseen (Option·map (mapReading f) x))
-  unfolding clearsUnseen
-  erase-clearsUnseen none = erases-still
-  erase-clearsUnseen (some r) = erase-deletesUnseen m cleared cleared (λ c. refl) 0 r
+  erase-clearsInput : (rubbing : Rubbing) (x : Option (Reading C)) →
+      Erases f (clearsInput cs rubbing x) (clearsInput ds rubbing (Option·map (mapReading f) x))
+  unfolding clearsInput
+  erase-clearsInput rubbing none = erases-still
+  erase-clearsInput rubbingOut (some r) = erase-deletes m cleared cleared (λ c. refl) 0 r
+  erase-clearsInput withoutRubbing (some r) = erase-deletesUnseen m cleared cleared (λ c. refl) 0 r
 
-  erase-clearsSeen : (x : Option (Reading C)) → Erases f (clearsSeen cs x) (clearsSeen ds (Option·map (mapReading f) x))
-  unfolding clearsSeen
-  erase-clearsSeen none = erases-still
-  erase-clearsSeen (some r) = erase-deletes m cleared cleared (λ c. refl) 0 r
-
-  pub erase-clears : Erases f (clears cs) (clears ds)
-  unfolding clears
-  erase-clears = record { at = λ s. erases-here s (erases-then erase-emptiesTyped (erase-clearsSeen (s .read))) }
+  pub erase-clearRule : (rubbing : Rubbing) → Erases f (clearRule cs rubbing) (clearRule ds rubbing)
+  unfolding clearRule
+  erase-clearRule rubbing = erases-then erase-emptiesTyped (record { at = λ s. erases-here s (erase-clearsInput rubbing (s .read)) })
 
   erase-clearsBy : (c : C) → Erases f (clearsBy cs c) (clearsBy ds (f c))
   unfolding clearsBy
-  erase-clearsBy c = erases-then (erases-tells _ refl) erase-clears
+  erase-clearsBy c = erases-then (erases-tells _ refl) (erase-clearRule rubbingOut)
 
   erase-sendsOutOfBand : (c : C) → Erases f (sendsOutOfBand cs c) (sendsOutOfBand ds (f c))
   unfolding sendsOutOfBand
@@ -91,9 +88,7 @@ module _ {C D : Type 0} {f : C → D} {cs : Characters C} {ds : Characters D} (m
   unfolding clearsAtOnce
   erase-clearsAtOnce c =
       erases-then (erase-sendsOutOfBand c)
-      (erases-then erase-emptiesTyped
-      (erases-then (record { at = λ s. erases-here s (erase-clearsUnseen (s .read)) })
-      (record { at = λ s. erases-here s (erase-endsOutOfBand (s .read)) })))
+      (erases-then (erase-clearRule withoutRubbing) (record { at = λ s. erases-here s (erase-endsOutOfBand (s .read)) }))
 
   erase-controlled : (c : C) → Erases f (controlled cs c) (controlled ds (f c))
   unfolding controlled
@@ -103,9 +98,9 @@ module _ {C D : Type 0} {f : C → D} {cs : Characters C} {ds : Characters D} (m
       (erases-pick (rw (m .code)) (erase-flipsDiscard c)
       (erase-stores _ _ c)))
 
-  erase-ruled : (c : C) → Erases f (ruled cs c) (ruled ds (f c))
-  unfolding ruled
-  erase-ruled c =
+  erase-byFirstRule : (c : C) → Erases f (byFirstRule cs c) (byFirstRule ds (f c))
+  unfolding byFirstRule
+  erase-byFirstRule c =
       record {
         at = λ s.
             erases-here s
@@ -122,5 +117,5 @@ module _ {C D : Type 0} {f : C → D} {cs : Characters C} {ds : Characters D} (m
       record {
         at = λ s.
             erases-here s
-            (erases-then (erases-tells _ (rw (m .code))) (erases-pick refl (erase-ruled c) (erase-stores _ _ c)));
+            (erases-then (erases-tells _ (rw (m .code))) (erases-pick refl (erase-byFirstRule c) (erase-stores _ _ c)));
       }

@@ -10,8 +10,8 @@ use Rattle.rules.specs.Messages.Codec.{Outcome, refused, sound, read}
 use Rattle.rules.specs.State.{Characters, Reading, State, fresh}
 use Rattle.rules.specs.Turns.{Part, still}
 use Rattle.rules.specs.Calls.{Event, key, step, tick, message, Call, Answer}
-use Rattle.rules.specs.Calls.{isPending, isTimely, carriesQuestions, isCarriedBy, carries, refusals, considered}
-use Rattle.rules.specs.Calls.{refuses, does, hears, answers, answer, runFrom, run}
+use Rattle.rules.specs.Calls.{isPending, isTimely, carriesQuestions, isCarriedBy, carries, refusals, received}
+use Rattle.rules.specs.Calls.{refuses, does, answersMessage, answers, answer, runFrom, run}
 use Rattle.rules.proofs.Tests.{pick-both}
 use Rattle.rules.proofs.Erasure.Maps.{Maps, mapReading, mapState, mapEvent, mapCall, mapAnswer}
 use Rattle.rules.proofs.Erasure.Parts.{Erases}
@@ -34,9 +34,9 @@ module _ {C D : Type 0} {f : C → D} {cs : Characters C} {ds : Characters D} (m
   erase-carries s (refused n) = refl
   erase-carries s (sound n) = refl
 
-  erase-considered : (s : State C) (bytes : List ℕ) → considered (mapState f s) bytes ≡ considered s bytes
-  unfolding considered refusals
-  erase-considered s bytes = rw (erase-isTimely _ s, erase-carries s (read bytes))
+  erase-received : (s : State C) (bytes : List ℕ) → received (mapState f s) bytes ≡ received s bytes
+  unfolding received refusals
+  erase-received s bytes = rw (erase-isTimely _ s, erase-carries s (read bytes))
 
   erase-refuses : (n : ℕ) (s : State C) → mapAnswer f (refuses n s) ≡ refuses n (mapState f s)
   unfolding refuses still
@@ -46,17 +46,17 @@ module _ {C D : Type 0} {f : C → D} {cs : Characters C} {ds : Characters D} (m
   unfolding does
   erase-does p s = λ i. record { number = accepted; turn = p .at s i }
 
-  erase-hears : (o : Outcome (Message ℕ)) (s : State C) → mapAnswer f (hears cs o s) ≡ hears ds o (mapState f s)
-  unfolding hears
-  erase-hears (refused n) s = erase-refuses n s
-  erase-hears (sound n) s = erase-does (erase-obeys m n) s
+  erase-answersMessage : (o : Outcome (Message ℕ)) (s : State C) → mapAnswer f (answersMessage cs o s) ≡ answersMessage ds o (mapState f s)
+  unfolding answersMessage
+  erase-answersMessage (refused n) s = erase-refuses n s
+  erase-answersMessage (sound n) s = erase-does (erase-obeys m n) s
 
   erase-answers : (e : Event C) (s : State C) → mapAnswer f (answers cs e s) ≡ answers ds (mapEvent f e) (mapState f s)
   unfolding answers
   erase-answers (key c) s = erase-does (erase-arrives m c) s
   erase-answers step s = erase-does (erase-steps m) s
   erase-answers tick s = erase-does (erase-ticks m) s
-  erase-answers (message bytes) s = rw (erase-considered s bytes) (erase-hears (considered s bytes) s)
+  erase-answers (message bytes) s = rw (erase-received s bytes) (erase-answersMessage (received s bytes) s)
 
   pub erase-answer : (c : Call C) (s : State C) → mapAnswer f (answer cs c s) ≡ answer ds (mapCall f c) (mapState f s)
   unfolding answer firstOf

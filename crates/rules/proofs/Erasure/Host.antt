@@ -4,13 +4,14 @@ use Prim.Native.Nat.{ℕ}
 use Rattle.rules.specs.Messages.Forms.{Message}
 use Rattle.rules.specs.State.{Characters}
 use Rattle.rules.specs.Characteristics.{report}
+use Rattle.rules.specs.Arrival.{rubbingOut}
 use Rattle.rules.specs.Host.{ourInitiate, initiates, completion, stopsDiscarding, writesUnlessDiscarding, sendsCompletion, writesOut, reports, setsCharacteristics, obeys}
 use Rattle.rules.specs.Calls.{mapText}
 use Rattle.rules.proofs.Erasure.Maps.{Maps}
 use Rattle.rules.proofs.Erasure.Parts.{Erases, erases-here, erases-writes, erases-sends, erases-plain, erases-changes}
 use Rattle.rules.proofs.Erasure.Parts.{erases-then, erases-pick, erases-only}
 use Rattle.rules.proofs.Erasure.ReadData.{erase-unreads, erase-checksInput}
-use Rattle.rules.proofs.Erasure.Arrival.{erase-clears}
+use Rattle.rules.proofs.Erasure.Arrival.{erase-clearRule}
 use Rattle.rules.proofs.Erasure.StartRead.{erase-startsRead}
 
 module _ {C D : Type 0} {f : C → D} {cs : Characters C} {ds : Characters D} (m : Maps f cs ds) where
@@ -43,7 +44,7 @@ module _ {C D : Type 0} {f : C → D} {cs : Characters C} {ds : Characters D} (m
       erases-pick refl erase-initiates
       (erases-pick refl (erase-startsRead m n)
       (erases-pick refl (erase-unreads m n)
-      (erases-pick refl (erase-clears m)
+      (erases-pick refl (erase-clearRule m rubbingOut)
       (erases-pick refl (erase-writesOut n)
       (erases-pick refl (erase-reports n)
       (erases-pick refl (erase-setsCharacteristics n)

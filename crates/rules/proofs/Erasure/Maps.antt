@@ -4,7 +4,7 @@ use mathlib.Core.Path.{_≡_}
 use mathlib.Core.List.{map}
 use mathlib.Core.Option.{Option·map}
 use Rattle.rules.specs.State.{Characters, Key, Typed, Reading, State}
-use Rattle.rules.specs.Turns.{Fate, Turn, arrived, control, dropped, taken, tokened, cleared, lost, edited}
+use Rattle.rules.specs.Turns.{Fate, Turn, arrived, control, crowdedOut, taken, tokened, cleared, lost, edited}
 use Rattle.rules.specs.Calls.{Event, Call, Answer, key, step, tick, message, mapText}
 
 -- the map goes from the one reading of characters to the other
@@ -43,7 +43,7 @@ module _ {C D : Type 0} (f : C → D) where
   abbrev pub mapFate : Fate C → Fate D
   mapFate (arrived c band) = arrived (f c) band
   mapFate (control purpose c) = control purpose (f c)
-  mapFate (dropped c) = dropped (f c)
+  mapFate (crowdedOut c) = crowdedOut (f c)
   mapFate (taken c terms) = taken (f c) terms
   mapFate (tokened c) = tokened (f c)
   mapFate (cleared c) = cleared (f c)

@@ -4,7 +4,7 @@ use Prim.Native.Nat.{ℕ}
 use mathlib.Core.List.{map-map}
 use Rattle.rules.specs.Messages.Forms.{Message}
 use Rattle.rules.specs.State.{Characters, Reading, State}
-use Rattle.rules.specs.StartRead.Acceptance.{termsOf, readingOf, remembersSet, clearsFirst, feedsLine, autoPrompts, completesIfFull, begins, startsRead}
+use Rattle.rules.specs.StartRead.Acceptance.{shownPrompt, dataBehind, hidesInput, openedTerms, openedRead, remembersSet, clearsFirst, feedsLine, autoPrompts, completesIfFull, begins, startsRead}
 use Rattle.rules.proofs.Erasure.Maps.{Maps, mapReading, mapState}
 use Rattle.rules.proofs.Erasure.Parts.{Erases, erases-here, erases-writes, erases-changes, erases-then, erases-only}
 use Rattle.rules.proofs.Erasure.ReadData.{erase-completes}
@@ -12,9 +12,9 @@ use Rattle.rules.proofs.Erasure.Editing.{erase-displays}
 use Rattle.rules.proofs.Erasure.Arrival.{erase-emptiesTyped}
 
 module _ {C D : Type 0} {f : C → D} {cs : Characters C} {ds : Characters D} (m : Maps f cs ds) (n : Message ℕ) where
-  erase-readingOf : (s : State C) → mapReading f (readingOf cs n s) ≡ readingOf ds n (mapState f s)
-  unfolding readingOf termsOf
-  erase-readingOf s = simp (map-map, m .given)
+  erase-openedRead : (s : State C) → mapReading f (openedRead cs n s) ≡ openedRead ds n (mapState f s)
+  unfolding openedRead dataBehind hidesInput openedTerms shownPrompt
+  erase-openedRead s = simp (map-map, m .given)
 
   erase-remembersSet : Erases f (remembersSet cs n) (remembersSet ds n)
   unfolding remembersSet
@@ -33,5 +33,5 @@ module _ {C D : Type 0} {f : C → D} {cs : Characters C} {ds : Characters D} (m
   unfolding startsRead
   erase-startsRead =
       record {
-        at = λ s. erases-here s (erases-then (rw (← erase-readingOf s) (erase-begins (readingOf cs n s))) erase-remembersSet);
+        at = λ s. erases-here s (erases-then (rw (← erase-openedRead s) (erase-begins (openedRead cs n s))) erase-remembersSet);
       }

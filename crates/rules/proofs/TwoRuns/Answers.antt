@@ -4,37 +4,37 @@ use mathlib.Core.Path.{_≡_, refl}
 use mathlib.Core.Bool.{Bool, true, false}
 use mathlib.Core.List.{List, [], _∷_, map}
 use lib.ListN.{drop}
-use Rattle.rules.specs.Choice.{firstOf, all}
+use Rattle.rules.specs.Choice.{firstOf, allAre}
 use Rattle.rules.specs.Messages.Forms.{Message}
 use Rattle.rules.specs.Messages.Codec.{Outcome, refused, sound}
 use Rattle.rules.specs.State.{Characters, Reading, State, fresh}
 use Rattle.rules.specs.Turns.{Fate, Part}
-use Rattle.rules.specs.Arrival.{arrives}
+use Rattle.rules.specs.Arrival.{rubbingOut, arrives}
 use Rattle.rules.specs.TwoRuns.{preloaded}
 use Rattle.rules.specs.ReadData.{checksInput}
 use Rattle.rules.specs.StartRead.{endOfPrompt}
-use Rattle.rules.specs.StartRead.Acceptance.{termsOf, readingOf, remembersSet, clearsFirst, feedsLine, autoPrompts, completesIfFull, begins, startsRead}
+use Rattle.rules.specs.StartRead.Acceptance.{shownPrompt, dataBehind, hidesInput, openedTerms, openedRead, remembersSet, clearsFirst, feedsLine, autoPrompts, completesIfFull, begins, startsRead}
 use Rattle.rules.specs.Characteristics.{report}
 use Rattle.rules.specs.Host.{ourInitiate, initiates, completion, stopsDiscarding, writesUnlessDiscarding, sendsCompletion, writesOut, reports, setsCharacteristics, obeys}
-use Rattle.rules.specs.Calls.{Event, key, step, tick, message, Call, Answer, refuses, does, considered, hears, answers, answer}
+use Rattle.rules.specs.Calls.{Event, key, step, tick, message, Call, Answer, refuses, does, received, answersMessage, answers, answer}
 use Rattle.rules.proofs.Tests.{pick-both}
 use Rattle.rules.proofs.TwoRuns.Twins.{Twin, both, isBoth, code₁, code₂, first-chars, second-chars, LevelReading, Level}
 use Rattle.rules.proofs.TwoRuns.Twins.{Spared, isGuarded, Agree, Parts, Agreeing}
 use Rattle.rules.proofs.TwoRuns.Parts.{agrees-terminal, agrees-host, agrees-then, agrees-still, agrees-writes, agrees-sends, agrees-pick, agrees-only}
 use Rattle.rules.proofs.TwoRuns.Reads.{completes-agrees, unreads-agrees, displays-agrees}
 use Rattle.rules.proofs.TwoRuns.Bands.{Passed, Begun}
-use Rattle.rules.proofs.TwoRuns.Arrivals.{emptiesTyped-agrees, clears-agrees, arrives-agrees}
+use Rattle.rules.proofs.TwoRuns.Arrivals.{emptiesTyped-agrees, clearRule-agrees, arrives-agrees}
 use Rattle.rules.proofs.TwoRuns.Steps.{steps-agrees, ticks-agrees}
 
 -- the text that a Start Read brings is the same in both runs
-given-both : (changed : ℕ → Bool) (ns : List ℕ) → all (isBoth {changed = changed}) (map (λ n. both (preloaded n)) ns) ≡ true
-unfolding all
+given-both : (changed : ℕ → Bool) (ns : List ℕ) → allAre (isBoth {changed = changed}) (map (λ n. both (preloaded n)) ns) ≡ true
+unfolding allAre
 given-both changed [] = refl
 given-both changed (n ∷ ns) = given-both changed ns
 
 module _ {changed : ℕ → Bool} where
   pub fresh-level : Level {changed = changed} fresh
-  unfolding fresh all
+  unfolding fresh allAre
   fresh-level = record { token = refl; read = tt }
 
   -- Start Read.
@@ -53,9 +53,9 @@ module _ {changed : ℕ → Bool} where
   remembersSet-agrees m = agrees-only refl (agrees-host _)
 
   startsRead-agrees : (m : Message ℕ) → Agreeing {changed = changed} (λ chars. startsRead chars m)
-  unfolding startsRead readingOf termsOf
+  unfolding startsRead openedRead dataBehind hidesInput openedTerms shownPrompt
   startsRead-agrees m s =
-      let r = readingOf first-chars m s in
+      let r = openedRead first-chars m s in
       agrees-then (begins-agrees m r (λ e. given-both changed (drop (endOfPrompt m) (m .text)))) (remembersSet-agrees m) s
 
   -- The other messages.
@@ -89,7 +89,7 @@ module _ {changed : ℕ → Bool} where
       agrees-pick refl initiates-agrees
       (agrees-pick refl (startsRead-agrees m)
       (agrees-pick refl (unreads-agrees m)
-      (agrees-pick refl clears-agrees
+      (agrees-pick refl (clearRule-agrees rubbingOut)
       (agrees-pick refl (writesOut-agrees m)
       (agrees-pick refl (reports-agrees m)
       (agrees-pick refl (setsCharacteristics-agrees m)
@@ -100,11 +100,11 @@ module _ {changed : ℕ → Bool} (arrival : (Twin changed → ℕ) → Fate (Tw
   -- rule 2 then passes a changed key over
   abbrev pub Heeded : Type 0
   Heeded = (chars : Characters (Twin changed)) (c : Twin changed) (s : State (Twin changed)) → isBoth c ≡ false → Begun s →
-      all (arrival (chars .code)) (arrives chars c s .fates) ≡ true → Passed s (chars .code c)
+      allAre (arrival (chars .code)) (arrives chars c s .fates) ≡ true → Passed s (chars .code c)
 
   -- all that is supposed of a run's fates
   pub record Supposed (code : Twin changed → ℕ) (fs : List (Fate (Twin changed))) : Type 0 where
-    pub arrived : all (arrival code) fs ≡ true
+    pub arrived : allAre (arrival code) fs ≡ true
     pub spared : Spared code fs
 
   record SameAnswer (a b : Answer (Twin changed)) : Type 0 where
@@ -123,10 +123,10 @@ module _ {changed : ℕ → Bool} (arrival : (Twin changed → ℕ) → Fate (Tw
   unfolding refuses
   refuses-same n s l = record { number = refl; turn = λ x y. agrees-still s l .agreed (x .spared) (y .spared) }
 
-  hears-same : (o : Outcome (Message ℕ)) → SameAnswers (hears first-chars o) (hears second-chars o)
-  unfolding hears
-  hears-same (refused n) = refuses-same n
-  hears-same (sound m) = does-same (obeys-agrees m)
+  answersMessage-same : (o : Outcome (Message ℕ)) → SameAnswers (answersMessage first-chars o) (answersMessage second-chars o)
+  unfolding answersMessage
+  answersMessage-same (refused n) = refuses-same n
+  answersMessage-same (sound m) = does-same (obeys-agrees m)
 
   key-same : Heeded → (c : Twin changed) → SameAnswers (does (arrives first-chars c)) (does (arrives second-chars c))
   unfolding does
@@ -147,7 +147,7 @@ module _ {changed : ℕ → Bool} (arrival : (Twin changed → ℕ) → Fate (Tw
   answers-same heeded (key c) s l = key-same heeded c s l
   answers-same heeded step s l = does-same steps-agrees s l
   answers-same heeded tick s l = does-same ticks-agrees s l
-  answers-same heeded (message bytes) s l = hears-same (considered s bytes) s l
+  answers-same heeded (message bytes) s l = answersMessage-same (received s bytes) s l
 
   pub agree-answer : Heeded → (c : Call (Twin changed)) (s : State (Twin changed)) → Level s →
       Supposed code₁ (answer first-chars c s .turn .fates) →

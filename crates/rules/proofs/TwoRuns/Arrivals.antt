@@ -9,8 +9,8 @@ use Rattle.rules.specs.Messages.Forms.{plain}
 use Rattle.rules.specs.State.{Reading, State}
 use Rattle.rules.specs.Turns.{cleared}
 use Rattle.rules.specs.Arrival.{isHello, isImmediateClear, idleAgain, keeps, countsDropped, drops, stores, storesQuoted, quotes, sendsDiscardState, flipsDiscard}
-use Rattle.rules.specs.Arrival.{emptiesTyped, clearsUnseen, clearsSeen, clears, clearsBy}
-use Rattle.rules.specs.Arrival.{sendsOutOfBand, endsOutOfBand, clearsAtOnce, controlled, ruled, arrives}
+use Rattle.rules.specs.Arrival.{Rubbing, rubbingOut, withoutRubbing, emptiesTyped, clearsInput, clearRule, clearsBy}
+use Rattle.rules.specs.Arrival.{sendsOutOfBand, endsOutOfBand, clearsAtOnce, controlled, byFirstRule, arrives}
 use Rattle.rules.proofs.Tests.{pick-cases}
 use Rattle.rules.proofs.TwoRuns.Printing.{printing}
 use Rattle.rules.proofs.TwoRuns.Twins.{Twin, isBoth, code₁, code₂, first-chars, second-chars, same-code}
@@ -60,23 +60,19 @@ module _ {changed : ℕ → Bool} where
   unfolding emptiesTyped
   emptiesTyped-agrees s = told _ _ (λ x y. agrees-changes (λ u. level-emptied)) s
 
-  clearsUnseen-agrees : (o : Option (Reading (Twin changed))) → LevelRead o → Agreeing (λ chars. clearsUnseen o)
-  unfolding clearsUnseen
-  clearsUnseen-agrees none h = agrees-still
-  clearsUnseen-agrees (some r) h = deletesUnseen-agrees cleared 0 r h
+  clearsInput-agrees : (rubbing : Rubbing) (o : Option (Reading (Twin changed))) → LevelRead o → Agreeing (λ chars. clearsInput chars rubbing o)
+  unfolding clearsInput
+  clearsInput-agrees rubbing none h = agrees-still
+  clearsInput-agrees rubbingOut (some r) h = deletes-agrees cleared 0 r h
+  clearsInput-agrees withoutRubbing (some r) h = deletesUnseen-agrees cleared 0 r h
 
-  clearsSeen-agrees : (o : Option (Reading (Twin changed))) → LevelRead o → Agreeing (λ chars. clearsSeen chars o)
-  unfolding clearsSeen
-  clearsSeen-agrees none h = agrees-still
-  clearsSeen-agrees (some r) h = deletes-agrees cleared 0 r h
-
-  pub clears-agrees : Agreeing {changed = changed} clears
-  unfolding clears
-  clears-agrees s l = agrees-then emptiesTyped-agrees (clearsSeen-agrees (s .read) (l .read)) s l
+  pub clearRule-agrees : (rubbing : Rubbing) → Agreeing {changed = changed} (λ chars. clearRule chars rubbing)
+  unfolding clearRule
+  clearRule-agrees rubbing = agrees-then emptiesTyped-agrees (λ s l. clearsInput-agrees rubbing (s .read) (l .read) s l)
 
   clearsBy-agrees : (c : Twin changed) → Agreeing (λ chars. clearsBy chars c)
   unfolding clearsBy
-  clearsBy-agrees c = told _ _ (λ x y. clears-agrees)
+  clearsBy-agrees c = told _ _ (λ x y. clearRule-agrees rubbingOut)
 
   -- Out of band: never a changed key.
 
@@ -94,9 +90,7 @@ module _ {changed : ℕ → Bool} where
   unfolding clearsAtOnce
   clearsAtOnce-agrees c b =
       agrees-then (sendsOutOfBand-agrees c b)
-      (agrees-then emptiesTyped-agrees
-      (agrees-then (λ s l. clearsUnseen-agrees (s .read) (l .read) s l)
-      (λ s. endsOutOfBand-agrees (s .read) s)))
+      (agrees-then (clearRule-agrees withoutRubbing) (λ s. endsOutOfBand-agrees (s .read) s))
 
   -- The rules of arrival.
 
@@ -113,10 +107,10 @@ module _ {changed : ℕ → Bool} where
     pub first : isBoth c ≡ false → Begun s → Passed s (code₁ c)
     pub second : isBoth c ≡ false → Begun s → Passed s (code₂ c)
 
-  ruled-agrees : (c : Twin changed) (s : State (Twin changed)) → s .host .begun ≡ true → Unacted c s → Level s →
-      PartsAt s (ruled first-chars c) (ruled second-chars c)
-  unfolding ruled
-  ruled-agrees c s b unacted l =
+  byFirstRule-agrees : (c : Twin changed) (s : State (Twin changed)) → s .host .begun ≡ true → Unacted c s → Level s →
+      PartsAt s (byFirstRule first-chars c) (byFirstRule second-chars c)
+  unfolding byFirstRule
+  byFirstRule-agrees c s b unacted l =
       pick-cases (PartsAt s) (s .terminal .quoting) (λ q. storesQuoted-agrees c s l) (λ q.
       let first : isBoth c ≡ false → Passed s (code₁ c) = λ a. unacted .first a (b, q) in
       let second : isBoth c ≡ false → Passed s (code₂ c) = λ a. unacted .second a (b, q) in
@@ -132,4 +126,4 @@ module _ {changed : ℕ → Bool} where
   unfolding arrives
   arrives-agrees c s unacted l =
       told-at _ _ _ _ l (λ x y.
-      pick-cases (PartsAt s) (s .host .begun) (λ b. ruled-agrees c s b unacted l) (λ b. stores-agrees _ false c s l))
+      pick-cases (PartsAt s) (s .host .begun) (λ b. byFirstRule-agrees c s b unacted l) (λ b. stores-agrees _ false c s l))

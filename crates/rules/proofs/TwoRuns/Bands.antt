@@ -4,11 +4,11 @@ use mathlib.Core.Path.{_≡_, refl}
 use mathlib.Core.Bool.{Bool, true, false, _||_, false≢true}
 use lib.ListN.{getD}
 use borrow.Author.Tests.{not-true}
-use Rattle.rules.specs.Choice.{all}
+use Rattle.rules.specs.Choice.{allAre}
 use Rattle.rules.specs.State.{Characters, State}
 use Rattle.rules.specs.Turns.{Fate, Turn, arrived, control, outOfBand, tells, behind, _then_}
 use Rattle.rules.specs.TwoRuns.{fateTest, isOutOfBand, inBand, unacted}
-use Rattle.rules.specs.Arrival.{isHello, isImmediateClear, sendsOutOfBand, clearsAtOnce, ruled, arrives}
+use Rattle.rules.specs.Arrival.{isHello, isImmediateClear, sendsOutOfBand, clearsAtOnce, byFirstRule, arrives}
 use Rattle.rules.proofs.Tests.{pick-true, pick-false, or-none, all-cons}
 
 abbrev pub attributeAt : {C : Type 0} → State C → ℕ → ℕ
@@ -25,7 +25,7 @@ Begun s = (s .host .begun ≡ true) × (s .terminal .quoting ≡ false)
 
 -- all that a turn says became of keys passes a test
 abbrev passes : {C : Type 0} → (Fate C → Bool) → Turn C → Type 0
-passes test t = all test (t .fates) ≡ true
+passes test t = allAre test (t .fates) ≡ true
 
 module _ {C : Type 0} (chars : Characters C) (changed : C → Bool) (c : C) (s : State C) (is-changed : changed c ≡ true) where
   -- its attribute is told with its arrival
@@ -50,15 +50,15 @@ module _ {C : Type 0} (chars : Characters C) (changed : C → Bool) (c : C) (s :
   unfolding unacted fateTest isOutOfBand
   never-acted e = false≢true (rw is-changed at e)
 
-  ruled-by : (test : Fate C → Bool) → Begun s → passes test (arrives chars c s) → passes test (ruled chars c s)
+  byFirstRule-by : (test : Fate C → Bool) → Begun s → passes test (arrives chars c s) → passes test (byFirstRule chars c s)
   unfolding arrives _then_ behind tells
-  ruled-by test b e = rw (pick-true _ _ (b .0)) at (all-cons test _ _ e .1)
+  byFirstRule-by test b e = rw (pick-true _ _ (b .0)) at (all-cons test _ _ e .1)
 
   pub unacted-passed : Begun s → passes (unacted (chars .code) changed) (arrives chars c s) → Passed s (chars .code c)
-  unfolding ruled
+  unfolding byFirstRule
   unacted-passed b e =
       let test = unacted (chars .code) changed in
-      let h = rw (pick-false _ _ (b .1)) at (ruled-by test b e) in
+      let h = rw (pick-false _ _ (b .1)) at (byFirstRule-by test b e) in
       let no-hello = fails (isHello (attributeAt s (chars .code c))) (λ q. never-acted (acted test (rw (pick-true _ _ q) at h))) in
       record {
         hello = no-hello;

@@ -3,10 +3,10 @@ use Prim.Native.Nat.{ℕ}
 use mathlib.Core.Path.{_≡_, refl, sym, ap, _∙_}
 use mathlib.Core.Bool.{Bool, true, false, not, _&&_, false≢true}
 use mathlib.Core.List.{List, [], _∷_, map, map-append}
-use Rattle.rules.specs.Choice.{all, joined}
+use Rattle.rules.specs.Choice.{allAre, joined}
 use Rattle.rules.specs.StartRead.{inSet}
 use Rattle.rules.specs.State.{Terms, raised}
-use Rattle.rules.specs.Turns.{Control, Fate, arrived, control, dropped, taken, tokened, cleared, lost, edited}
+use Rattle.rules.specs.Turns.{Control, Fate, arrived, control, crowdedOut, taken, tokened, cleared, lost, edited}
 use Rattle.rules.specs.Calls.{Call, Answer, run}
 use Rattle.rules.specs.TwoRuns.{changedAt, Placed, codeIn, history, isChanged}
 use Rattle.rules.specs.TwoRuns.{fateTest, inBand, unacted, unechoed, untokened, unset, unsetRaised}
@@ -48,7 +48,7 @@ module _ {C D : Type 0} (f : C → D)
   unfolding fateTest
   fate-carried (arrived c band) e = on-arrived c band e
   fate-carried (control purpose c) e = on-control purpose c e
-  fate-carried (dropped c) e = refl
+  fate-carried (crowdedOut c) e = refl
   fate-carried (taken c terms) e = on-taken c terms e
   fate-carried (tokened c) e = on-token c e
   fate-carried (cleared c) e = refl
@@ -116,7 +116,7 @@ module _ {changed : ℕ → Bool} {choose : ℕ → ℕ → ℕ} {calls : List (
   -- what holds of the fates of a plain list's history holds of its twins'
   pub history-carried : (p : Fate (Twin changed) → Bool) (q : Fate Placed → Bool) →
       ((x : Fate (Twin changed)) → q (mapFate (sideOf choose) x) ≡ true → p x ≡ true) →
-      all q (history cs) ≡ true → all p (fatesOf (run (side-chars choose) calls)) ≡ true
+      allAre q (history cs) ≡ true → allAre p (fatesOf (run (side-chars choose) calls)) ≡ true
   unfolding history
   history-carried p q carry e =
       all-unmap p q (mapFate (sideOf choose)) carry _ (rw (← side-placed side, fates-mapped) at e)

@@ -5,7 +5,7 @@ use mathlib.Core.Bool.{Bool, true, not}
 use mathlib.Core.List.{List, map}
 use native.Mathlib.Omega.{arith}
 use lib.ListN.{getD}
-use Rattle.rules.specs.Choice.{all}
+use Rattle.rules.specs.Choice.{allAre}
 use Rattle.rules.specs.Calls.{Call, run}
 use Rattle.rules.specs.TwoRuns.{alike, changedAt, eachChanged, bothPrinting, sameClass, Placed, codeIn, history, isChanged}
 use Rattle.rules.specs.TwoRuns.{inBand, unacted, unechoed, untokened, unset, unsetRaised, Supposition, inBoth, suppositions, supposed}
@@ -24,11 +24,11 @@ use Rattle.rules.proofs.TwoRuns.Runs.{agree-run}
 
 -- of one of the two runs
 record InOne (arrival : Supposition) (cs ds one : List (Call ℕ)) : Type 0 where
-  arrived : all (arrival codeIn (isChanged cs ds)) (history one) ≡ true
-  unechoed : all (unechoed codeIn (isChanged cs ds)) (history one) ≡ true
-  untokened : all (untokened codeIn (isChanged cs ds)) (history one) ≡ true
-  unset : all (unset codeIn (isChanged cs ds)) (history one) ≡ true
-  unsetRaised : all (unsetRaised codeIn (isChanged cs ds)) (history one) ≡ true
+  arrived : allAre (arrival codeIn (isChanged cs ds)) (history one) ≡ true
+  unechoed : allAre (unechoed codeIn (isChanged cs ds)) (history one) ≡ true
+  untokened : allAre (untokened codeIn (isChanged cs ds)) (history one) ≡ true
+  unset : allAre (unset codeIn (isChanged cs ds)) (history one) ≡ true
+  unsetRaised : allAre (unsetRaised codeIn (isChanged cs ds)) (history one) ≡ true
 
 record Suppositions (arrival : Supposition) (cs ds : List (Call ℕ)) : Type 0 where
   same : alike cs ds ≡ true

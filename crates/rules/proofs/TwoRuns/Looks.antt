@@ -5,7 +5,7 @@ use mathlib.Core.Bool.{Bool, true}
 use mathlib.Core.List.{List, [], _∷_, _++_, map, map-map}
 use lib.Dec.{eqb}
 use lib.ListN.{length, length-append, length-map}
-use Rattle.rules.specs.Choice.{all, joined}
+use Rattle.rules.specs.Choice.{allAre, joined}
 use Rattle.rules.specs.Messages.Forms.{Message, Tail, nothing, text, setAndText, list, readData, formOf}
 use Rattle.rules.specs.Messages.Codec.{tailBytes, bytesAs}
 use Rattle.rules.specs.State.{codes}
@@ -55,7 +55,7 @@ module _ {changed : ℕ → Bool} where
       (λ q. simp map-map)
       (λ q. rw (same-codes (m .text) (rw q at e)))
 
-  shown-same : (ms : List (Message (Twin changed))) → all isGuarded ms ≡ true →
+  shown-same : (ms : List (Message (Twin changed))) → allAre isGuarded ms ≡ true →
       shown (map (mapText code₁) ms) ≡ shown (map (mapText code₂) ms)
   unfolding joined
   shown-same [] e = refl

@@ -8,7 +8,7 @@ use lib.Dec.{eqb}
 use borrow.Author.Tests.{eqb-true}
 use Rattle.rules.specs.Choice.{pick, same}
 use Rattle.rules.specs.Calls.{Event, key, step, tick, message, Call}
-use Rattle.rules.specs.TwoRuns.{kindOf, bytesOf, codeOf, agree, alike, changedAt, eachChanged, isPrinting, bothPrinting, sameClass}
+use Rattle.rules.specs.TwoRuns.{eventKind, eventBytes, codeOf, agree, alike, changedAt, eachChanged, isPrinting, bothPrinting, sameClass}
 use Rattle.rules.specs.TwoRuns.{Placed, typedAt, placedEvent, placed}
 use Rattle.rules.proofs.Tests.{pick-false, halves, quarters, same-equal}
 use Rattle.rules.proofs.Erasure.Maps.{mapEvent, mapCall}
@@ -29,8 +29,8 @@ map-parts f c (suc zero) bytes = refl
 map-parts f c (suc (suc zero)) bytes = refl
 map-parts f c (suc (suc (suc kind))) bytes = refl
 
-placed-parts : (place : ℕ) (e : Event ℕ) → eventOf (typedAt place (codeOf e)) (kindOf e) (bytesOf e) ≡ placedEvent place e
-unfolding eventOf codeOf kindOf bytesOf placedEvent
+placed-parts : (place : ℕ) (e : Event ℕ) → eventOf (typedAt place (codeOf e)) (eventKind e) (eventBytes e) ≡ placedEvent place e
+unfolding eventOf codeOf eventKind eventBytes placedEvent
 placed-parts place (key n) = refl
 placed-parts place step = refl
 placed-parts place tick = refl
@@ -42,15 +42,15 @@ placed-parts place (message bytes) = refl
 record Like (c d : Call ℕ) : Type 0 where
   terminal : c .terminal ≡ d .terminal
   messages : c .messages ≡ d .messages
-  kind : kindOf (c .event) ≡ kindOf (d .event)
-  bytes : bytesOf (c .event) ≡ bytesOf (d .event)
+  kind : eventKind (c .event) ≡ eventKind (d .event)
+  bytes : eventBytes (c .event) ≡ eventBytes (d .event)
 
 agree-like : (c d : Call ℕ) → agree c d ≡ true → Like c d
 unfolding agree
 agree-like c d e =
     let h =
     quarters (eqb (c .terminal) (d .terminal)) (eqb (c .messages) (d .messages))
-    (eqb (kindOf (c .event)) (kindOf (d .event))) (same (bytesOf (c .event)) (bytesOf (d .event))) e in
+    (eqb (eventKind (c .event)) (eventKind (d .event))) (same (eventBytes (c .event)) (eventBytes (d .event))) e in
     record {
       terminal = eqb-true _ _ (h .0);
       messages = eqb-true _ _ (h .1);
@@ -69,14 +69,14 @@ module _ {C : Type 0} where
   -- a call with another character
   withCell : C → Call ℕ → Call C
   withCell x c =
-      record { terminal = c .terminal; messages = c .messages; event = eventOf x (kindOf (c .event)) (bytesOf (c .event)) }
+      record { terminal = c .terminal; messages = c .messages; event = eventOf x (eventKind (c .event)) (eventBytes (c .event)) }
 
   call-placed : (f : C → Placed) (x : C) (place : ℕ) (c d : Call ℕ) → Like c d → f x ≡ typedAt place (codeOf (d .event)) →
       mapCall f (withCell x c) ≡ placedCall place d
   unfolding withCell
   call-placed f x place c d like e =
       let event =
-      map-parts f x (kindOf (c .event)) (bytesOf (c .event)) ∙
+      map-parts f x (eventKind (c .event)) (eventBytes (c .event)) ∙
       (λ i. eventOf (e i) (like .kind i) (like .bytes i)) ∙
       placed-parts place (d .event) in
       λ i. record { terminal = like .terminal i; messages = like .messages i; event = event i }

@@ -5,7 +5,7 @@ use mathlib.Core.Bool.{Bool, true, false}
 use mathlib.Core.List.{List, [], _∷_, _++_}
 use mathlib.Core.Option.{Option}
 use lib.Dec.{eqb}
-use Rattle.rules.specs.Choice.{pick, all}
+use Rattle.rules.specs.Choice.{pick, allAre}
 use Rattle.rules.specs.Messages.Forms.{Message}
 use Rattle.rules.specs.State.{Host, Terminal, Key, Reading, State, withHost, withTerminal, withTyped, withRead}
 use Rattle.rules.specs.Turns.{Turn, Fate, Part, still, writes, sends, tells, changes, behind, _then_, only}
@@ -44,13 +44,13 @@ module _ {changed : ℕ → Bool} where
 
   -- turns that are equal but for their fates
   agrees-turns : {t u : Turn (Twin changed)} → t .bytes ≡ u .bytes → t .messages ≡ u .messages →
-      all isGuarded (t .messages) ≡ true → t .state ≡ u .state → Level (t .state) → Agrees t u
+      allAre isGuarded (t .messages) ≡ true → t .state ≡ u .state → Level (t .state) → Agrees t u
   agrees-turns b m g s l = record { agreed = λ x y. record { bytes = b; messages = m; guarded = g; state = s; level = l } }
 
   -- Fates are not compared, and what follows may use that they were spared: at one state, and at any.
   pub told-at : (fs fs′ : List (Fate (Twin changed))) (g g′ : Part (Twin changed)) {s : State (Twin changed)} → Level s →
       (Spared code₁ fs → Spared code₂ fs′ → PartsAt s g g′) → PartsAt s (tells fs then g) (tells fs′ then g′)
-  unfolding tells all
+  unfolding tells allAre
   told-at fs fs′ g g′ {s} l q =
       then-by (tells fs) (tells fs′) g g′ s (agrees-turns refl refl refl refl l) (λ x y k. q x y)
 
@@ -59,21 +59,21 @@ module _ {changed : ℕ → Bool} where
   told fs fs′ {g} {g′} q s l = told-at fs fs′ g g′ l (λ x y. q x y s l)
 
   pub agrees-still : Parts {changed = changed} still still
-  unfolding still all
+  unfolding still allAre
   agrees-still s l = agrees-turns refl refl refl refl l
 
   pub agrees-sends : {m m′ : Message (Twin changed)} → m ≡ m′ → isGuarded m ≡ true → Parts (sends m) (sends m′)
-  unfolding sends all
+  unfolding sends allAre
   agrees-sends {m} e g s l = agrees-turns refl (ap (λ m. m ∷ []) e) (all-more isGuarded m [] g refl) refl l
 
   -- Changes, which keep the state level.
 
   pub level-typed : {keys : List (Key (Twin changed))} {token : List (Twin changed)} {s : State (Twin changed)} →
-      all isBoth token ≡ true → Level s → Level (withTyped keys token s)
+      allAre isBoth token ≡ true → Level s → Level (withTyped keys token s)
   level-typed e l = record { token = e; read = l .read }
 
   pub level-emptied : {keys : List (Key (Twin changed))} {s : State (Twin changed)} → Level s → Level (withTyped keys [] s)
-  unfolding all
+  unfolding allAre
   level-emptied = level-typed refl
 
   pub level-read : {o : Option (Reading (Twin changed))} {s : State (Twin changed)} → LevelRead o → Level s →
@@ -82,7 +82,7 @@ module _ {changed : ℕ → Bool} where
 
   pub agrees-changes : {f : State (Twin changed) → State (Twin changed)} →
       ((s : State (Twin changed)) → Level s → Level (f s)) → Parts (changes f) (changes f)
-  unfolding changes all
+  unfolding changes allAre
   agrees-changes keeps s l = agrees-turns refl refl refl refl (keeps s l)
 
   -- what is set of the host or the terminal says nothing of typed characters
@@ -93,7 +93,7 @@ module _ {changed : ℕ → Bool} where
   agrees-terminal f = agrees-changes (λ s l. record { token = l .token; read = l .read })
 
   pub agrees-writes : {bs bs′ : List ℕ} → bs ≡ bs′ → Parts {changed = changed} (writes bs) (writes bs′)
-  unfolding writes all
+  unfolding writes allAre
   agrees-writes e s l = rw (← e) (agrees-turns refl refl refl refl (record { token = l .token; read = l .read }))
 
   -- Choices.

@@ -5,7 +5,7 @@ use mathlib.Core.Bool.{Bool, true, not, _||_}
 use mathlib.Core.List.{List, []}
 use mathlib.Core.Option.{Option, none, some}
 use lib.ListN.{drop}
-use Rattle.rules.specs.Choice.{pick, isEmpty, all}
+use Rattle.rules.specs.Choice.{pick, isEmpty, allAre}
 use Rattle.rules.specs.Messages.Forms.{Message}
 use Rattle.rules.specs.Screen.{echoAll, marksBehind, rubOut}
 use Rattle.rules.specs.State.{Reading, State}
@@ -64,7 +64,7 @@ module _ {changed : ℕ → Bool} where
 
   -- Deleting and displaying.
 
-  same-displayed : (r : Reading (Twin changed)) → all isBoth (r .input) ≡ true → displayed first-chars r ≡ displayed second-chars r
+  same-displayed : (r : Reading (Twin changed)) → allAre isBoth (r .input) ≡ true → displayed first-chars r ≡ displayed second-chars r
   unfolding displayed
   same-displayed r e = ap (drop (hiddenCount r)) (same-codes (r .input) e)
 

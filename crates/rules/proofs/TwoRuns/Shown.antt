@@ -4,7 +4,7 @@ use mathlib.Core.Path.{_≡_, refl, sym, _∙_}
 use mathlib.Core.Bool.{true, not, false≢true}
 use mathlib.Core.List.{List, [], _∷_, map, List·Memᴰ}
 use borrow.Author.Tests.{eq-eqb, not-true}
-use Rattle.rules.specs.Choice.{all, same}
+use Rattle.rules.specs.Choice.{allAre, same}
 use Rattle.rules.specs.State.{codes}
 use Rattle.rules.specs.Calls.{Call, run}
 use Rattle.rules.specs.TwoRuns.{Seen, seen, LooksTheSame}
@@ -18,7 +18,7 @@ unfolding whole
 hidden = refl
 
 -- each pair breaks one supposition and looks different
-pub needed : all shows broken ≡ true
+pub needed : allAre shows broken ≡ true
 unfolding whole
 needed = refl
 

@@ -4,8 +4,8 @@ use mathlib.Core.Path.{_≡_, refl, ap}
 use mathlib.Core.Bool.{Bool, true, _&&_}
 use mathlib.Core.List.{List, [], _∷_}
 use mathlib.Core.Option.{Option, none, some}
-use Rattle.rules.specs.Choice.{pick, all}
-use Rattle.rules.specs.Screen.{DEL, echo, terminatorEcho}
+use Rattle.rules.specs.Choice.{pick, allAre}
+use Rattle.rules.specs.Screen.{DEL, echo, echoTerminator}
 use Rattle.rules.specs.StartRead.{inSet}
 use Rattle.rules.specs.State.{Key, Reading, withIdle}
 use Rattle.rules.specs.Token.{ESC, CSI, standing, isValid, isWhole, isPartial}
@@ -27,7 +27,7 @@ use Rattle.rules.proofs.TwoRuns.Words.{leftBy23-same}
 module _ {changed : ℕ → Bool} where
   -- Tokens hold no changed key.
 
-  same-tokenCode : (cs : List (Twin changed)) → all isBoth cs ≡ true → tokenCode first-chars cs ≡ tokenCode second-chars cs
+  same-tokenCode : (cs : List (Twin changed)) → allAre isBoth cs ≡ true → tokenCode first-chars cs ≡ tokenCode second-chars cs
   unfolding tokenCode
   same-tokenCode cs e = ap (λ ns. pick (isValid (standing ns)) byValidToken byInvalidToken) (same-codes cs e)
 
@@ -67,7 +67,7 @@ module _ {changed : ℕ → Bool} where
   unfolding terminates echoesTerminatorIf
   terminates-agrees c r b =
       agrees-then
-      (λ s. agrees-writes (ap (λ n. pick (r .terms .terminatorEcho && r .terms .echoes) (terminatorEcho (columnNow s) n) []) (same-code c b)) s)
+      (λ s. agrees-writes (ap (λ n. pick (r .terms .terminatorEcho && r .terms .echoes) (echoTerminator (columnNow s) n) []) (same-code c b)) s)
       (completes-agrees refl 1 _)
 
   -- Editing: what is deleted was shown only where it is the same in both runs.

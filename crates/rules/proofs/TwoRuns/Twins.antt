@@ -5,7 +5,7 @@ use mathlib.Core.Bool.{Bool, true, false, not, _&&_, _||_, false≢true}
 use mathlib.Core.List.{List, [], _∷_, map}
 use mathlib.Core.Option.{Option, none, some}
 use lib.Dec.{eqb}
-use Rattle.rules.specs.Choice.{all}
+use Rattle.rules.specs.Choice.{allAre}
 use Rattle.rules.specs.Messages.Forms.{Message, readData}
 use Rattle.rules.specs.Editing.{isWord}
 use Rattle.rules.specs.State.{Characters, State, Reading, raised}
@@ -83,7 +83,7 @@ module _ {changed : ℕ → Bool} where
   same-code (both p) e = refl
   same-code (apart place m n c h) e = absurd (false≢true e)
 
-  pub same-codes : (cs : List (Twin changed)) → all isBoth cs ≡ true → map code₁ cs ≡ map code₂ cs
+  pub same-codes : (cs : List (Twin changed)) → allAre isBoth cs ≡ true → map code₁ cs ≡ map code₂ cs
   same-codes [] e = refl
   same-codes (c ∷ cs) e =
       let h = all-cons isBoth c cs e in
@@ -113,14 +113,14 @@ module _ {changed : ℕ → Bool} where
 
   -- The invariant: no changed key is in a token, nor in the input of a read that echoes.
   abbrev pub LevelReading : Reading (Twin changed) → Type 0
-  LevelReading r = r .terms .echoes ≡ true → all isBoth (r .input) ≡ true
+  LevelReading r = r .terms .echoes ≡ true → allAre isBoth (r .input) ≡ true
 
   abbrev pub LevelRead : Option (Reading (Twin changed)) → Type 0
   LevelRead none = Unit {0}
   LevelRead (some r) = LevelReading r
 
   pub record Level (s : State (Twin changed)) : Type 0 where
-    pub token : all isBoth (s .typed .token) ≡ true
+    pub token : allAre isBoth (s .typed .token) ≡ true
     pub read : LevelRead (s .read)
 
   -- What is supposed of a fate in one run, but for a key's arrival.
@@ -132,18 +132,18 @@ module _ {changed : ℕ → Bool} where
       unsetRaised code isApart f
 
   abbrev pub Spared : (Twin changed → ℕ) → List (Fate (Twin changed)) → Type 0
-  Spared code fs = all (spared code) fs ≡ true
+  Spared code fs = allAre (spared code) fs ≡ true
 
   -- a changed key is sent nowhere but in the DATA of Read Data
   unfoldable pub isGuarded : Message (Twin changed) → Bool
-  unfolding all
-  isGuarded m = eqb (m .kind) readData || all isBoth (m .text)
+  unfolding allAre
+  isGuarded m = eqb (m .kind) readData || allAre isBoth (m .text)
 
   -- Two turns agree but for what they say of keys.
   pub record Agree (t u : Turn (Twin changed)) : Type 0 where
     pub bytes : t .bytes ≡ u .bytes
     pub messages : t .messages ≡ u .messages
-    pub guarded : all isGuarded (t .messages) ≡ true
+    pub guarded : allAre isGuarded (t .messages) ≡ true
     pub state : t .state ≡ u .state
     pub level : Level (t .state)
 

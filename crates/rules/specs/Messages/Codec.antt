@@ -4,12 +4,13 @@ use mathlib.Core.Bool.{Bool, true, false, _&&_}
 use mathlib.Core.List.{List, [], _∷_, _++_, map}
 use lib.Dec.{leb, ltb, eqb}
 use lib.ListN.{length, take, drop}
-use Rattle.rules.specs.Choice.{pick, within, isEmpty, all, joined}
+use Rattle.rules.specs.Choice.{pick, within, isEmpty, allAre, joined}
 use Rattle.rules.specs.Numbers.{inputSize, messageSize, messageArea, smallArea, wrongLength, wrongType, unsound}
 use Rattle.rules.specs.Messages.Layout.{byteAt, sizeOf, widthsOf, fits, readGroups, writeGroups}
 use Rattle.rules.specs.Messages.Parameters.{soundParameter, fitsParameter, cleaned, cut}
-use Rattle.rules.specs.Messages.Forms.{Message, Tail, nothing, text, setAndText, list, Form, number, formOf}
+use Rattle.rules.specs.Messages.Forms.{Message, Tail, nothing, text, setAndText, list, Form, formOf}
 use Rattle.rules.specs.Messages.Forms.{startRead, readData, write}
+use Rattle.rules.specs.Messages.Fields.{completionCode, prefix, postfix}
 use Rattle.rules.specs.StartRead.{soundStartRead}
 
 -- what was asked for, or the number of a refusal
@@ -24,13 +25,19 @@ setSize = 32
 unfoldable pub definedKind : ℕ → Bool
 definedKind kind = within 1 14 kind
 
--- Each field has a value that 000 defines, and a Start Read passes its test. (Of Read Data the codes above 13 are undefined,
--- of Write PP 3 and QQ 3; what the parameters hold is tested with them.)
+-- the last completion code that 000 defines, and the last value of PP and of QQ
+abbrev pub lastCode : ℕ
+lastCode = 13
+
+abbrev pub lastFix : ℕ
+lastFix = 2
+
+-- Each field has a value that 000 defines, and a Start Read passes its test; what the parameters hold is tested with them.
 unfoldable pub definedFields : Message ℕ → Bool
 definedFields m =
     pick (eqb (m .kind) startRead) (soundStartRead inputSize m)
-    (pick (eqb (m .kind) readData) (leb (number m 0) 13)
-    (pick (eqb (m .kind) write) (leb (number m 5) 2 && leb (number m 6) 2)
+    (pick (eqb (m .kind) readData) (leb (completionCode m) lastCode)
+    (pick (eqb (m .kind) write) (leb (prefix m) lastFix && leb (postfix m) lastFix)
     true))
 
 -- Reading.
@@ -40,7 +47,7 @@ unfoldable pub wholeTail : Tail → List ℕ → Bool
 wholeTail nothing rest = isEmpty rest
 wholeTail text rest = true
 wholeTail setAndText rest = ltb (byteAt rest 0) (length rest) && leb (byteAt rest 0) setSize
-wholeTail (list shape) rest = all (soundParameter shape) (cut shape zero rest)
+wholeTail (list shape) rest = allAre (soundParameter shape) (cut shape zero rest)
 
 unfoldable pub setIn : Tail → List ℕ → List ℕ
 setIn nothing rest = []
@@ -96,7 +103,7 @@ read bytes =
 -- Writing.
 
 unfoldable pub allBytes : List ℕ → Bool
-allBytes bs = all (λ b. ltb b 256) bs
+allBytes bs = allAre (λ b. ltb b 256) bs
 
 unfoldable pub tailBytes : Tail → Message ℕ → List ℕ
 tailBytes nothing m = []
@@ -114,8 +121,8 @@ fitsTail text m = isEmpty (m .set) && isEmpty (m .parameters) && allBytes (m .te
 fitsTail setAndText m = leb (length (m .set)) setSize && allBytes (m .set) && isEmpty (m .parameters) && allBytes (m .text)
 fitsTail (list shape) m =
     isEmpty (m .set) &&
-    all (fitsParameter shape) (m .parameters) &&
-    all (soundParameter shape) (m .parameters) &&
+    allAre (fitsParameter shape) (m .parameters) &&
+    allAre (soundParameter shape) (m .parameters) &&
     isEmpty (m .text)
 
 -- every field fits its place, and the message would not be read as 5

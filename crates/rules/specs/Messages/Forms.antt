@@ -2,7 +2,7 @@
 use Prim.Native.Nat.{ℕ}
 use mathlib.Core.List.{List, [], _∷_}
 use lib.ListN.{getD, replicate}
-use Rattle.rules.specs.Messages.Layout.{Group, flags, byte, word}
+use Rattle.rules.specs.Messages.Layout.{Group, byteAt, flags, byte, word}
 use Rattle.rules.specs.Messages.Parameters.{Shape, initiation, question, setting}
 
 -- The fields of a message: numbers and lists. D is the type of the characters in its text; bytes, unless the line sends it.
@@ -18,6 +18,10 @@ pub record Message (D : Type 0) : Type 0 where
 
 abbrev pub number : {D : Type 0} → Message D → ℕ → ℕ
 number m at = getD (m .numbers) at 0
+
+-- MSGTYPE, the first byte
+abbrev pub typeIn : List ℕ → ℕ
+typeIn bytes = byteAt bytes 0
 
 -- a message that has no list
 abbrev pub plain : {D : Type 0} → ℕ → List ℕ → Message D

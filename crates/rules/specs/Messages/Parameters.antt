@@ -7,9 +7,22 @@ use lib.ListN.{length, take, replicate}
 use Rattle.rules.specs.Choice.{pick, within}
 use Rattle.rules.specs.Messages.Layout.{byteAt}
 
+-- how many values a byte has, of which all bits, seven, four or one are used: its limit
+abbrev pub allBits : ℕ
+allBits = 256
+
+abbrev pub sevenBits : ℕ
+sevenBits = 128
+
+abbrev pub fourBits : ℕ
+fourBits = 16
+
+abbrev pub oneBit : ℕ
+oneBit = 2
+
 -- A kind of parameter list.
 pub record Shape : Type 0 where
-  -- by a parameter's first two bytes: a limit for each byte behind them, which is the byte's used values
+  -- By a parameter's first two bytes: a limit for each byte behind them. How many there are is the parameter's length but for those two.
   pub limits : ℕ → ℕ → List ℕ
   -- 000 defines the parameter and its value
   pub defined : List ℕ → Bool
@@ -45,11 +58,11 @@ definedSelector n = within 0x0201 0x020A n
 
 -- Initiate: PARMTYPE, a count, and that many bytes; nothing of it is looked at
 abbrev pub initiation : Shape
-initiation = record { limits = λ kind count. replicate count 256; defined = λ p. true }
+initiation = record { limits = λ kind count. replicate count allBits; defined = λ p. true }
 
 -- Read Characteristics: SELECTOR, and CHARACTER for character attributes alone
 unfoldable pub questionLimits : ℕ → List ℕ
-questionLimits n = pick (eqb n characterAttributes) (256 ∷ []) []
+questionLimits n = pick (eqb n characterAttributes) (allBits ∷ []) []
 
 abbrev pub question : Shape
 question = record { limits = λ low high. questionLimits (low + 256 * high); defined = λ p. definedSelector (selector p) }
@@ -58,10 +71,10 @@ question = record { limits = λ low high. questionLimits (low + 256 * high); def
 -- INPUT-COUNT-STATE is an integer, 1 to 3; ERROR-PROCESSING uses four bits.
 unfoldable pub valueLimits : ℕ → List ℕ
 valueLimits n =
-    pick (eqb n characterAttributes) (256 ∷ 256 ∷ 128 ∷ [])
-    (pick (eqb n inputCountState) (256 ∷ 256 ∷ [])
-    (pick (eqb n errorProcessing) (16 ∷ [])
-    (pick (definedSelector n) (2 ∷ []) [])))
+    pick (eqb n characterAttributes) (allBits ∷ allBits ∷ sevenBits ∷ [])
+    (pick (eqb n inputCountState) (allBits ∷ allBits ∷ [])
+    (pick (eqb n errorProcessing) (fourBits ∷ [])
+    (pick (definedSelector n) (oneBit ∷ []) [])))
 
 unfoldable pub definedValue : List ℕ → Bool
 definedValue p = pick (eqb (selector p) inputCountState) (within 1 3 (byteAt p 2 + 256 * byteAt p 3)) (definedSelector (selector p))
@@ -77,27 +90,29 @@ under (l ∷ ls) [] = false
 under (l ∷ ls) (b ∷ bs) = ltb b l && under ls bs
 
 module _ (shape : Shape) where
-  -- the limits of the bytes behind the first two, and how long the parameter should be
+  -- the limits of the bytes behind the first two, and how long the parameter should be with those
   unfoldable pub limitsOf : List ℕ → List ℕ
   limitsOf p = shape .limits (byteAt p 0) (byteAt p 1)
 
-  unfoldable pub sizeOf : List ℕ → ℕ
-  sizeOf p = 2 + length (limitsOf p)
+  unfoldable pub parameterSize : List ℕ → ℕ
+  parameterSize p = 2 + length (limitsOf p)
 
   -- whole, and with a defined value
   unfoldable pub soundParameter : List ℕ → Bool
-  soundParameter p = eqb (length p) (sizeOf p) && shape .defined p
+  soundParameter p = eqb (length p) (parameterSize p) && shape .defined p
 
   -- each byte under its limit
   unfoldable pub fitsParameter : List ℕ → Bool
-  fitsParameter p = under (256 ∷ 256 ∷ limitsOf p) p
+  fitsParameter p = under (allBits ∷ allBits ∷ limitsOf p) p
 
   -- unused bits set to 0
   unfoldable pub cleaned : List ℕ → List ℕ
-  cleaned p = zipWith _%_ p (256 ∷ 256 ∷ limitsOf p)
+  cleaned p = zipWith _%_ p (allBits ∷ allBits ∷ limitsOf p)
 
-  -- the bytes of a list cut into parameters; the number is how many bytes the last one still takes
+  -- The bytes of a list cut into parameters; the number is how many bytes the last one still takes. In a Characteristics message
+  -- 04 02 01 05 02 00 is cut so: at 04 stands raise input, of three bytes, so 04 02 01 is a parameter and takes two bytes more; these are
+  -- passed over; at 05 stands normal echo, and 05 02 00 is the next one. A last parameter that is cut short is kept as it is.
   unfoldable pub cut : ℕ → List ℕ → List (List ℕ)
   cut left [] = []
-  cut zero (x ∷ xs) = take (sizeOf (x ∷ xs)) (x ∷ xs) ∷ cut (sizeOf (x ∷ xs) - 1) xs
+  cut zero (x ∷ xs) = take (parameterSize (x ∷ xs)) (x ∷ xs) ∷ cut (parameterSize (x ∷ xs) - 1) xs
   cut (suc left) (x ∷ xs) = cut left xs

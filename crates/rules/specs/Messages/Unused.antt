@@ -3,7 +3,7 @@ use Prim.Native.Nat.{ℕ, zero, _+_, _^_}
 use mathlib.Core.Bool.{Bool, true, _&&_}
 use mathlib.Core.List.{List, [], _∷_}
 use lib.Dec.{ltb}
-use Rattle.rules.specs.Choice.{all}
+use Rattle.rules.specs.Choice.{allAre}
 use Rattle.rules.specs.Messages.Layout.{Group, byteAt, numberAt}
 use Rattle.rules.specs.Messages.Parameters.{fitsParameter, cut}
 use Rattle.rules.specs.Messages.Forms.{Tail, nothing, text, setAndText, list, Form, formOf}
@@ -23,7 +23,7 @@ unfoldable pub clearTail : Tail → List ℕ → Bool
 clearTail nothing rest = true
 clearTail text rest = true
 clearTail setAndText rest = true
-clearTail (list shape) rest = all (fitsParameter shape) (cut shape zero rest)
+clearTail (list shape) rest = allAre (fitsParameter shape) (cut shape zero rest)
 
 unfoldable pub clearAs : Form → List ℕ → Bool
 clearAs f bytes = clearGroups (f .head) 1 bytes && clearTail (f .tail) (behindHead f bytes)

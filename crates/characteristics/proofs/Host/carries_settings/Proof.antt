@@ -2,7 +2,7 @@ use mathlib.Core.Path.{sym, ap, _∙_}
 use mathlib.Core.Bool.{not}
 use borrow.Author.Needs.{needs}
 use borrow.Author.Tests.{not-true, not-false}
-use Rattle.rules.specs.Choice.{any}
+use Rattle.rules.specs.Choice.{anyIs}
 use Rattle.rules.specs.Characteristics.{isDeferredClear, carriesSettings}
 use Rattle.rules.proofs.Tests.{pick-true, pick-false}
 use Rattle.characteristics.proofs.Host.carries_settings.Statement.{statement}
@@ -28,7 +28,7 @@ returns-2 : tie.Need-returns-2
 unfolding carriesSettings
 returns-2 c =
     let b = c .before .before .before in
-    ap not (c .any-deferred-clear .ensures ∙ ap (λ h. any isDeferredClear (h .attributes)) (b .with-settings .ensures .0)) ∙
+    ap not (c .any-deferred-clear .ensures ∙ ap (λ h. anyIs isDeferredClear (h .attributes)) (b .with-settings .ensures .0)) ∙
     sym (pick-true _ _ (sym (b .before .before .all-carried .ensures) ∙ not-false _ (b .before .if1 .left)))
 
 pub carries-settings-spec : {M : Type 1} → statement M

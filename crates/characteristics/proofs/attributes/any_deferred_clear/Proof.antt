@@ -3,14 +3,14 @@ use Prim.Native.Nat.{_-_}
 use native.Mathlib.Omega.{arith}
 use lib.ListN.{length, drop}
 use borrow.Author.Tests.{eq-eqb, ne-eqb}
-use Rattle.rules.specs.Choice.{any}
+use Rattle.rules.specs.Choice.{anyIs}
 use Rattle.rules.specs.Characteristics.{isDeferredClear}
 use Rattle.characteristics.proofs.Walks.{any-stops, any-goes-on, any-end}
 use Rattle.characteristics.proofs.attributes.any_deferred_clear.Statement.{statement}
 use Rattle.characteristics.proofs.attributes.any_deferred_clear.Tie as tie
 
 abbrev Inv-loop : tie.InvT-loop
-Inv-loop table i₀ i = any isDeferredClear (drop i table) ≡ any isDeferredClear table
+Inv-loop table i₀ i = anyIs isDeferredClear (drop i table) ≡ anyIs isDeferredClear table
 
 abbrev μ-loop : tie.MeasureT-loop
 μ-loop table i₀ i = length table - i

@@ -1,6 +1,6 @@
 use mathlib.Core.Path.{refl, _∙_}
 use native.Mathlib.Omega.{arith}
-use Rattle.rules.specs.Arrival.{isHello, isImmediateClear, ruled}
+use Rattle.rules.specs.Arrival.{isHello, isImmediateClear, byFirstRule}
 use Rattle.line.proofs.Meeting.{met, meets-first, meets-second}
 use Rattle.line.proofs.Arrivals.{passes-is, band-is, band-not}
 use borrow.Author.Needs.{needs}
@@ -11,15 +11,15 @@ use Rattle.line.proofs.Flow.act_after_initiate.Lts as lts
 use Rattle.line.proofs.arrival.act_of_control.Reads as act-of-control-reads
 
 returns : tie.Need-returns
-unfolding ruled
+unfolding byFirstRule
 returns c = (λ s l band. meets-first _ refl (c .if1 .taken) (met (omega arith)), refl)
 
 returns-2 : tie.Need-returns-2
-unfolding ruled isHello
+unfolding byFirstRule isHello
 returns-2 c = (λ s l band. meets-second _ refl (c .before .if1 .left) (meets-first _ refl (band-is 3 band (c .if2 .taken)) (met tt)), refl)
 
 returns-3 : tie.Need-returns-3
-unfolding ruled isHello isImmediateClear
+unfolding byFirstRule isHello isImmediateClear
 returns-3 c = (
   λ s l band.
       meets-second _ refl (c .before .before .if1 .left)
@@ -28,7 +28,7 @@ returns-3 c = (
 )
 
 returns-4 : tie.Need-returns-4
-unfolding ruled isHello isImmediateClear
+unfolding byFirstRule isHello isImmediateClear
 returns-4 c = (
   λ s l band.
       meets-second _ refl (c .before .before .before .before .before .if1 .left)
@@ -42,7 +42,7 @@ act-of-control-requires : tie.Need-act-of-control-requires
 act-of-control-requires c κs = search needs
 
 returns-5 : tie.Need-returns-5
-unfolding ruled isHello isImmediateClear
+unfolding byFirstRule isHello isImmediateClear
 returns-5 c = (
   λ s l band.
       meets-second _ refl (c .before .before .before .before .before .before .if1 .left)

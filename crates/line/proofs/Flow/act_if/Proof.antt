@@ -1,5 +1,5 @@
 use mathlib.Core.Path.{refl, sym, _∙_}
-use Rattle.line.proofs.Considered.{true-false}
+use Rattle.line.proofs.ReceivedMessage.{true-false}
 use Rattle.line.proofs.Meeting.{none-of}
 use borrow.Author.Needs.{needs}
 use Rattle.line.proofs.Flow.act_if.Statement.{statement}

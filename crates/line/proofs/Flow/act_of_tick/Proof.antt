@@ -5,7 +5,7 @@ use Rattle.rules.specs.State.{codes}
 use Rattle.rules.specs.Turns.{only}
 use Rattle.rules.specs.Steps.{ticksWhile, ticks}
 use Rattle.line.proofs.Meeting.{met, meets-pending, meets-none, meets-first, meets-second}
-use Rattle.line.proofs.Held.{nothing-waits}
+use Rattle.line.proofs.TokenBytes.{nothing-waits}
 use borrow.Author.Needs.{needs}
 use Rattle.line.proofs.Flow.act_of_tick.Statement.{statement}
 use Rattle.line.proofs.Flow.act_of_tick.Tie as tie

@@ -1,6 +1,7 @@
 use mathlib.Core.Path.{refl, sym, ap, _∙_}
 use native.Mathlib.Omega.{arith}
 use borrow.Author.Tests.{not-true, not-false}
+use Rattle.rules.specs.Numbers.{notCarried}
 use Rattle.rules.specs.Calls as rules
 use Rattle.rules.specs.Calls.{refuses}
 use Rattle.message.specs.Found.{foundIn, foundNumber}
@@ -8,7 +9,7 @@ use Rattle.writing.proofs.Fitting.{bytes-all}
 use Rattle.line.specs.View.{view, readingOf}
 use Rattle.line.proofs.Accepts.{host-sends}
 use Rattle.line.proofs.Answering.{refused}
-use Rattle.line.proofs.Considered.{is-pending, early-refused, early-passed, outcome-refused, found-refused, server-found, not-carried, is-accepted}
+use Rattle.line.proofs.ReceivedMessage.{is-pending, early-refused, early-passed, outcome-refused, found-refused, server-found, not-carried, is-accepted}
 use borrow.Author.Needs.{needs}
 use Rattle.line.proofs.Line.host.Statement.{statement}
 use Rattle.line.proofs.Line.host.Tie as tie
@@ -111,7 +112,7 @@ returns-4 c =
     let row = c .before .before .before .before .before .before .before .before .before .before .before .before .early-row .ensures (view l) refl (is-pending (l .flow .pending) (readingOf l (l .flow .reading))) in
     let found = ap (foundIn s) (sym (c .before .before .before .before .before .before .before .before .f .given .1)) ∙ c .before .before .before .before .before .before .before .before .before .before .read .ensures .fields in
     let sent = host-sends (c .before .before .before .before .before .before .before .before .f .given .0 .0) (c .before .before .before .before .sender .given .0 .0) (sym (c .before .before .before .before .before .before .sender-of .ensures) ∙ c .before .before .before .before .sender .given .1) in
-    refused (rules.message s) l t m 6 (start .pre)
+    refused (rules.message s) l t m notCarried (start .pre)
     (outcome-refused l t m s row (c .before .before .before .before .before .before .before .before .before .before .before .if1 .left) (not-carried l s (c .before .before .before .before .before .before .before .before .f .given .0 .0) (c .before .before .before .before .sender .given .0 .0) sent found (c .before .before .carries .ensures) (not-true _ (c .before .if2 .taken))))
     (c .refuse4 .ensures)
 

@@ -6,7 +6,7 @@ use Rattle.rules.specs.Steps.{raisedBy}
 use Rattle.characteristics.specs.View.{setOf}
 use Rattle.line.specs.declared.events.Event.the-variants.{Step}
 use Rattle.line.specs.View.{readingOf}
-use Rattle.line.specs.Events.{eventOf}
+use Rattle.line.proofs.Evented.{eventOf}
 use Rattle.line.proofs.Acting.{keyed-answers, keyed-fits, numbered}
 use borrow.Author.Needs.{needs}
 use Rattle.line.proofs.Line.step.Statement.{statement}

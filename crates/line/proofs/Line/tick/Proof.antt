@@ -1,7 +1,7 @@
 use mathlib.Core.Path.{refl}
 use mathlib.Core.List.{[]}
 use Rattle.line.specs.declared.events.Event.the-variants.{Tick}
-use Rattle.line.specs.Events.{eventOf}
+use Rattle.line.proofs.Evented.{eventOf}
 use Rattle.line.proofs.Acting.{keyed-answers, keyed-fits, numbered}
 use borrow.Author.Needs.{needs}
 use Rattle.line.proofs.Line.tick.Statement.{statement}

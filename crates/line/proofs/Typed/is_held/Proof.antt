@@ -3,7 +3,7 @@ use mathlib.Core.List.{map-id}
 use borrow.Author.Needs.{needs}
 use Rattle.rules.specs.Token.{isWhole}
 use Rattle.line.specs.View.{tokenOf}
-use Rattle.line.proofs.Held.{token-length}
+use Rattle.line.proofs.TokenBytes.{token-length}
 use Rattle.line.proofs.Typed.is_held.Statement.{statement}
 use Rattle.line.proofs.Typed.is_held.Tie as tie
 

@@ -1,4 +1,4 @@
-use Rattle.line.proofs.Held.{partial-is}
+use Rattle.line.proofs.TokenBytes.{partial-is}
 use Rattle.line.proofs.Typed.is_partial.Statement.{statement}
 use Rattle.line.proofs.Typed.is_partial.Tie as tie
 

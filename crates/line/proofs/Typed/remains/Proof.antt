@@ -1,4 +1,4 @@
-use Rattle.line.proofs.Held.{some-remains, none-remains}
+use Rattle.line.proofs.TokenBytes.{some-remains, none-remains}
 use Rattle.line.proofs.Typed.remains.Statement.{statement}
 use Rattle.line.proofs.Typed.remains.Tie as tie
 

@@ -5,7 +5,7 @@ use Rattle.rules.specs.Token.{isValid, standing}
 use Rattle.rules.specs.Steps.{tokenCode}
 use Rattle.rules.proofs.Tests.{pick-true, pick-false}
 use Rattle.line.specs.View.{tokenOf}
-use Rattle.line.proofs.Held.{token-length}
+use Rattle.line.proofs.TokenBytes.{token-length}
 use Rattle.line.proofs.Typed.token_code.Statement.{statement}
 use Rattle.line.proofs.Typed.token_code.Tie as tie
 

@@ -5,7 +5,7 @@ use Rattle.rules.specs.Steps.{addsToToken}
 use Rattle.line.specs.TokenParts.{codesOf}
 use Rattle.line.specs.With.{lent}
 use Rattle.line.proofs.Works.{told-does, then-does}
-use Rattle.line.proofs.Held.{grown-counted}
+use Rattle.line.proofs.TokenBytes.{grown-counted}
 use Rattle.line.proofs.Joints.{here-only, here-not, typed-counted, tokened-does}
 use borrow.Author.Needs.{needs}
 use Rattle.line.proofs.Work.adds_to_token.Statement.{statement}

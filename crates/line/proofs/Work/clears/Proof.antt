@@ -1,9 +1,9 @@
 use Rattle.line.specs.With.{lent}
 use borrow.Author.Needs.{needs}
-use Rattle.rules.specs.State.{codes}
-use Rattle.rules.specs.Turns.{_then_}
-use Rattle.rules.specs.Arrival.{emptiesTyped, clearsSeen, clears}
-use Rattle.line.proofs.Works.{then-does, here-does}
+use Rattle.rules.specs.Arrival.{clearRule}
+use mathlib.Core.Path.{refl}
+use Rattle.line.proofs.Joints.{here-part}
+use Rattle.line.proofs.Works.{then-does}
 use Rattle.line.proofs.Work.clears.Statement.{statement}
 use Rattle.line.proofs.Work.clears.Tie as tie
 
@@ -13,20 +13,21 @@ empties-typed-requires c κs = search needs
 clears-seen-requires : tie.Need-clears-seen-requires
 clears-seen-requires c κs =
     let start = c .before .before .before .before .before .before in
-    (c .before .empties-typed .ensures .0, record { within = start .pre .0 .within; full = start .pre .1 })
+    let counted = c .before .before .before .empties-typed .ensures .0 in
+    (counted, record { within = counted .within; full = start .pre .1 })
 
 same-length : tie.Need-same-length
 same-length c = search needs
 
 returns : tie.Need-returns
-unfolding clears
+unfolding clearRule
 returns c =
     let a = c .before .before .before .before .before .before .before .before .before .args in
     let cleared = c .before .before .clears-seen .ensures in (
       cleared .0,
       λ l m.
-          here-does (λ s. emptiesTyped then clearsSeen codes (s .read))
-          (then-does (c .before .before .before .before .empties-typed .ensures .1 (lent (a .t) (a .text .now) l) _ m) (cleared .1 l m)),
+          then-does (c .before .before .before .before .before .before .empties-typed .ensures .1 (lent (a .t) (a .text .now) l) _ m)
+          (here-part refl (cleared .1 l m)),
     )
 
 pub clears-spec : {M : Type 1} → statement M

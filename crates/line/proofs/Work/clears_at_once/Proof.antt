@@ -1,8 +1,9 @@
 use Rattle.line.specs.With.{lent}
 use borrow.Author.Needs.{needs}
-use Rattle.rules.specs.State.{codes}
-use Rattle.rules.specs.Arrival.{clearsUnseen, endsOutOfBand, clearsAtOnce}
-use Rattle.line.proofs.Works.{then-does, here-does}
+use Rattle.rules.specs.Arrival.{clearRule, clearsAtOnce}
+use mathlib.Core.Path.{refl}
+use Rattle.line.proofs.Joints.{here-part}
+use Rattle.line.proofs.Works.{then-does}
 use Rattle.line.proofs.Work.clears_at_once.Statement.{statement}
 use Rattle.line.proofs.Work.clears_at_once.Tie as tie
 
@@ -24,7 +25,7 @@ same-length : tie.Need-same-length
 same-length c = search needs
 
 returns : tie.Need-returns
-unfolding clearsAtOnce
+unfolding clearsAtOnce clearRule
 returns c =
     let a = c .before .before .before .before .before .before .before .before .before .before .before .before .before .before .before .before .args in
     let ended = c .before .before .ends-out-of-band .ensures in
@@ -35,9 +36,8 @@ returns c =
       λ l x.
           let line = lent (a .t) (a .text .now) l in
           then-does (sent .1 line x)
-          (then-does (emptied .1 line x _)
-          (then-does (here-does (λ s. clearsUnseen (s .read)) (unseen .1 (a .text .now) l x _))
-          (here-does (λ s. endsOutOfBand codes (s .read)) (ended .1 l x)))),
+          (then-does (then-does (emptied .1 line x _) (here-part refl (unseen .1 (a .text .now) l x _)))
+          (here-part refl (ended .1 l x))),
     )
 
 pub clears-at-once-spec : {M : Type 1} → statement M

@@ -1,7 +1,8 @@
 use Rattle.line.specs.View.{readingOf}
 use Rattle.line.specs.With.{lent}
 use borrow.Author.Needs.{needs}
-use Rattle.rules.specs.Arrival.{clearsUnseen}
+use Rattle.rules.specs.State.{codes}
+use Rattle.rules.specs.Arrival.{withoutRubbing, clearsInput}
 use Rattle.rules.specs.Turns.{cleared}
 use Rattle.line.proofs.Works.{still-does}
 use Rattle.line.proofs.Arrivals.{pending-does, idle-does}
@@ -12,18 +13,18 @@ deletes-unseen-requires : tie.Need-deletes-unseen-requires
 deletes-unseen-requires c κs = search needs
 
 returns : tie.Need-returns
-unfolding clearsUnseen
+unfolding clearsInput
 returns c =
     let a = c .before .before .args in
     let deleted = c .deletes-unseen .ensures in
-    (deleted .0, λ text l x m. pending-does clearsUnseen (readingOf (lent (a .t) text l) (a .r)) (c .before .if1 .taken) (deleted .1 cleared text l x m))
+    (deleted .0, λ text l x m. pending-does (clearsInput codes withoutRubbing) (readingOf (lent (a .t) text l) (a .r)) (c .before .if1 .taken) (deleted .1 cleared text l x m))
 
 returns-2 : tie.Need-returns-2
-unfolding clearsUnseen
+unfolding clearsInput
 returns-2 c =
     let start = c .before in
     let a = start .args in
-    (start .pre .0, λ text l x m. idle-does clearsUnseen (readingOf (lent (a .t) text l) (a .r)) (c .if1 .left) (still-does _ x m))
+    (start .pre .0, λ text l x m. idle-does (clearsInput codes withoutRubbing) (readingOf (lent (a .t) text l) (a .r)) (c .if1 .left) (still-does _ x m))
 
 pub clears-unseen-spec : {M : Type 1} → statement M
 clears-unseen-spec = tie.close (tie.spec deletes-unseen-requires returns returns-2)

@@ -1,5 +1,5 @@
 use mathlib.Core.Path.{refl}
-use Rattle.line.proofs.Held.{emptied-counted}
+use Rattle.line.proofs.TokenBytes.{emptied-counted}
 use Rattle.line.proofs.Joints.{here-part, typed-counted}
 use borrow.Author.Needs.{needs}
 use Rattle.rules.specs.Arrival.{emptiesTyped}

@@ -6,7 +6,7 @@ use Rattle.line.specs.With.{lent}
 use Rattle.rules.specs.Steps.{endsByToken}
 use Rattle.line.proofs.Sizes.{token-byte}
 use Rattle.line.proofs.Works.{then-does}
-use Rattle.line.proofs.Held.{token-length, token-counted, untokened-counted}
+use Rattle.line.proofs.TokenBytes.{token-length, token-counted, untokened-counted}
 use Rattle.line.proofs.Joints.{here-part, completes-as, typed-counted, cleared-does, ended-does}
 use borrow.Author.Needs.{needs}
 use Rattle.line.proofs.Work.ends_by_token.Statement.{statement}

@@ -1,25 +1,16 @@
 use Rattle.line.proofs.Arrivals.{dropped-key}
 use borrow.Author.Needs.{needs}
-use Prim.Native.Nat.{ℕ, _≤_}
+use mathlib.Core.Path.{refl}
+use Prim.Native.Nat.{_≤_}
 use Rattle.line.specs.View.{keyOf}
 use native.Mathlib.Omega.{arith}
-use mathlib.Core.Bool.{Bool}
-use lib.Dec.{ltb}
-use lib.ListN.{length}
-use Rattle.rules.specs.Choice.{pick}
 use Rattle.rules.specs.Numbers.{typeAheadSize}
-use Rattle.rules.specs.State.{State}
-use Rattle.rules.specs.Turns.{Part}
-use Rattle.rules.specs.Arrival.{keeps, drops, stores}
-use Rattle.line.proofs.Works.{here-does, first-does, second-does}
+use Rattle.rules.specs.Arrival.{stores}
+use Rattle.line.proofs.Joints.{here-first, here-second}
 use Rattle.line.proofs.Sizes.{type-ahead-size}
 use Rattle.line.proofs.KeyArrays.{has-room, no-room}
 use Rattle.line.proofs.Work.stores.Statement.{statement}
 use Rattle.line.proofs.Work.stores.Tie as tie
-
--- the rule, as a part that looks at its state
-abbrev byRoom : Bool → ℕ → State ℕ → Part ℕ
-byRoom quoted c s = pick (ltb (length (s .typed .typeAhead)) typeAheadSize) (keeps quoted c) (drops c)
 
 cast-if1 : tie.Need-cast-if1
 cast-if1 c = search needs
@@ -35,8 +26,7 @@ returns c =
     let kept = c .keeps .ensures in (
       kept .0,
       λ k l size m.
-          here-does (byRoom (keyOf k .quoted) (keyOf k .char))
-          (first-does _ _ (has-room waiting typeAheadSize (l .keys) (omega (arith, c .before .if1 .taken, type-ahead-size))) (kept .1 k l size _ m)),
+          here-first _ refl (has-room waiting typeAheadSize (l .keys) (omega (arith, c .before .if1 .taken, type-ahead-size))) (kept .1 k l size _ m),
     )
 
 drops-requires : tie.Need-drops-requires
@@ -54,9 +44,8 @@ returns-2 c =
     let dropped = c .before .before .drops in (
       dropped .ensures .0,
       λ k l size m.
-          here-does (byRoom (keyOf k .quoted) (keyOf k .char))
-          (second-does _ _ (no-room waiting typeAheadSize (l .keys) full)
-          (dropped-key (self .flow) (dropped .result) k l (omega arith) (dropped .ensures .1 (keyOf k .char) l m))),
+          here-second _ refl (no-room waiting typeAheadSize (l .keys) full)
+          (dropped-key (self .flow) (dropped .result) k l (omega arith) (dropped .ensures .1 (keyOf k .char) l m)),
     )
 
 pub stores-spec : {M : Type 1} → statement M

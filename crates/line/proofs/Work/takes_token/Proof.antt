@@ -11,7 +11,7 @@ use Rattle.line.specs.View.{readingOf, tokenOf}
 use Rattle.line.specs.With.{lent}
 use Rattle.line.proofs.Sizes.{token-byte}
 use Rattle.line.proofs.Appends.{end-is}
-use Rattle.line.proofs.Held.{token-counted}
+use Rattle.line.proofs.TokenBytes.{token-counted}
 use Rattle.line.proofs.Joints.{here-first, here-second}
 use borrow.Author.Needs.{needs}
 use Rattle.line.proofs.Work.takes_token.Statement.{statement}

@@ -3,7 +3,8 @@ use Prim.Native.Nat.{_+_, _-_, _≤_}
 use native.Mathlib.Omega.{arith}
 use lib.ListN.{length, drop}
 use Rattle.fields.proofs.Pieces.{all-behind}
-use Rattle.line.specs.Starts.{dataIn}
+use Rattle.message.specs.Found.{startReadIn}
+use Rattle.rules.specs.StartRead.Acceptance.{dataBehind}
 use Rattle.line.proofs.Opened.{prompt-within}
 use borrow.Author.Needs.{needs}
 use Rattle.line.proofs.opening.data_of.Statement.{statement}
@@ -28,7 +29,7 @@ part-result-end : tie.Need-part-result-end
 part-result-end c = search needs
 
 returns : tie.Need-returns
-unfolding dataIn
+unfolding dataBehind startReadIn
 returns c =
     let start = c .before .before .before .before .before in
     let text = c .before .before .bytes-of .result .now in

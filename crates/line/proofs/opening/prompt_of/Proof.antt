@@ -1,7 +1,8 @@
 use mathlib.Core.Path.{ap₂, _∙_}
 use lib.ListN.{take, drop}
 use Rattle.rules.specs.Choice.{bit}
-use Rattle.line.specs.Starts.{promptIn}
+use Rattle.message.specs.Found.{startReadIn}
+use Rattle.rules.specs.StartRead.Acceptance.{shownPrompt}
 use Rattle.line.proofs.Opened.{prompt-within}
 use borrow.Author.Needs.{needs}
 use Rattle.line.proofs.opening.prompt_of.Statement.{statement}
@@ -25,7 +26,7 @@ front-of-requires : tie.Need-front-of-requires
 front-of-requires c κs = prompt-within (c .before .before .before .before .before .pre) (c .before .bytes-of .ensures)
 
 returns : tie.Need-returns
-unfolding promptIn
+unfolding shownPrompt startReadIn
 returns c =
     let end = c .before .before .before .before .before .before .args .f .«end_of_prompt» in
     c .front-of .ensures ∙ ap₂ (λ hidden text. drop (bit hidden) (take end text)) (c .before .before .before .before .hides-lf .ensures) (c .before .before .bytes-of .ensures)

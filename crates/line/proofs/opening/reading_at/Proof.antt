@@ -1,6 +1,8 @@
 use mathlib.Core.Bool.{_&&_}
 use lib.Dec.{eqb}
 use Prim.Native.Nat.{_-_}
+use Rattle.rules.specs.StartRead.Acceptance.{hidesInput}
+use Rattle.message.specs.Found.{startReadIn}
 use borrow.Author.Needs.{needs}
 use Rattle.line.proofs.opening.reading_at.Statement.{statement}
 use Rattle.line.proofs.opening.reading_at.Tie as tie
@@ -15,6 +17,7 @@ hides-lf-requires : tie.Need-hides-lf-requires
 hides-lf-requires c κs = search needs
 
 returns : tie.Need-returns
+unfolding hidesInput startReadIn
 returns c =
     let a = c .before .before .before .before .args in
     let f = a .f in

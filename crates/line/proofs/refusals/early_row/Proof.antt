@@ -1,6 +1,6 @@
 use mathlib.Core.Path.{ap, _∙_}
 use Rattle.rules.specs.Calls.{isHosts, isTimely}
-use Rattle.line.specs.Rows.{firstRow}
+use Rattle.line.specs.Refusals.{firstRow}
 use borrow.Author.Needs.{needs}
 use Rattle.line.proofs.refusals.early_row.Statement.{statement}
 use Rattle.line.proofs.refusals.early_row.Tie as tie

@@ -2,7 +2,7 @@ use mathlib.Core.Path.{refl}
 use native.Mathlib.Omega.{arith}
 use borrow.Author.Tests.{le-leb}
 use borrow.Author.Needs.{needs}
-use Rattle.rules.specs.Choice.{all}
+use Rattle.rules.specs.Choice.{allAre}
 use Rattle.rules.specs.Messages.Layout.{sizeOf}
 use Rattle.rules.specs.Messages.Parameters.{initiation}
 use Rattle.rules.specs.Messages.Forms.{forms, formOf}
@@ -26,7 +26,7 @@ rest-from-requires : tie.Need-rest-from-requires
 rest-from-requires c κs = search needs
 
 returns : tie.Need-returns
-unfolding partOf heldIn placesOf all formOf forms sizeOf
+unfolding partOf heldIn placesOf allAre formOf forms sizeOf
 returns c =
     let b = c .before .before .before .before in
     let a = b .before in

@@ -1,7 +1,7 @@
 use mathlib.Core.Path.{refl, sym, _∙_}
 use borrow.Author.Tests.{not-true, not-false}
 use borrow.Author.Needs.{needs}
-use Rattle.rules.specs.Choice.{pick, all}
+use Rattle.rules.specs.Choice.{pick, allAre}
 use Rattle.rules.specs.Messages.Layout.{sizeOf}
 use Rattle.rules.specs.Messages.Forms.{forms, formOf}
 use Rattle.rules.specs.Messages.Parameters.{setting}
@@ -31,7 +31,7 @@ rest-from-requires : tie.Need-rest-from-requires
 rest-from-requires c κs = search needs
 
 returns-3 : tie.Need-returns-3
-unfolding heldIn placesOf all formOf forms sizeOf behindHead wholeTail soundFrom shapeOf pick isFree
+unfolding heldIn placesOf allAre formOf forms sizeOf behindHead wholeTail soundFrom shapeOf pick isFree
 returns-3 c =
     let b = c .before .before in
     let a = b .before .before .before in

@@ -2,7 +2,7 @@ use mathlib.Core.Path.{refl}
 use mathlib.Core.List.{[], _∷_}
 use native.Mathlib.Omega.{arith}
 use borrow.Author.Needs.{needs}
-use Rattle.rules.specs.Choice.{all}
+use Rattle.rules.specs.Choice.{allAre}
 use Rattle.rules.specs.Messages.Layout.{sizeOf, fieldsIn}
 use Rattle.rules.specs.Messages.Forms.{forms, formOf}
 use Rattle.rules.proofs.Tests.{both}
@@ -31,7 +31,7 @@ rest-from-requires : tie.Need-rest-from-requires
 rest-from-requires c κs = search needs
 
 returns : tie.Need-returns
-unfolding heldIn placesOf all formOf forms sizeOf fieldsIn
+unfolding heldIn placesOf allAre formOf forms sizeOf fieldsIn
 returns c =
     let b = c .before .before .before .before .before in
     let a = b .before .before in

@@ -1,5 +1,5 @@
 use mathlib.Core.Path.{sym}
-use Rattle.screen.proofs.Cases.{terminatorEcho-CR, terminatorEcho-other}
+use Rattle.screen.proofs.Cases.{echoTerminator-CR, echoTerminator-other}
 use Rattle.screen.proofs.Written.{equals}
 use Rattle.screen.proofs.echo.terminator_echo.Statement.{statement}
 use Rattle.screen.proofs.echo.terminator_echo.Tie as tie
@@ -13,7 +13,7 @@ same-length c = c .before .before .pair .ensures .same
 returns : tie.Need-returns
 returns c =
     let a = c .before .before .before .before in
-    equals (sym (terminatorEcho-CR _ (a .if1 .taken))) (c .before .before .pair .ensures)
+    equals (sym (echoTerminator-CR _ (a .if1 .taken))) (c .before .before .pair .ensures)
 
 echo-requires : tie.Need-echo-requires
 echo-requires c κs = tt
@@ -24,7 +24,7 @@ same-length-2 c = c .before .before .echo .ensures .same
 returns-2 : tie.Need-returns-2
 returns-2 c =
     let a = c .before .before .before .before in
-    equals (sym (terminatorEcho-other _ (a .if1 .left))) (c .before .before .echo .ensures)
+    equals (sym (echoTerminator-other _ (a .if1 .left))) (c .before .before .echo .ensures)
 
 pub terminator-echo-spec : {M : Type 1} → statement M
 terminator-echo-spec =

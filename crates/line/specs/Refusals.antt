@@ -5,7 +5,7 @@ use mathlib.Core.List.{List, [], _∷_}
 use lib.ListN.{length}
 use Rattle.rules.specs.Choice.{_when_, firstOf}
 use Rattle.rules.specs.Numbers.{accepted, smallArea, wrongLength, wrongType, wrongTime}
-use Rattle.rules.specs.Messages.Layout.{byteAt}
+use Rattle.rules.specs.Messages.Forms.{typeIn}
 use Rattle.rules.specs.Messages.Codec.{soundLength}
 use Rattle.rules.specs.State.{State}
 use Rattle.rules.specs.Calls.{areRoomy, isHosts, isTimely}
@@ -26,4 +26,4 @@ firstRow roomy sized hosts timely =
 
 abbrev pub earlyRow : ℕ → ℕ → List ℕ → State ℕ → ℕ
 earlyRow terminal messages bytes s =
-    firstRow (areRoomy terminal messages) (soundLength (length bytes)) (isHosts (byteAt bytes 0)) (isTimely (byteAt bytes 0) s)
+    firstRow (areRoomy terminal messages) (soundLength (length bytes)) (isHosts (typeIn bytes)) (isTimely (typeIn bytes) s)

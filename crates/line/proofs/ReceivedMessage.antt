@@ -12,7 +12,7 @@ use Rattle.rules.specs.Messages.Codec as codec
 use Rattle.rules.specs.Messages.Codec.{Outcome, refused, sound, soundLength, definedKind, allBytes, fieldsAs, read}
 use Rattle.rules.specs.State.{Reading, State, codes}
 use Rattle.rules.specs.Calls as rules
-use Rattle.rules.specs.Calls.{Answer, areRoomy, isPending, isServers, isHosts, isRefused, isCarriedBy, carries, refusals, considered, refuses, hears, answers, answer}
+use Rattle.rules.specs.Calls.{Answer, areRoomy, isPending, isServers, isHosts, isRefused, isCarriedBy, carries, refusals, received, refuses, answersMessage, answers, answer}
 use Rattle.rules.proofs.Tests.{none-left, row-applies, row-passed, halves}
 use borrow.Author.Tests.{not-true}
 use Rattle.rules.specs.Messages.Layout.{byteAt}
@@ -24,7 +24,7 @@ use Rattle.message.specs.Found.{heldIn, asHeld, foundIn}
 use Rattle.line.specs.declared.Line.{Line}
 use Rattle.line.specs.View.{pendingOf, view}
 use Rattle.line.specs.Answers.{ruled}
-use Rattle.line.specs.Rows.{firstRow, earlyRow}
+use Rattle.line.specs.Refusals.{firstRow, earlyRow}
 use Rattle.line.specs.HostMessages.{messageOf, senderOf, Accepted}
 use Rattle.line.specs.declared.events.HostMessage.{HostMessage}
 use Rattle.line.specs.declared.events.Sender.the-variants as sender
@@ -48,10 +48,10 @@ behindFirst sized hosts timely s o =
     (wrongLength when not sized ∷ wrongType when not hosts ∷ wrongTime when not timely ∷ lateRows s o)
 
 module _ (s : State ℕ) (o : Outcome (forms.Message ℕ)) where
-  refused-early : (roomy sized hosts timely : Bool) (f : State ℕ → Answer ℕ) → f s ≡ hears codes (behindFirst sized hosts timely s o) s →
+  refused-early : (roomy sized hosts timely : Bool) (f : State ℕ → Answer ℕ) → f s ≡ answersMessage codes (behindFirst sized hosts timely s o) s →
       (firstRow roomy sized hosts timely ≡ accepted → ⊥) →
       firstOf refuses f (smallArea when not roomy ∷ []) s ≡ refuses (firstRow roomy sized hosts timely) s
-  unfolding firstRow firstOf pick hears
+  unfolding firstRow firstOf pick answersMessage
   refused-early false sized hosts timely f e h = refl
   refused-early true false hosts timely f e h = e
   refused-early true true false timely f e h = e
@@ -69,24 +69,24 @@ module _ (s : State ℕ) (o : Outcome (forms.Message ℕ)) where
 
 module _ (l : Line) (t m bytes : List ℕ) {row : ℕ} (e : row ≡ earlyRow (length t) (length m) bytes (view l)) where
   pub early-refused : (row ≡ 0 → ⊥) → ruled (rules.message bytes) l t m ≡ refuses row (view l)
-  unfolding answer answers considered refusals
+  unfolding answer answers received refusals
   early-refused h =
       refused-early (view l) (read bytes) _ _ _ _ _ refl (λ k. h (e ∙ k)) ∙ ap (λ n. refuses n (view l)) (sym e)
 
   pub early-passed : row ≡ 0 →
-      (areRoomy (length t) (length m) ≡ true) × (considered (view l) bytes ≡ late (view l) (read bytes)) × (isHosts (byteAt bytes 0) ≡ true) ×
+      (areRoomy (length t) (length m) ≡ true) × (received (view l) bytes ≡ late (view l) (read bytes)) × (isHosts (byteAt bytes 0) ≡ true) ×
       (soundLength (length bytes) ≡ true)
-  unfolding considered refusals
+  unfolding received refusals
   early-passed h = passed-early (view l) (read bytes) _ _ _ _ (sym e ∙ h)
 
   -- 5, and 6
   module _ (h : row ≡ 0) {n : ℕ} where
     pub outcome-refused : late (view l) (read bytes) ≡ refused n → ruled (rules.message bytes) l t m ≡ refuses n (view l)
-    unfolding answer answers hears
+    unfolding answer answers answersMessage
     outcome-refused k =
         let p = early-passed h in
         ap (λ (f : State ℕ → Answer ℕ). f (view l)) (row-passed refuses _ _ [] (ap not (p .0)) ∙ none-left refuses _) ∙
-        ap (λ o. hears codes o (view l)) (p .1 ∙ k)
+        ap (λ o. answersMessage codes o (view l)) (p .1 ∙ k)
 
 -- What reading found is what the rules read.
 module _ (l : Line) (bytes : List ℕ) where
@@ -120,7 +120,7 @@ module _ (l : Line) (bytes : List ℕ) where
     unfolding foundIn
     not-carried e = refuses-carrying e (read bytes) found
 
-    module _ (e : carry ≡ true) (small : allBytes bytes ≡ true) (passed : considered (view l) bytes ≡ late (view l) (read bytes)) where
+    module _ (e : carry ≡ true) (small : allBytes bytes ≡ true) (passed : received (view l) bytes ≡ late (view l) (read bytes)) where
       accepts : (o : Outcome (forms.Message ℕ)) → read bytes ≡ o → sound (heldIn bytes m) ≡ asHeld o → Accepted l bytes h
       unfolding asHeld carries isRefused
       accepts (refused n) r k = absurd (refused-sound (sym k))
