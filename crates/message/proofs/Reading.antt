@@ -71,7 +71,7 @@ module _ (kind : ℕ) (s : List ℕ) where
 
   refused-by : soundAs (formOf kind) s ≡ false → Refuses
   unfolding readAs asHeld
-  refused-by e = finds-refusal (ap asHeld (sym (pick-false _ _ e)))
+  refused-by e = finds-refusal (ap asHeld (sym (pick-true _ _ (ap not e))))
 
   -- cut short in the head
   pub head-cut : length s < head → Refuses
@@ -93,7 +93,7 @@ module _ (kind : ℕ) (s : List ℕ) where
   unfolding readAs asHeld soundAs foundIn foundInside
   read-sound e n w d =
       let passed = both (both (le-leb head (length s) n) w) d in
-      record { fields = ap sound (e .fields) ∙ ap asHeld (sym (pick-true _ _ passed)); inside = e .inside passed }
+      record { fields = ap sound (e .fields) ∙ ap asHeld (sym (pick-false _ _ (ap not passed))); inside = e .inside passed }
 
   -- what stands behind the head of a message that is not refused
   pub rest-lies : {p : Part} → RestFrom head s p → soundAs (formOf kind) s ≡ true → lies (length s) p ≡ true

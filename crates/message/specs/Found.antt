@@ -2,12 +2,12 @@
 -- each refusal.
 use Prim.Native.Nat.{ℕ, _+_, _-_, _≤_}
 use mathlib.Core.Path.{_≡_}
-use mathlib.Core.Bool.{Bool, true}
+use mathlib.Core.Bool.{Bool, true, not}
 use mathlib.Core.List.{List, [], _∷_, _++_, map}
 use lib.Dec.{leb}
 use lib.ListN.{length, take, drop}
 use Rattle.rules.specs.Choice.{pick, all}
-use Rattle.rules.specs.Numbers.{accepted, unsound}
+use Rattle.rules.specs.Numbers.{messageSize, accepted, unsound}
 use Rattle.rules.specs.Messages.Layout.{byteAt, fieldsIn, numberAt}
 use Rattle.rules.specs.Messages.Parameters.{Shape, initiation, question, setting, cleaned, cut}
 use Rattle.rules.specs.Messages.Forms as forms
@@ -151,12 +151,12 @@ foundNumber (found.Refused n) = n
 -- reading as one type
 unfoldable pub readAs : ℕ → List ℕ → Outcome Held
 readAs kind s =
-    asHeld (pick (soundAs (formOf kind) s) (codec.sound (fieldsAs (formOf kind) s)) (codec.refused unsound))
+    asHeld (pick (not (soundAs (formOf kind) s)) (codec.refused unsound) (codec.sound (fieldsAs (formOf kind) s)))
 
 -- what a reader of one type is handed: a message of that type that is not too long
 pub record IsType (kind : ℕ) (s : List ℕ) : Type 0 where
   pub typed : byteAt s 0 ≡ kind
-  pub short : length s ≤ 256
+  pub short : length s ≤ messageSize
 
 -- what stands from a place on
 pub record RestFrom (at : ℕ) (s : List ℕ) (p : Part) : Type 0 where

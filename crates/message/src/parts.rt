@@ -2,12 +2,13 @@
 ghost use mathlib.Core.Path.{_≡_};
 ghost use Prim.Native.Nat.{_≤_};
 ghost use lib.ListN.{length};
+ghost use Rattle.rules.specs.Numbers.{messageSize};
 ghost use Rattle.message.specs.Found.{RestFrom, partOf};
 use crate::Part;
 
 // What stands from a place on, up to the end.
 pub(crate) fn rest_from(s: &[u8], at: u16) -> Part
-    requires { ⌜ length (now s) ≤ 256 ⌝ }
+    requires { ⌜ length (now s) ≤ messageSize ⌝ }
     ensures { λ r. ⌜ RestFrom at (now (s .entry)) r ⌝ }
 {
     let size = s.len() as u16;

@@ -12,4 +12,6 @@ pub const TERMINAL_AREA: usize = 4096;
 
 pub const MESSAGE_AREA: usize = 256;
 
+pub const TOP_COLUMN: u16 = 999;
+
 pub const TOP_DROPPED: u16 = 65535;

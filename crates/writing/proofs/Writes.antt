@@ -3,13 +3,13 @@ use mathlib.Core.Path.{_≡_, refl, sym, ap, ap₂, _∙_}
 use Prim.Native.Nat.{ℕ, zero, suc, _+_, _*_, _%_, _≤_}
 use native.Mathlib.Nat.{mod-eq-of-lt}
 use native.Mathlib.Omega.{arith}
-use mathlib.Core.Bool.{Bool, true, false, _&&_, false≢true}
+use mathlib.Core.Bool.{Bool, true, false, not, _&&_, false≢true}
 use mathlib.Core.List.{List, [], _∷_, _++_, map, zipWith, append-nil}
 use lib.Dec.{leb, ltb, eqb}
 use lib.ListN.{length, take, drop, replicate}
 use lib.Seq.{take-append-seam}
 use borrow.Author.Tests.{ltb-true, ltb-false, leb-true, eqb-true}
-use Rattle.rules.specs.Choice.{pick, isEmpty, all, joined}
+use Rattle.rules.specs.Choice.{pick, Row, firstOf, isEmpty, all, joined}
 use Rattle.rules.specs.Numbers.{messageSize, messageArea, accepted, smallArea, wrongLength, wrongType, unsound}
 use Rattle.rules.specs.Calls.{areaAfter}
 use Rattle.rules.specs.Messages.Layout.{widthsOf, fits, writeGroups}
@@ -18,8 +18,9 @@ use Rattle.rules.specs.Messages.Parameters as parameters
 use Rattle.rules.specs.Messages.Forms as forms
 use Rattle.rules.specs.Messages.Forms.{formOf, text, setAndText, list}
 use Rattle.rules.specs.Messages.Codec.{Outcome, refused, sound, Held, message, other, allBytes, definedKind, definedFields, fitsTail, fitsAs, fitsHeld}
-use Rattle.rules.specs.Messages.Codec.{tailBytes, bytesAs, bytesOf, kindOf, read, written}
+use Rattle.rules.specs.Messages.Codec.{tailBytes, bytesAs, bytesOf, kindOf, read, writeRefusals, written}
 use Rattle.rules.proofs.Tests.{halves, thirds, quarters, pick-true, pick-false, pick-case, all-cons, all-joined}
+use Rattle.rules.proofs.Sizes.{longest-room}
 use Rattle.rules.proofs.Areas.{puts-front}
 use Rattle.rules.proofs.Outcomes.{refused-sound, sound-same}
 use Rattle.rules.proofs.RoundTrip.{round-trip}
@@ -206,22 +207,23 @@ module _ (s : List ℕ) (bytes : allBytes s ≡ true) where
 
 -- The rows, in their order.
 abbrev rows : ℕ → ℕ → ℕ → Bool → Outcome (List ℕ) → Outcome (List ℕ)
-rows area size kind fits x =
-    pick (ltb area messageArea) (refused smallArea)
-    (pick (ltb messageSize size) (refused wrongLength)
-    (pick (definedKind kind) (pick fits x (refused unsound)) (refused wrongType)))
+rows area size kind passes x = firstOf refused x (writeRefusals area size kind passes)
 
-row-of : (a l k f : Bool) {n : ℕ} → n ≡ pick a 1 (pick l 2 (pick k (pick f 0 5) 3)) → (n ≡ 0 → ⊥) → (x : Outcome (List ℕ)) →
-    pick a (refused 1) (pick l (refused 2) (pick k (pick f x (refused 5)) (refused 3))) ≡ refused n
+-- the number of the first row that applies is the number of the refusal
+row-step : (t : Bool) {n : ℕ} (k : ℕ) {rest : ℕ} {y : Outcome (List ℕ)} → (n ≡ rest → y ≡ refused n) → n ≡ pick t k rest →
+    pick t (refused k) y ≡ refused n
 unfolding pick
-row-of true l k f e z x = ap refused (sym e)
-row-of false true k f e z x = ap refused (sym e)
-row-of false false false f e z x = ap refused (sym e)
-row-of false false true false e z x = ap refused (sym e)
-row-of false false true true e z x = absurd (z e)
+row-step true k behind e = ap refused (sym e)
+row-step false k behind e = behind e
 
-all-passed : (a l k f : Bool) {n : ℕ} → n ≡ pick a 1 (pick l 2 (pick k (pick f 0 5) 3)) → n ≡ 0 →
-    (a ≡ false) × (l ≡ false) × (k ≡ true) × (f ≡ true)
+row-of : (table : List Row) {n : ℕ} → n ≡ firstOf (λ k. k) accepted table → (n ≡ accepted → ⊥) → (x : Outcome (List ℕ)) →
+    firstOf refused x table ≡ refused n
+unfolding firstOf
+row-of [] e z x = absurd (z e)
+row-of (r ∷ table) e z x = row-step (r .applies) (r .number) (λ k. row-of table k z x) e
+
+all-passed : (a l k f : Bool) {n : ℕ} → n ≡ pick a smallArea (pick l wrongLength (pick (not k) wrongType (pick (not f) unsound accepted))) →
+    n ≡ accepted → (a ≡ false) × (l ≡ false) × (k ≡ true) × (f ≡ true)
 unfolding pick
 all-passed true l k f e z = absurd (omega arith)
 all-passed false true k f e z = absurd (omega arith)
@@ -232,24 +234,24 @@ all-passed false false true true e z = (refl, refl, refl, refl)
 module _ (area size kind : ℕ) (fits : Bool) {n : ℕ} (e : n ≡ firstRefusal area size kind fits) where
   rows-refused : (n ≡ 0 → ⊥) → (x : Outcome (List ℕ)) → rows area size kind fits x ≡ refused n
   unfolding firstRefusal
-  rows-refused z x = row-of (ltb area messageArea) (ltb messageSize size) (definedKind kind) fits e z x
+  rows-refused z x = row-of (writeRefusals area size kind fits) e z x
 
   module _ (z : n ≡ 0) where
     tests : (ltb area messageArea ≡ false) × (ltb messageSize size ≡ false) × (definedKind kind ≡ true) × (fits ≡ true)
-    unfolding firstRefusal
+    unfolding firstRefusal writeRefusals firstOf
     tests = all-passed (ltb area messageArea) (ltb messageSize size) (definedKind kind) fits e z
 
     rows-passed : (x : Outcome (List ℕ)) → rows area size kind fits x ≡ x
+    unfolding writeRefusals firstOf
     rows-passed x =
-        pick-false _ _ (tests .0) ∙ pick-false _ _ (tests .1) ∙ pick-true _ _ (tests .2) ∙ pick-true _ _ (tests .3)
+        pick-false _ _ (tests .0) ∙ pick-false _ _ (tests .1) ∙ pick-false _ _ (ap not (tests .2)) ∙ pick-false _ _ (ap not (tests .3))
 
     rows-room : size ≤ area
-    unfolding messageArea messageSize
-    rows-room = omega (arith, ltb-false area 256 (tests .0), ltb-false 256 size (tests .1))
+    rows-room = omega (arith, longest-room, ltb-false area messageArea (tests .0), ltb-false messageSize size (tests .1))
 
 -- Where every part lies in the slice, the rows are the definition's own.
 same-rows : {A : Type 0} (a l k : Bool) (one two three five x : A) →
-    pick a one (pick l two (pick k (pick true (pick a one (pick l two (pick k x three))) five) three)) ≡ pick a one (pick l two (pick k x three))
+    pick a one (pick l two (pick k three (pick false five (pick a one (pick l two (pick k three x)))))) ≡ pick a one (pick l two (pick k three x))
 unfolding pick
 same-rows true l k one two three five x = refl
 same-rows false true k one two three five x = refl
@@ -257,10 +259,10 @@ same-rows false false true one two three five x = refl
 same-rows false false false one two three five x = refl
 
 writing-inside : (area : ℕ) (s : List ℕ) (m : Message) → inside (length s) (partsOf m) ≡ true → writing area s m ≡ written area (heldIn s m)
-unfolding writing written
+unfolding writing written writeRefusals firstOf
 writing-inside area s m e =
     rw (e, inside-length s m e, kind-held s m)
-    (same-rows (ltb area messageArea) (ltb messageSize (length (bytesOf (heldIn s m)))) (definedKind (kindOf (heldIn s m))) _ _ _ _ _)
+    (same-rows (ltb area messageArea) (ltb messageSize (length (bytesOf (heldIn s m)))) (not (definedKind (kindOf (heldIn s m)))) _ _ _ _ _)
 
 -- The same rows, by the test of its parts and the test of its fields together.
 written-rows : (area : ℕ) (h : Held) {size kind : ℕ} → length (bytesOf h) ≡ size → kindOf h ≡ kind →
@@ -270,7 +272,7 @@ written-rows area h long is = λ i. rows area (long i) (is i) (fitsHeld h) (soun
 
 outside-rows : (area : ℕ) (s : List ℕ) (m : Message) (x : Outcome (List ℕ)) → inside (length s) (partsOf m) ≡ false →
     writing area s m ≡ rows area (sizeOf (partsOf m)) (partsOf m .kind) false x
-unfolding writing pick
+unfolding writing writeRefusals firstOf pick
 outside-rows area s m x e = rw e refl
 
 -- What the code finds of a message.

@@ -13,8 +13,6 @@ use fronts::put_message;
 use message::Found;
 use message::Message;
 
-const LONGEST: u32 = 256;
-
 fn is_known(kind: u8) -> bool
     ensures { λ r. ⌜ r ≡ definedKind kind ⌝ }
 {
@@ -28,7 +26,7 @@ fn first_refusal(room: usize, size: u32, kind: u8, fits: bool) -> u8
     if room < rules::MESSAGE_AREA {
         return 1;
     }
-    if LONGEST < size {
+    if rules::MESSAGE < size as usize {
         return 2;
     }
     if !is_known(kind) {

@@ -5,6 +5,7 @@ use lib.Dec.{leb}
 use borrow.Author.Needs.{needs}
 use borrow.Author.Tests.{not-true, not-false}
 use Rattle.rules.specs.Messages.Codec.{read}
+use Rattle.rules.proofs.Sizes.{message-size}
 use Rattle.message.specs.declared.Found.{Found}
 use Rattle.message.specs.Found.{IsType, Finds, asHeld, readAs}
 use Rattle.message.proofs.Reading.{finds-refusal}
@@ -15,7 +16,7 @@ use Rattle.message.proofs.read.Tie as tie
 -- Behind the test of the length and the reading of the type: a type by its number, and what reading as it is.
 module _ (b : tie.After-byte-at) {n : ℕ} (t : b .byte-at .result ≡ n) where
   of-type : IsType n (b .before .before .before .args .s .now)
-  of-type = is-type (b .before .before .before .args .s .now) (not-false _ (b .before .if1 .left)) (b .byte-at .ensures) t
+  of-type = is-type (b .before .before .before .args .s .now) message-size (not-false _ (b .before .if1 .left)) (b .byte-at .ensures) t
 
   as-read : leb 1 n && leb n 14 ≡ true → {f : Found} →
       Finds (b .before .before .before .args .s .now) (readAs n (b .before .before .before .args .s .now)) f →
@@ -24,12 +25,12 @@ module _ (b : tie.After-byte-at) {n : ℕ} (t : b .byte-at .result ≡ n) where
       record {
         fields =
             found .fields ∙
-            as-type (b .before .before .before .args .s .now) (not-false _ (b .before .if1 .left)) (b .byte-at .ensures) t d;
+            as-type (b .before .before .before .args .s .now) message-size (not-false _ (b .before .if1 .left)) (b .byte-at .ensures) t d;
         inside = found .inside;
       }
 
 returns : tie.Need-returns
-returns c = finds-refusal (wrong-length (c .before .before .args .s .now) (not-true _ (c .if1 .taken)))
+returns c = finds-refusal (wrong-length (c .before .before .args .s .now) message-size (not-true _ (c .if1 .taken)))
 
 byte-at-requires : tie.Need-byte-at-requires
 byte-at-requires c κs = search needs
@@ -122,7 +123,7 @@ returns-16 : tie.Need-returns-16
 returns-16 c =
     let b = c .before in
     finds-refusal
-    (wrong-type (b .before .before .before .args .s .now) (not-false _ (b .before .if1 .left)) (b .byte-at .ensures)
+    (wrong-type (b .before .before .before .args .s .now) message-size (not-false _ (b .before .if1 .left)) (b .byte-at .ensures)
     (undefined-kind (c .match .rest)))
 
 pub read-spec : {M : Type 1} → statement M

@@ -3,13 +3,14 @@ use Prim.Native.Nat.{_-_}
 use native.Mathlib.Omega.{arith}
 use lib.ListN.{length}
 use borrow.Author.Needs.{needs}
+use Rattle.rules.proofs.Sizes.{message-word}
 use Rattle.message.specs.Found.{partOf}
 use Rattle.fields.proofs.Pieces.{all-behind}
 use Rattle.message.proofs.parts.rest_from.Statement.{statement}
 use Rattle.message.proofs.parts.rest_from.Tie as tie
 
 cast-size : tie.Need-cast-size
-cast-size c = search needs
+cast-size c = omega (arith, message-word)
 
 sub-t6 : tie.Need-sub-t6
 sub-t6 c = search needs
