@@ -19,7 +19,7 @@ use crate::selectors;
 use crate::settings::all_carried;
 use crate::settings::chosen;
 use message::Message;
-use message::Part;
+use message::Span;
 use parameters::Parameter;
 
 // How many bytes the answer to one question takes.
@@ -113,7 +113,7 @@ impl Host {
             return at;
         }
         let size = answer_size(list);
-        let parameters = Part {
+        let parameters = Span {
             start: 0,
             len: (size - 4) as u16,
         };

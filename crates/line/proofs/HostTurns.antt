@@ -22,10 +22,10 @@ use Rattle.rules.specs.Messages.Layout.{byteAt}
 use Rattle.rules.proofs.Outcomes.{refused-sound, readable}
 use Rattle.rules.proofs.Bounds.Calls.{considered-sound}
 use Rattle.rules.proofs.Tests.{pick-true, pick-false, pick-first}
-use Rattle.message.specs.declared.Part as Part
+use Rattle.message.specs.declared.Span.{Span}
 use Rattle.parameters.specs.Lists.{parametersFrom}
 use Rattle.message.specs.declared.StartReadFields.{StartReadFields}
-use Rattle.message.specs.Found.{partOf, startReadIn, heldIn}
+use Rattle.message.specs.Found.{spanOf, startReadIn, heldIn}
 use Rattle.areas.specs.Puts.{Puts}
 use Rattle.areas.proofs.Putting.{equals}
 use Rattle.characteristics.specs.declared.Set.{Set}
@@ -170,7 +170,7 @@ module _ (s : List ℕ) (l : Line) (f : StartReadFields) (a : Accepted l s (Star
         by-choice true e =
             let set = o .last ∙ pick-true _ _ e in
             only-does _ e
-            (changes-does t′ m′ (λ z. withHost (withLastSet (partOf s (f .set)) (z .host)) z)
+            (changes-does t′ m′ (λ z. withHost (withLastSet (spanOf s (f .set)) (z .host)) z)
             (λ i. withHost (withLastSet (set i) (view opened .host)) (view (onFlow (r .flow) (lent T text′ opened)))) refl refl)
         by-choice false e =
             let set = o .last ∙ pick-false _ _ e in
@@ -222,25 +222,25 @@ module _ (s t before mid t′ m′ text′ : List ℕ) (l next : Line) (place : 
   initiate-turns e i d =
       then-does (changes-does t before (λ z. withHost (withBegun true (z .host)) z) (ap view e) refl refl) (begun-as next next place refl i d)
 
-  report-turns : (p : Part.Part) → Accepted l s (ReadCharacteristics p) → next ≡ l →
-      Puts (reportBytes (hostOf next) (partOf s p)) before 0 place mid →
+  report-turns : (p : Span) → Accepted l s (ReadCharacteristics p) → next ≡ l →
+      Puts (reportBytes (hostOf next) (spanOf s p)) before 0 place mid →
       Does still (on next (begunWork next place)) t mid (on (lent (next .terms) text′ next) r) t′ m′ →
-      Does (obeys codes (questionsIn (partOf s p))) (begun l) t before (on (lent (next .terms) text′ next) r) t′ m′
+      Does (obeys codes (questionsIn (spanOf s p))) (begun l) t before (on (lent (next .terms) text′ next) r) t′ m′
   unfolding obeys pick reports answerTo
   report-turns p a e puts d =
-      let known = subst (λ z. carriesQuestions (view z) (questionsIn (partOf s p)) ≡ true) (sym e) (questions-known l s p a) in
-      let bytes = report-carried (hostOf next) (partOf s p) (view next) known in
-      subst (λ z. Does (reports (questionsIn (partOf s p))) (begun z) t before (on (lent (next .terms) text′ next) r) t′ m′) e
-      (here-does (λ z. sends (report (z .host) (questionsIn (partOf s p))))
+      let known = subst (λ z. carriesQuestions (view z) (questionsIn (spanOf s p)) ≡ true) (sym e) (questions-known l s p a) in
+      let bytes = report-carried (hostOf next) (spanOf s p) (view next) known in
+      subst (λ z. Does (reports (questionsIn (spanOf s p))) (begun z) t before (on (lent (next .terms) text′ next) r) t′ m′) e
+      (here-does (λ z. sends (report (z .host) (questionsIn (spanOf s p))))
       (still-behind (sent-does {w = begunWork next 0} {v = begunWork next place} _ (equals bytes puts) refl next t) d))
 
-  settings-turns : (p : Part.Part) → Sets (partOf s p) l next → NoReport before place mid →
+  settings-turns : (p : Span) → Sets (spanOf s p) l next → NoReport before place mid →
       Does still (on next (begunWork next place)) t mid (on (lent (next .terms) text′ next) r) t′ m′ →
-      Does (obeys codes (settingsIn (partOf s p))) (begun l) t before (on (lent (next .terms) text′ next) r) t′ m′
+      Does (obeys codes (settingsIn (spanOf s p))) (begun l) t before (on (lent (next .terms) text′ next) r) t′ m′
   unfolding obeys pick setsCharacteristics
   settings-turns p e i d =
       let seen = ap view (e .same) ∙ (λ j. withHost (e .settings j) (view l)) in
-      still-behind (changes-does t before (λ z. withHost (withParameters (parametersFrom 11 0 (partOf s p)) (z .host)) z) seen refl refl)
+      still-behind (changes-does t before (λ z. withHost (withParameters (parametersFrom 11 0 (spanOf s p)) (z .host)) z) seen refl refl)
       (begun-as next next place refl i d)
 
   pub host-does : (m : HostMessage) → Accepted l s m → length (l .keys) ≡ typeAheadSize → length (next .keys) ≡ typeAheadSize → SetBy s m l next →

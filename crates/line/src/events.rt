@@ -17,7 +17,7 @@ use crate::Terms;
 use crate::acts::Act;
 use message::InitiateFields;
 use message::Message;
-use message::Part;
+use message::Span;
 use message::StartReadFields;
 use message::WriteFields;
 
@@ -28,8 +28,8 @@ pub(crate) enum HostMessage {
     Unread(u8),
     ClearInput,
     Write(WriteFields),
-    ReadCharacteristics(Part),
-    Characteristics(Part),
+    ReadCharacteristics(Span),
+    Characteristics(Span),
     CheckInput,
 }
 

@@ -13,14 +13,14 @@ use Rattle.rules.specs.Messages.Parameters.{Shape, cleaned, cut}
 use Rattle.rules.specs.Messages.Forms.{Message, Tail, nothing, text, list, formOf, startRead, readData, write}
 use Rattle.rules.specs.Messages.Codec.{Outcome, Held, message, sound, refused, definedFields, soundAs, fieldsAs, wholeTail, behindHead, setIn, parametersIn, textIn}
 use Rattle.rules.proofs.Tests.{both, thirds, pick-true, pick-false}
-use Rattle.message.specs.declared.Part.{Part}
+use Rattle.message.specs.declared.Span.{Span}
 use Rattle.message.specs.declared.Message as declared
 use Rattle.message.specs.declared.Found.the-variants as found
-use Rattle.message.specs.Found.{RestFrom, FieldsIn, Finds, partOf, parametersOf, bare, withText, withList, heldIn, placesOf, lies}
+use Rattle.message.specs.Found.{RestFrom, FieldsIn, Finds, spanOf, parametersOf, bare, withText, withList, heldIn, placesOf, lies}
 use Rattle.message.specs.Found.{asHeld, foundIn, foundInside, readAs}
 use Rattle.message.proofs.Heads.{Head}
 
--- A refusal has no part.
+-- A refusal has no span.
 pub finds-refusal : {s : List ℕ} {o : Outcome Held} {n : ℕ} → refused n ≡ o → Finds s o (found.Refused n)
 unfolding foundIn foundInside
 finds-refusal e = record { fields = e; inside = refl }
@@ -96,7 +96,7 @@ module _ (kind : ℕ) (s : List ℕ) where
       record { fields = ap sound (e .fields) ∙ ap asHeld (sym (pick-false _ _ (ap not passed))); inside = e .inside passed }
 
   -- what stands behind the head of a message that is not refused
-  pub rest-lies : {p : Part} → RestFrom head s p → soundAs (formOf kind) s ≡ true → lies (length s) p ≡ true
+  pub rest-lies : {p : Span} → RestFrom head s p → soundAs (formOf kind) s ≡ true → lies (length s) p ≡ true
   unfolding soundAs
   rest-lies {p} e passed =
       le-leb (p .start + p .len) (length s)
@@ -111,7 +111,7 @@ module _ (kind : ℕ) (s : List ℕ) where
     unfolding definedFields isFree fieldsAs
     free-defined e = rw k (free-choice (eqb kind startRead) (eqb kind readData) (eqb kind write) _ _ _ e)
 
-    -- the fields, part by part; the tail by its name
+    -- the fields, one by one; the tail by its name
     module _ {vs : List ℕ} (v : Head (formOf kind .head) 1 s vs) (t : Tail) (is : formOf kind .tail ≡ t) where
       pub fields-are : record { kind = kind; numbers = vs; set = setIn t rest; parameters = parametersIn t rest; text = textIn t rest } ≡ fields
       unfolding fieldsAs
@@ -124,9 +124,9 @@ module _ (kind : ℕ) (s : List ℕ) where
             text = textIn (sym is i) rest;
           }
 
-    -- by a part that reaches to the end
-    module _ {vs : List ℕ} (v : Head (formOf kind .head) 1 s vs) {p : Part} (e : RestFrom head s p) where
-      pub text-fields : formOf kind .tail ≡ text → withText kind vs [] (partOf s p) ≡ message fields
+    -- by a span that reaches to the end
+    module _ {vs : List ℕ} (v : Head (formOf kind .head) 1 s vs) {p : Span} (e : RestFrom head s p) where
+      pub text-fields : formOf kind .tail ≡ text → withText kind vs [] (spanOf s p) ≡ message fields
       unfolding behindHead setIn parametersIn textIn
       text-fields is = ap (withText kind vs []) (e .same) ∙ ap message (fields-are v text is)
 

@@ -5,15 +5,15 @@ ghost use Rattle.message.specs.Found.{Finds, asHeld, foundNumber};
 
 mod fixed;
 mod listed;
-mod parts;
+mod spans;
 mod start_read;
 mod texts;
 
-pub use crate::parts::bytes_of;
+pub use crate::spans::span_of;
 pub use crate::start_read::start_read_test;
 
-// A part of the lent slice.
-pub struct Part {
+// A span of the lent slice: where it starts, and how long it is.
+pub struct Span {
     pub start: u16,
     pub len: u16,
 }
@@ -23,8 +23,8 @@ pub struct InitiateFields {
     pub eco: u8,
     pub modification: u8,
     // eight bytes
-    pub revision: Part,
-    pub parameters: Part,
+    pub revision: Span,
+    pub parameters: Span,
 }
 
 pub struct StartReadFields {
@@ -46,8 +46,8 @@ pub struct StartReadFields {
     pub end_of_prompt: u16,
     pub start_of_display: u16,
     pub low_water: u16,
-    pub set: Part,
-    pub text: Part,
+    pub set: Span,
+    pub text: Span,
 }
 
 pub struct ReadDataFields {
@@ -57,7 +57,7 @@ pub struct ReadDataFields {
     pub vertical: u8,
     pub horizontal: u8,
     pub terminator: u16,
-    pub text: Part,
+    pub text: Span,
 }
 
 pub struct WriteFields {
@@ -72,7 +72,7 @@ pub struct WriteFields {
     pub transparent: u8,
     pub prefix_value: u8,
     pub postfix_value: u8,
-    pub text: Part,
+    pub text: Span,
 }
 
 pub enum Message {
@@ -97,10 +97,10 @@ pub enum Message {
         kept: u8,
     },
     ReadCharacteristics {
-        parameters: Part,
+        parameters: Span,
     },
     Characteristics {
-        parameters: Part,
+        parameters: Span,
     },
     CheckInput,
     InputCount {
@@ -112,7 +112,7 @@ pub enum Message {
     // a message of another type, which can be held and is never written
     Other {
         kind: u8,
-        body: Part,
+        body: Span,
     },
 }
 
@@ -122,7 +122,7 @@ pub enum Found {
     Refused(u8),
 }
 
-// Reads a message without a line: 2, 3 or 5 in that order, else its fields, with parts that lie in the slice.
+// Reads a message without a line: 2, 3 or 5 in that order, else its fields, with spans that lie in the slice.
 pub fn read(s: &[u8]) -> Found
     ensures { λ r. ⌜ Finds (now (s .entry)) (asHeld (codec.read (now (s .entry)))) r ⌝ }
 {

@@ -6,8 +6,8 @@ ghost use Rattle.message.specs.Found.{IsType, FieldsIn, Finds, readAs};
 use crate::Found;
 use crate::InitiateFields;
 use crate::Message;
-use crate::Part;
-use crate::parts::rest_from;
+use crate::Span;
+use crate::spans::rest_from;
 use fields::byte_at;
 use parameters::whole_list;
 
@@ -23,7 +23,7 @@ fn initiate_fields(s: &[u8]) -> InitiateFields
         version,
         eco,
         modification,
-        revision: Part { start: 5, len: 8 },
+        revision: Span { start: 5, len: 8 },
         parameters,
     }
 }

@@ -5,18 +5,18 @@ ghost use mathlib.Core.List.{List};
 ghost use lib.ListN.{length};
 ghost use Rattle.rules.specs.Numbers.{inputSize};
 ghost use Rattle.rules.specs.StartRead.{soundStartRead};
-ghost use Rattle.message.specs.Found.{IsType, FlagsAre, StartReadIs, partOf, startReadIn, Finds, readAs};
+ghost use Rattle.message.specs.Found.{IsType, FlagsAre, StartReadIs, spanOf, startReadIn, Finds, readAs};
 use crate::Found;
 use crate::Message;
-use crate::Part;
+use crate::Span;
 use crate::StartReadFields;
-use crate::parts::rest_from;
+use crate::spans::rest_from;
 use fields::byte_at;
 use fields::three_at;
 use fields::word_at;
 
-// The flags beside the parts; the numbers are still 0.
-fn start_read_flags(s: &[u8], set: Part, text: Part) -> StartReadFields
+// The flags beside the spans; the numbers are still 0.
+fn start_read_flags(s: &[u8], set: Span, text: Span) -> StartReadFields
     ensures { λ r. ⌜ FlagsAre (now (s .entry)) set text r ⌝ }
 {
     let flags = three_at(s, 1);
@@ -60,7 +60,7 @@ fn start_read_fields(s: &[u8]) -> StartReadFields
     ensures { λ r. ⌜ StartReadIs (now (s .entry)) r ⌝ }
 {
     let count = byte_at(s, 16) as u16;
-    let set = Part {
+    let set = Span {
         start: 17,
         len: count,
     };
@@ -83,7 +83,7 @@ fn less(a: u16, b: u16) -> u16
 }
 
 pub fn start_read_test(f: StartReadFields) -> bool
-    ensures { λ r. ⌜ ((s : List ℕ) → length (partOf s (f .text)) ≡ f .text .len → r ≡ soundStartRead inputSize (startReadIn s f)) ⌝ }
+    ensures { λ r. ⌜ ((s : List ℕ) → length (spanOf s (f .text)) ≡ f .text .len → r ≡ soundStartRead inputSize (startReadIn s f)) ⌝ }
 {
     let text = f.text;
     let largest = f.max_length as usize;

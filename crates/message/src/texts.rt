@@ -5,7 +5,7 @@ use crate::Found;
 use crate::Message;
 use crate::ReadDataFields;
 use crate::WriteFields;
-use crate::parts::rest_from;
+use crate::spans::rest_from;
 use fields::byte_at;
 use fields::word_at;
 

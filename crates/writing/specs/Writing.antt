@@ -12,17 +12,17 @@ use Rattle.rules.specs.Messages.Codec.{Outcome, refused, sound, message, read, 
 use Rattle.message.specs.declared.Message.{Message}
 use Rattle.message.specs.Found.{heldIn}
 use Rattle.writing.specs.declared.Written.{Written}
-use Rattle.writing.specs.Parts.{partsOf, sizeOf, inside}
+use Rattle.writing.specs.Spans.{spansOf, sizeOf, inside}
 
 -- the number of the first refusal, or 0: by the area, the length, the type and one more test
 unfoldable pub firstRefusal : ℕ → ℕ → ℕ → Bool → ℕ
 firstRefusal area size kind passes = firstOf (λ n. n) accepted (writeRefusals area size kind passes)
 
--- The refusals, by the parts' own lengths and by whether they lie in the slice; else as the definition has it.
+-- The refusals, by the spans' own lengths and by whether they lie in the slice; else as the definition has it.
 unfoldable pub writing : ℕ → List ℕ → Message → Outcome (List ℕ)
 writing area s m =
     firstOf refused (written area (heldIn s m))
-    (writeRefusals area (sizeOf (partsOf m)) (partsOf m .kind) (inside (length s) (partsOf m)))
+    (writeRefusals area (sizeOf (spansOf m)) (spansOf m .kind) (inside (length s) (spansOf m)))
 
 -- what was read, written again
 unfoldable pub again : ℕ → Outcome (forms.Message ℕ) → Outcome (List ℕ)

@@ -4,13 +4,13 @@ ghost use mathlib.Core.List.{[]};
 ghost use Rattle.rules.specs.Messages.Layout.{widthsOf, fits};
 ghost use Rattle.rules.specs.Messages.Forms.{formOf};
 ghost use Rattle.message.specs.declared.Message.the-variants as variants;
-ghost use Rattle.message.specs.Found.{partOf, startReadIn};
+ghost use Rattle.message.specs.Found.{spanOf, startReadIn};
 ghost use Rattle.parameters.specs.Lists.{soundFrom};
 ghost use Rattle.writing.specs.Fits.{Fits, FitsIn};
 use message::InitiateFields;
 use message::Message;
-use message::Part;
 use message::ReadDataFields;
+use message::Span;
 use message::StartReadFields;
 use message::WriteFields;
 
@@ -63,10 +63,10 @@ fn fits_start_read(f: StartReadFields) -> bool
     flags & (set.len <= 32) & sound
 }
 
-fn fits_list(kind: u8, p: Part, s: &[u8]) -> bool
-    ensures { λ r. ⌜ r ≡ soundFrom kind 0 (partOf (now (s .entry)) p) ⌝ }
+fn fits_list(kind: u8, p: Span, s: &[u8]) -> bool
+    ensures { λ r. ⌜ r ≡ soundFrom kind 0 (spanOf (now (s .entry)) p) ⌝ }
 {
-    let t = message::bytes_of(s, p);
+    let t = message::span_of(s, p);
     parameters::whole_list(kind, t, 0)
 }
 

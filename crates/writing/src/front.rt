@@ -6,9 +6,9 @@ ghost use Rattle.writing.specs.Writing.{Answers, firstRefusal, writing, 
 use crate::Written;
 use crate::fits::fits_message;
 use crate::lists::put_list;
-use crate::parts::inside;
-use crate::parts::parts_of;
-use crate::parts::size_of;
+use crate::spans::inside;
+use crate::spans::size_of;
+use crate::spans::spans_of;
 use fronts::put_message;
 use message::Found;
 use message::Message;
@@ -38,11 +38,11 @@ fn first_refusal(room: usize, size: u32, kind: u8, fits: bool) -> u8
     0
 }
 
-// The length is judged by the parts' own lengths, before a part that lies outside the slice is refused.
+// The length is judged by the spans' own lengths, before a span that lies outside the slice is refused.
 pub fn write(m: Message, s: &[u8], area: &mut [u8]) -> Written
     ensures { λ r. ⌜ Answers (writing (length (now (area .entry))) (now (s .entry)) m) (now (area .entry)) r (now (area .exit)) ⌝ }
 {
-    let p = parts_of(m);
+    let p = spans_of(m);
     let kind = p.kind;
     let list = p.list;
     let size = size_of(p);

@@ -2,8 +2,8 @@
 mod fits;
 mod front;
 mod lists;
-mod parts;
 mod send;
+mod spans;
 
 pub use crate::front::copy;
 pub use crate::front::write;

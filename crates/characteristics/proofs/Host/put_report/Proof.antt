@@ -11,7 +11,7 @@ use Rattle.rules.proofs.Sizes.{area-word}
 use Rattle.rules.proofs.Tests.{pick-true, pick-false}
 use Rattle.message.specs.Found.{heldIn}
 use Rattle.fronts.specs.Front.{frontBytes, frontTail}
-use Rattle.writing.specs.Parts.{partsOf}
+use Rattle.writing.specs.Spans.{spansOf}
 use Rattle.areas.proofs.Putting.{nothing, equals, joins}
 use Rattle.characteristics.specs.View.{hostOf}
 use Rattle.characteristics.specs.Lists.{answersFrom, reportBytes}
@@ -55,7 +55,7 @@ same-length : tie.Need-same-length
 same-length c = c .before .before .put-answers .ensures .same ∙ c .before .before .before .before .before .before .put-framed .ensures .front .same
 
 returns-2 : tie.Need-returns-2
-unfolding reportBytes partsOf heldIn frontBytes frontTail formOf forms writeGroups numberOf fieldsIn
+unfolding reportBytes spansOf heldIn frontBytes frontTail formOf forms writeGroups numberOf fieldsIn
 returns-2 c =
     let p2 = c .before .before in
     let p1 = p2 .before .before .before .before in

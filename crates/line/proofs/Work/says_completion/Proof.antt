@@ -10,7 +10,7 @@ use Rattle.rules.specs.Screen.{change}
 use Rattle.rules.specs.Turns.{sends}
 use Rattle.rules.specs.Host.{completion}
 use Rattle.message.specs.Found.{heldIn}
-use Rattle.writing.specs.Parts.{partsOf, inside}
+use Rattle.writing.specs.Spans.{spansOf, inside}
 use Rattle.line.proofs.Works.{here-does, still-does, only-does, not-does}
 use Rattle.line.proofs.Work.says_completion.Statement.{statement}
 use Rattle.line.proofs.Work.says_completion.Tie as tie
@@ -43,7 +43,7 @@ same-length : tie.Need-same-length
 same-length c = search needs
 
 returns : tie.Need-returns
-unfolding completion heldIn partsOf inside
+unfolding completion heldIn spansOf inside
 returns c =
     let start = c .before .before .before .before .before .before .before .before .before .before .before .before .before .before .before in
     let now = start .args .self .flow .terminal in

@@ -9,8 +9,8 @@ use Rattle.line.proofs.Obeys.{some-text, writes-out-does}
 use Rattle.line.proofs.Work.writes_out.Statement.{statement}
 use Rattle.line.proofs.Work.writes_out.Tie as tie
 
-bytes-of-requires : tie.Need-bytes-of-requires
-bytes-of-requires c κs = search needs
+span-of-requires : tie.Need-span-of-requires
+span-of-requires c κs = search needs
 
 keeps-output-requires : tie.Need-keeps-output-requires
 keeps-output-requires c κs = search needs
@@ -29,7 +29,7 @@ same-length-2 c = search needs
 
 returns : tie.Need-returns
 returns c =
-    let text = c .before .before .before .before .before .before .before .before .before .bytes-of .ensures in
+    let text = c .before .before .before .before .before .before .before .before .before .span-of .ensures in
     let start = c .before .before .before .before .before .before .before .before .before .before .before .before .before .before .before .before in
     let said = c .before .before .says-completion .ensures in (
       said .0,
@@ -43,7 +43,7 @@ pub writes-out-spec : {M : Type 1} → statement M
 writes-out-spec =
     tie.close
     (tie.spec
-    bytes-of-requires
+    span-of-requires
     keeps-output-requires
     writes-kept-requires
     says-completion-requires

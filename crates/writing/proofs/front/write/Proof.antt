@@ -1,16 +1,16 @@
 use mathlib.Core.Path.{sym, ap, _∙_}
 use native.Mathlib.Omega.{arith}
-use Rattle.message.specs.Found.{partOf}
+use Rattle.message.specs.Found.{spanOf}
 use Rattle.parameters.specs.Lists.{soundFrom}
-use Rattle.writing.specs.Parts.{listBytes}
+use Rattle.writing.specs.Spans.{listBytes}
 use Rattle.areas.proofs.Putting.{equals, joins}
 use Rattle.writing.proofs.Fitting.{bytes-all}
 use Rattle.writing.proofs.Writes.{refusal, put-in-front, list-whole, whole-bytes, write-refused, write-sound, write-fits, write-room}
 use Rattle.writing.proofs.front.write.Statement.{statement}
 use Rattle.writing.proofs.front.write.Tie as tie
 
-parts-of-requires : tie.Need-parts-of-requires
-parts-of-requires c κs = tt
+spans-of-requires : tie.Need-spans-of-requires
+spans-of-requires c κs = tt
 
 size-of-requires : tie.Need-size-of-requires
 size-of-requires c κs = tt
@@ -28,7 +28,7 @@ returns : tie.Need-returns
 returns c =
     let b = c .before .before .before .before in
     refusal
-    (write-refused _ _ _ (b .before .before .parts-of .ensures) (b .size-of .ensures) (c .before .before .before .inside .ensures)
+    (write-refused _ _ _ (b .before .before .spans-of .ensures) (b .size-of .ensures) (c .before .before .before .inside .ensures)
     (c .before .before .fits-message .ensures) (c .before .first-refusal .ensures) (c .if1 .taken))
 
 put-message-requires : tie.Need-put-message-requires
@@ -38,7 +38,7 @@ put-list-requires : tie.Need-put-list-requires
 put-list-requires c κs =
     let t = c .before .before .before .before .before in
     let b = t .before .before .before .before in
-    let is = b .before .before .parts-of .ensures in
+    let is = b .before .before .spans-of .ensures in
     let known = b .before .before .before .before in
     let a = known .before .args in
     let s = a .s .now in
@@ -47,7 +47,7 @@ put-list-requires c κs =
     write-fits _ s (a .m) is (b .size-of .ensures) (t .before .before .before .inside .ensures) (t .before .before .fits-message .ensures)
     (t .before .first-refusal .ensures) (t .if1 .left)
     in
-    λ k. ap (λ q. soundFrom 11 0 (partOf s (q .list))) is ∙ list-whole s bytes (a .m) fits (ap (λ q. q .kind) (sym is) ∙ k)
+    λ k. ap (λ q. soundFrom 11 0 (spanOf s (q .list))) is ∙ list-whole s bytes (a .m) fits (ap (λ q. q .kind) (sym is) ∙ k)
 
 same-length : tie.Need-same-length
 same-length c = c .before .before .put-list .ensures .same ∙ c .before .before .before .before .before .before .put-message .ensures .same
@@ -57,7 +57,7 @@ returns-2 c =
     let w = c .before .before .before .before .before .before in
     let t = w .before .before in
     let b = t .before .before .before .before in
-    let is = b .before .before .parts-of .ensures in
+    let is = b .before .before .spans-of .ensures in
     let known = b .before .before .before .before in
     let a = known .before .args in
     let s = a .s .now in
@@ -67,7 +67,7 @@ returns-2 c =
     let fit = t .before .before .fits-message .ensures in
     let number = t .before .first-refusal .ensures in
     let none = t .if1 .left in
-    let list = equals (ap (λ q. listBytes (q .kind) (partOf s (q .list))) is) (c .before .before .put-list .ensures) in
+    let list = equals (ap (λ q. listBytes (q .kind) (spanOf s (q .list))) is) (c .before .before .put-list .ensures) in
     put-in-front (write-sound _ s (a .m) is size lies fit number none) (write-room _ s (a .m) is size lies fit number none)
     (equals (whole-bytes s bytes (a .m) (write-fits _ s (a .m) is size lies fit number none)) (joins (w .put-message .ensures) list))
 
@@ -75,7 +75,7 @@ pub write-spec : {M : Type 1} → statement M
 write-spec =
     tie.close
     (tie.spec
-    parts-of-requires
+    spans-of-requires
     size-of-requires
     inside-requires
     fits-message-requires

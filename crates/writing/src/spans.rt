@@ -1,26 +1,26 @@
-// The type and the parts of a message, by which its length is known and whether it lies in a slice.
+// The type and the spans of a message, by which its length is known and whether it lies in a slice.
 ghost use mathlib.Core.Path.{_≡_};
 ghost use Rattle.message.specs.Found.{lies};
-ghost use Rattle.writing.specs.Parts.{partsOf, sizeOf, inside, bare, withText, withList, initiateParts, startReadParts};
+ghost use Rattle.writing.specs.Spans.{spansOf, sizeOf, inside, bare, withText, withList, initiateSpans, startReadSpans};
 use message::Message;
-use message::Part;
+use message::Span;
 
-// `head` is how many bytes stand in front of the list, or of the text; a set has its count among them. A part that a message
+// `head` is how many bytes stand in front of the list, or of the text; a set has its count among them. A span that a message
 // does not have is empty.
-pub(crate) struct Parts {
+pub(crate) struct Spans {
     pub kind: u8,
     pub head: u16,
-    pub list: Part,
-    pub set: Part,
-    pub text: Part,
-    pub revision: Part,
+    pub list: Span,
+    pub set: Span,
+    pub text: Span,
+    pub revision: Span,
 }
 
-fn with_text(kind: u8, head: u16, text: Part) -> Parts
+fn with_text(kind: u8, head: u16, text: Span) -> Spans
     ensures { λ r. ⌜ r ≡ withText kind head text ⌝ }
 {
-    let none = Part { start: 0, len: 0 };
-    Parts {
+    let none = Span { start: 0, len: 0 };
+    Spans {
         kind,
         head,
         list: none,
@@ -30,18 +30,18 @@ fn with_text(kind: u8, head: u16, text: Part) -> Parts
     }
 }
 
-fn bare(kind: u8, head: u16) -> Parts
+fn bare(kind: u8, head: u16) -> Spans
     ensures { λ r. ⌜ r ≡ bare kind head ⌝ }
 {
-    let none = Part { start: 0, len: 0 };
+    let none = Span { start: 0, len: 0 };
     with_text(kind, head, none)
 }
 
-fn with_list(kind: u8, head: u16, list: Part) -> Parts
+fn with_list(kind: u8, head: u16, list: Span) -> Spans
     ensures { λ r. ⌜ r ≡ withList kind head list ⌝ }
 {
-    let none = Part { start: 0, len: 0 };
-    Parts {
+    let none = Span { start: 0, len: 0 };
+    Spans {
         kind,
         head,
         list,
@@ -51,11 +51,11 @@ fn with_list(kind: u8, head: u16, list: Part) -> Parts
     }
 }
 
-fn initiate_parts(list: Part, revision: Part) -> Parts
-    ensures { λ r. ⌜ r ≡ initiateParts list revision ⌝ }
+fn initiate_spans(list: Span, revision: Span) -> Spans
+    ensures { λ r. ⌜ r ≡ initiateSpans list revision ⌝ }
 {
-    let none = Part { start: 0, len: 0 };
-    Parts {
+    let none = Span { start: 0, len: 0 };
+    Spans {
         kind: 1,
         head: 13,
         list,
@@ -65,11 +65,11 @@ fn initiate_parts(list: Part, revision: Part) -> Parts
     }
 }
 
-fn start_read_parts(set: Part, text: Part) -> Parts
-    ensures { λ r. ⌜ r ≡ startReadParts set text ⌝ }
+fn start_read_spans(set: Span, text: Span) -> Spans
+    ensures { λ r. ⌜ r ≡ startReadSpans set text ⌝ }
 {
-    let none = Part { start: 0, len: 0 };
-    Parts {
+    let none = Span { start: 0, len: 0 };
+    Spans {
         kind: 2,
         head: 17,
         list: none,
@@ -79,12 +79,12 @@ fn start_read_parts(set: Part, text: Part) -> Parts
     }
 }
 
-pub(crate) fn parts_of(m: Message) -> Parts
-    ensures { λ r. ⌜ r ≡ partsOf m ⌝ }
+pub(crate) fn spans_of(m: Message) -> Spans
+    ensures { λ r. ⌜ r ≡ spansOf m ⌝ }
 {
     match m {
-        Message::Initiate(f) => initiate_parts(f.parameters, f.revision),
-        Message::StartRead(f) => start_read_parts(f.set, f.text),
+        Message::Initiate(f) => initiate_spans(f.parameters, f.revision),
+        Message::StartRead(f) => start_read_spans(f.set, f.text),
         Message::ReadData(f) => with_text(3, 8, f.text),
         Message::OutOfBand {
             discard: _,
@@ -108,8 +108,8 @@ pub(crate) fn parts_of(m: Message) -> Parts
     }
 }
 
-// How long the message is, by the lengths of its parts.
-pub(crate) fn size_of(p: Parts) -> u32
+// How long the message is, by the lengths of its spans.
+pub(crate) fn size_of(p: Spans) -> u32
     ensures { λ r. ⌜ r ≡ sizeOf p ⌝ }
 {
     let list = p.list;
@@ -118,14 +118,14 @@ pub(crate) fn size_of(p: Parts) -> u32
     p.head as u32 + list.len as u32 + set.len as u32 + text.len as u32
 }
 
-// A part lies in a slice of this length.
-fn lies(p: Part, size: usize) -> bool
+// A span lies in a slice of this length.
+fn lies(p: Span, size: usize) -> bool
     ensures { λ r. ⌜ r ≡ lies size p ⌝ }
 {
     p.start as usize + p.len as usize <= size
 }
 
-pub(crate) fn inside(p: Parts, size: usize) -> bool
+pub(crate) fn inside(p: Spans, size: usize) -> bool
     ensures { λ r. ⌜ r ≡ inside size p ⌝ }
 {
     let list = p.list;

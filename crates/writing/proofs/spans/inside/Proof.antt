@@ -1,7 +1,7 @@
 use mathlib.Core.Bool.{_&&_}
-use Rattle.writing.specs.Parts.{inside}
-use Rattle.writing.proofs.parts.inside.Statement.{statement}
-use Rattle.writing.proofs.parts.inside.Tie as tie
+use Rattle.writing.specs.Spans.{inside}
+use Rattle.writing.proofs.spans.inside.Statement.{statement}
+use Rattle.writing.proofs.spans.inside.Tie as tie
 
 lies-requires : tie.Need-lies-requires
 lies-requires c κs = tt

@@ -4,10 +4,10 @@ use native.Mathlib.Nat.{add-sub-cancel-left}
 use native.Mathlib.Omega.{arith}
 use borrow.Author.Needs.{needs}
 use lib.ListN.{length, take, drop}
-use Rattle.message.specs.Found.{partOf}
+use Rattle.message.specs.Found.{spanOf}
 use Rattle.fields.proofs.Pieces.{none-behind, all-behind}
-use Rattle.message.proofs.parts.bytes_of.Statement.{statement}
-use Rattle.message.proofs.parts.bytes_of.Tie as tie
+use Rattle.message.proofs.spans.span_of.Statement.{statement}
+use Rattle.message.proofs.spans.span_of.Tie as tie
 
 cast-start : tie.Need-cast-start
 cast-start c = search needs
@@ -22,7 +22,7 @@ slice-aggregate-result : tie.Need-slice-aggregate-result
 slice-aggregate-result c = search needs
 
 returns : tie.Need-returns
-unfolding partOf
+unfolding spanOf
 returns c =
     let a = c .before .before .before .before .args in
     sym (none-behind (a .s .now) (a .p .start) (a .p .len) (c .before .if1 .taken))
@@ -37,7 +37,7 @@ part-result-end : tie.Need-part-result-end
 part-result-end c = search needs
 
 returns-2 : tie.Need-returns-2
-unfolding partOf
+unfolding spanOf
 returns-2 c =
     let a = c .before .before .before .before .before .args in
     let s = a .s .now in
@@ -54,13 +54,13 @@ part-result-end-2 : tie.Need-part-result-end-2
 part-result-end-2 c = search needs
 
 returns-3 : tie.Need-returns-3
-unfolding partOf
+unfolding spanOf
 returns-3 c =
     let a = c .before .before .before .before .before .args in
     ap (λ n. take n (drop (a .p .start) (a .s .now))) (add-sub-cancel-left (a .p .start) (a .p .len))
 
-pub bytes-of-spec : {M : Type 1} → statement M
-bytes-of-spec =
+pub span-of-spec : {M : Type 1} → statement M
+span-of-spec =
     tie.close
     (tie.spec
     cast-start

@@ -1,20 +1,20 @@
 use mathlib.Core.Path.{sym, ap, _∙_}
-use Rattle.writing.specs.Parts.{partsOf}
+use Rattle.writing.specs.Spans.{spansOf}
 use borrow.Author.Needs.{needs}
-use Rattle.writing.proofs.parts.parts_of.Statement.{statement}
-use Rattle.writing.proofs.parts.parts_of.Tie as tie
+use Rattle.writing.proofs.spans.spans_of.Statement.{statement}
+use Rattle.writing.proofs.spans.spans_of.Tie as tie
 
 enum-known-m : tie.Need-enum-known-m
 enum-known-m c = search needs
 
-initiate-parts-requires : tie.Need-initiate-parts-requires
-initiate-parts-requires c κs = search needs
+initiate-spans-requires : tie.Need-initiate-spans-requires
+initiate-spans-requires c κs = search needs
 
 enum-known-m-2 : tie.Need-enum-known-m-2
 enum-known-m-2 c = search needs
 
-start-read-parts-requires : tie.Need-start-read-parts-requires
-start-read-parts-requires c κs = search needs
+start-read-spans-requires : tie.Need-start-read-spans-requires
+start-read-spans-requires c κs = search needs
 
 enum-known-m-3 : tie.Need-enum-known-m-3
 enum-known-m-3 c = search needs
@@ -95,73 +95,73 @@ with-text-requires-3 : tie.Need-with-text-requires-3
 with-text-requires-3 c κs = search needs
 
 returns : tie.Need-returns
-unfolding partsOf
-returns c = c .initiate-parts .ensures ∙ sym (ap partsOf (c .before .before .m .given .1))
+unfolding spansOf
+returns c = c .initiate-spans .ensures ∙ sym (ap spansOf (c .before .before .m .given .1))
 
 returns-2 : tie.Need-returns-2
-unfolding partsOf
-returns-2 c = c .start-read-parts .ensures ∙ sym (ap partsOf (c .before .before .m2 .given .1))
+unfolding spansOf
+returns-2 c = c .start-read-spans .ensures ∙ sym (ap spansOf (c .before .before .m2 .given .1))
 
 returns-3 : tie.Need-returns-3
-unfolding partsOf
-returns-3 c = c .with-text .ensures ∙ sym (ap partsOf (c .before .before .m3 .given .1))
+unfolding spansOf
+returns-3 c = c .with-text .ensures ∙ sym (ap spansOf (c .before .before .m3 .given .1))
 
 returns-4 : tie.Need-returns-4
-unfolding partsOf
-returns-4 c = c .bare .ensures ∙ sym (ap partsOf (c .before .enum-told .given .1))
+unfolding spansOf
+returns-4 c = c .bare .ensures ∙ sym (ap spansOf (c .before .enum-told .given .1))
 
 returns-5 : tie.Need-returns-5
-unfolding partsOf
-returns-5 c = c .bare2 .ensures ∙ sym (ap partsOf (c .before .enum-told2 .given .1))
+unfolding spansOf
+returns-5 c = c .bare2 .ensures ∙ sym (ap spansOf (c .before .enum-told2 .given .1))
 
 returns-6 : tie.Need-returns-6
-unfolding partsOf
-returns-6 c = c .bare3 .ensures ∙ sym (ap partsOf (c .before .enum-told3 .given .1))
+unfolding spansOf
+returns-6 c = c .bare3 .ensures ∙ sym (ap spansOf (c .before .enum-told3 .given .1))
 
 returns-7 : tie.Need-returns-7
-unfolding partsOf
-returns-7 c = c .with-text2 .ensures ∙ sym (ap partsOf (c .before .before .m4 .given .1))
+unfolding spansOf
+returns-7 c = c .with-text2 .ensures ∙ sym (ap spansOf (c .before .before .m4 .given .1))
 
 returns-8 : tie.Need-returns-8
-unfolding partsOf
-returns-8 c = c .bare4 .ensures ∙ sym (ap partsOf (c .before .enum-told4 .given .1))
+unfolding spansOf
+returns-8 c = c .bare4 .ensures ∙ sym (ap spansOf (c .before .enum-told4 .given .1))
 
 returns-9 : tie.Need-returns-9
-unfolding partsOf
-returns-9 c = c .bare5 .ensures ∙ sym (ap partsOf (c .before .enum-told5 .given .1))
+unfolding spansOf
+returns-9 c = c .bare5 .ensures ∙ sym (ap spansOf (c .before .enum-told5 .given .1))
 
 returns-10 : tie.Need-returns-10
-unfolding partsOf
-returns-10 c = c .with-list .ensures ∙ sym (ap partsOf (c .before .before .m5 .given .1))
+unfolding spansOf
+returns-10 c = c .with-list .ensures ∙ sym (ap spansOf (c .before .before .m5 .given .1))
 
 returns-11 : tie.Need-returns-11
-unfolding partsOf
-returns-11 c = c .with-list2 .ensures ∙ sym (ap partsOf (c .before .before .m6 .given .1))
+unfolding spansOf
+returns-11 c = c .with-list2 .ensures ∙ sym (ap spansOf (c .before .before .m6 .given .1))
 
 returns-12 : tie.Need-returns-12
-unfolding partsOf
-returns-12 c = c .bare6 .ensures ∙ sym (ap partsOf (c .before .enum-told6 .given .1))
+unfolding spansOf
+returns-12 c = c .bare6 .ensures ∙ sym (ap spansOf (c .before .enum-told6 .given .1))
 
 returns-13 : tie.Need-returns-13
-unfolding partsOf
-returns-13 c = c .bare7 .ensures ∙ sym (ap partsOf (c .before .enum-told7 .given .1))
+unfolding spansOf
+returns-13 c = c .bare7 .ensures ∙ sym (ap spansOf (c .before .enum-told7 .given .1))
 
 returns-14 : tie.Need-returns-14
-unfolding partsOf
-returns-14 c = c .bare8 .ensures ∙ sym (ap partsOf (c .before .enum-told8 .given .1))
+unfolding spansOf
+returns-14 c = c .bare8 .ensures ∙ sym (ap spansOf (c .before .enum-told8 .given .1))
 
 returns-15 : tie.Need-returns-15
-unfolding partsOf
-returns-15 c = c .with-text3 .ensures ∙ sym (ap partsOf (c .before .before .m7 .given .1))
+unfolding spansOf
+returns-15 c = c .with-text3 .ensures ∙ sym (ap spansOf (c .before .before .m7 .given .1))
 
-pub parts-of-spec : {M : Type 1} → statement M
-parts-of-spec =
+pub spans-of-spec : {M : Type 1} → statement M
+spans-of-spec =
     tie.close
     (tie.spec
     enum-known-m
-    initiate-parts-requires
+    initiate-spans-requires
     enum-known-m-2
-    start-read-parts-requires
+    start-read-spans-requires
     enum-known-m-3
     with-text-requires
     enum-told

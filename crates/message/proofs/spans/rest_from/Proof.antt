@@ -4,10 +4,10 @@ use native.Mathlib.Omega.{arith}
 use lib.ListN.{length}
 use borrow.Author.Needs.{needs}
 use Rattle.rules.proofs.Sizes.{message-word}
-use Rattle.message.specs.Found.{partOf}
+use Rattle.message.specs.Found.{spanOf}
 use Rattle.fields.proofs.Pieces.{all-behind}
-use Rattle.message.proofs.parts.rest_from.Statement.{statement}
-use Rattle.message.proofs.parts.rest_from.Tie as tie
+use Rattle.message.proofs.spans.rest_from.Statement.{statement}
+use Rattle.message.proofs.spans.rest_from.Tie as tie
 
 cast-size : tie.Need-cast-size
 cast-size c = omega (arith, message-word)
@@ -16,13 +16,13 @@ sub-t6 : tie.Need-sub-t6
 sub-t6 c = search needs
 
 returns : tie.Need-returns
-unfolding partOf
+unfolding spanOf
 returns c =
     let a = c .before .args in
     record { same = all-behind (a .s .now) (a .at) (length (a .s .now) - a .at) (omega arith); long = refl; inside = λ h. omega arith }
 
 returns-2 : tie.Need-returns-2
-unfolding partOf
+unfolding spanOf
 returns-2 c =
     let a = c .before .args in
     record { same = all-behind (a .s .now) (a .at) 0 (omega arith); long = omega arith; inside = λ h. omega arith }
