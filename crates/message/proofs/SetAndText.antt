@@ -18,7 +18,7 @@ use Rattle.message.specs.declared.StartReadFields.{StartReadFields}
 use Rattle.message.specs.Found.{RestFrom, FlagsAre, StartReadIs, spanOf, flagWidths, startReadIn, heldIn, placesOf, lies}
 use Rattle.fields.proofs.Numbers.{byte-behind}
 use Rattle.message.proofs.Heads.{Head, flags-first}
-use Rattle.message.proofs.Reading.{fields-are}
+use Rattle.message.proofs.Decoding.{fields-are}
 
 -- the flags and spans of one, with these numbers
 abbrev pub withNumbers : ℕ → ℕ → ℕ → ℕ → ℕ → ℕ → StartReadFields → StartReadFields

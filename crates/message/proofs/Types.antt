@@ -13,7 +13,7 @@ use Rattle.rules.specs.Messages.Layout.{byteAt}
 use Rattle.rules.specs.Messages.Forms.{formOf}
 use Rattle.rules.specs.Messages.Codec.{sound, refused, definedKind, soundAs, fieldsAs, soundLength, readRefusals, read}
 use Rattle.rules.proofs.Tests.{pick-true, pick-false, halves}
-use Rattle.message.specs.Found.{IsType, asHeld, readAs}
+use Rattle.message.specs.Found.{IsType, asHeld, decodedAs}
 
 -- none of the numbers from 1 up to a last one, as a `match` leaves it
 abbrev pub NoneOf : ℕ → ℕ → Type 0
@@ -61,8 +61,8 @@ module _ (s : List ℕ) {most : ℕ} (longest : messageSize ≡ most) where
           let within = leb-true (length s) most (halves (leb 1 (length s)) (leb (length s) most) e .1) in
           record { typed = sym k ∙ t; short = omega arith }
 
-      pub as-type : leb 1 n && leb n 14 ≡ true → readAs n s ≡ asHeld (read s)
-      unfolding read readRefusals firstOf readAs definedKind within
+      pub as-type : leb 1 n && leb n 14 ≡ true → decodedAs n s ≡ asHeld (read s)
+      unfolding read readRefusals firstOf decodedAs definedKind within
       as-type d =
           let same = sym k ∙ t in
           ap asHeld

@@ -149,8 +149,8 @@ foundNumber (found.Message m) = accepted
 foundNumber (found.Refused n) = n
 
 -- reading as one type
-unfoldable pub readAs : ℕ → List ℕ → Outcome Held
-readAs kind s =
+unfoldable pub decodedAs : ℕ → List ℕ → Outcome Held
+decodedAs kind s =
     asHeld (pick (not (soundAs (formOf kind) s)) (codec.refused unsound) (codec.sound (fieldsAs (formOf kind) s)))
 
 -- what a reader of one type is handed: a message of that type that is not too long

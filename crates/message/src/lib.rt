@@ -1,4 +1,4 @@
-// The fourteen messages of the Network Command Terminal protocol: their fields, and reading them from bytes.
+// The fourteen messages of the Network Command Terminal protocol: their fields, and decoding them.
 ghost use mathlib.Core.Path.{_≡_};
 ghost use Rattle.rules.specs.Messages.Codec as codec;
 ghost use Rattle.message.specs.Found.{Finds, asHeld, foundNumber};
@@ -116,14 +116,14 @@ pub enum Message {
     },
 }
 
-// What reading finds: a message, or the number of a refusal.
+// What decoding finds: a message, or the number of a refusal.
 pub enum Found {
     Message(Message),
     Refused(u8),
 }
 
-// Reads a message without a line: 2, 3 or 5 in that order, else its fields, with spans that lie in the slice.
-pub fn read(s: &[u8]) -> Found
+// Decodes a message without a line: 2, 3 or 5 in that order, else its fields, with spans that lie in the slice.
+pub fn decode(s: &[u8]) -> Found
     ensures { λ r. ⌜ Finds (now (s .entry)) (asHeld (codec.read (now (s .entry)))) r ⌝ }
 {
     let size = s.len();
@@ -133,20 +133,20 @@ pub fn read(s: &[u8]) -> Found
     }
     let kind = fields::byte_at(s, 0);
     match kind {
-        1 => listed::read_initiate(s),
-        2 => start_read::read_start_read(s),
-        3 => texts::read_read_data(s),
-        4 => fixed::read_out_of_band(s),
-        5 => fixed::read_unread(s),
-        6 => fixed::read_clear_input(s),
-        7 => texts::read_write(s),
-        8 => fixed::read_write_completion(s),
-        9 => fixed::read_discard_state(s),
-        10 => listed::read_read_characteristics(s),
-        11 => listed::read_characteristics(s),
-        12 => fixed::read_check_input(s),
-        13 => fixed::read_input_count(s),
-        14 => fixed::read_input_state(s),
+        1 => listed::decode_initiate(s),
+        2 => start_read::decode_start_read(s),
+        3 => texts::decode_read_data(s),
+        4 => fixed::decode_out_of_band(s),
+        5 => fixed::decode_unread(s),
+        6 => fixed::decode_clear_input(s),
+        7 => texts::decode_write(s),
+        8 => fixed::decode_write_completion(s),
+        9 => fixed::decode_discard_state(s),
+        10 => listed::decode_read_characteristics(s),
+        11 => listed::decode_characteristics(s),
+        12 => fixed::decode_check_input(s),
+        13 => fixed::decode_input_count(s),
+        14 => fixed::decode_input_state(s),
         _ => Found::Refused(3),
     }
 }

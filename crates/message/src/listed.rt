@@ -2,7 +2,7 @@
 ghost use Prim.Native.Nat.{_≤_};
 ghost use lib.ListN.{length};
 ghost use Rattle.message.specs.declared.Message.the-variants as variants;
-ghost use Rattle.message.specs.Found.{IsType, FieldsIn, Finds, readAs};
+ghost use Rattle.message.specs.Found.{IsType, FieldsIn, Finds, decodedAs};
 use crate::Found;
 use crate::InitiateFields;
 use crate::Message;
@@ -28,9 +28,9 @@ fn initiate_fields(s: &[u8]) -> InitiateFields
     }
 }
 
-pub(crate) fn read_initiate(s: &[u8]) -> Found
+pub(crate) fn decode_initiate(s: &[u8]) -> Found
     requires { ⌜ IsType 1 (now s) ⌝ }
-    ensures { λ r. ⌜ Finds (now (s .entry)) (readAs 1 (now (s .entry))) r ⌝ }
+    ensures { λ r. ⌜ Finds (now (s .entry)) (decodedAs 1 (now (s .entry))) r ⌝ }
 {
     if s.len() < 13 {
         return Found::Refused(5);
@@ -42,9 +42,9 @@ pub(crate) fn read_initiate(s: &[u8]) -> Found
     Found::Message(Message::Initiate(f))
 }
 
-pub(crate) fn read_read_characteristics(s: &[u8]) -> Found
+pub(crate) fn decode_read_characteristics(s: &[u8]) -> Found
     requires { ⌜ IsType 10 (now s) ⌝ }
-    ensures { λ r. ⌜ Finds (now (s .entry)) (readAs 10 (now (s .entry))) r ⌝ }
+    ensures { λ r. ⌜ Finds (now (s .entry)) (decodedAs 10 (now (s .entry))) r ⌝ }
 {
     if s.len() < 2 {
         return Found::Refused(5);
@@ -56,9 +56,9 @@ pub(crate) fn read_read_characteristics(s: &[u8]) -> Found
     Found::Message(Message::ReadCharacteristics { parameters })
 }
 
-pub(crate) fn read_characteristics(s: &[u8]) -> Found
+pub(crate) fn decode_characteristics(s: &[u8]) -> Found
     requires { ⌜ IsType 11 (now s) ⌝ }
-    ensures { λ r. ⌜ Finds (now (s .entry)) (readAs 11 (now (s .entry))) r ⌝ }
+    ensures { λ r. ⌜ Finds (now (s .entry)) (decodedAs 11 (now (s .entry))) r ⌝ }
 {
     if s.len() < 2 {
         return Found::Refused(5);

@@ -5,7 +5,7 @@ ghost use mathlib.Core.List.{List};
 ghost use lib.ListN.{length};
 ghost use Rattle.rules.specs.Numbers.{inputSize};
 ghost use Rattle.rules.specs.StartRead.{soundStartRead};
-ghost use Rattle.message.specs.Found.{IsType, FlagsAre, StartReadIs, spanOf, startReadIn, Finds, readAs};
+ghost use Rattle.message.specs.Found.{IsType, FlagsAre, StartReadIs, spanOf, startReadIn, Finds, decodedAs};
 use crate::Found;
 use crate::Message;
 use crate::Span;
@@ -101,9 +101,9 @@ pub fn start_read_test(f: StartReadFields) -> bool
         & (text.len == shown)
 }
 
-pub(crate) fn read_start_read(s: &[u8]) -> Found
+pub(crate) fn decode_start_read(s: &[u8]) -> Found
     requires { ⌜ IsType 2 (now s) ⌝ }
-    ensures { λ r. ⌜ Finds (now (s .entry)) (readAs 2 (now (s .entry))) r ⌝ }
+    ensures { λ r. ⌜ Finds (now (s .entry)) (decodedAs 2 (now (s .entry))) r ⌝ }
 {
     if s.len() < 16 {
         return Found::Refused(5);

@@ -1,6 +1,6 @@
 // Messages that end in DATA.
 ghost use Rattle.message.specs.declared.Message.the-variants as variants;
-ghost use Rattle.message.specs.Found.{IsType, FieldsIn, Finds, readAs};
+ghost use Rattle.message.specs.Found.{IsType, FieldsIn, Finds, decodedAs};
 use crate::Found;
 use crate::Message;
 use crate::ReadDataFields;
@@ -31,9 +31,9 @@ fn read_data_fields(s: &[u8]) -> ReadDataFields
     }
 }
 
-pub(crate) fn read_read_data(s: &[u8]) -> Found
+pub(crate) fn decode_read_data(s: &[u8]) -> Found
     requires { ⌜ IsType 3 (now s) ⌝ }
-    ensures { λ r. ⌜ Finds (now (s .entry)) (readAs 3 (now (s .entry))) r ⌝ }
+    ensures { λ r. ⌜ Finds (now (s .entry)) (decodedAs 3 (now (s .entry))) r ⌝ }
 {
     if s.len() < 8 {
         return Found::Refused(5);
@@ -77,9 +77,9 @@ fn write_fields(s: &[u8]) -> WriteFields
     }
 }
 
-pub(crate) fn read_write(s: &[u8]) -> Found
+pub(crate) fn decode_write(s: &[u8]) -> Found
     requires { ⌜ IsType 7 (now s) ⌝ }
-    ensures { λ r. ⌜ Finds (now (s .entry)) (readAs 7 (now (s .entry))) r ⌝ }
+    ensures { λ r. ⌜ Finds (now (s .entry)) (decodedAs 7 (now (s .entry))) r ⌝ }
 {
     if s.len() < 5 {
         return Found::Refused(5);

@@ -303,23 +303,23 @@ module _ (area : ℕ) (s : List ℕ) (m : Message) {p : Spans} (is : p ≡ spans
           writing-inside area s m l ∙ written-rows area held (sym (inside-length s m l)) (sym (kind-held s m))
       by-places false l = outside-rows area s m (sound (bytesOf held)) l
 
-  pub write-refused : (n ≡ 0 → ⊥) → writing area s m ≡ refused n
-  write-refused z =
+  pub encode-refused : (n ≡ 0 → ⊥) → writing area s m ≡ refused n
+  encode-refused z =
       as-rows ∙ rows-refused area (sizeOf (spansOf m)) (spansOf m .kind) (lying && fitsHeld held) own z (sound (bytesOf held))
 
   module _ (z : n ≡ 0) where
     passed : (lying ≡ true) × (fitsHeld held ≡ true)
     passed = halves lying (fitsHeld held) (tests area (sizeOf (spansOf m)) (spansOf m .kind) (lying && fitsHeld held) own z .3)
 
-    pub write-sound : writing area s m ≡ sound (bytesOf held)
-    write-sound =
+    pub encode-sound : writing area s m ≡ sound (bytesOf held)
+    encode-sound =
         as-rows ∙ rows-passed area (sizeOf (spansOf m)) (spansOf m .kind) (lying && fitsHeld held) own z (sound (bytesOf held))
 
-    pub write-fits : fitsHeld held ≡ true
-    write-fits = passed .1
+    pub encode-fits : fitsHeld held ≡ true
+    encode-fits = passed .1
 
-    pub write-room : length (bytesOf held) ≤ area
-    write-room =
+    pub encode-room : length (bytesOf held) ≤ area
+    encode-room =
         let long = inside-length s m (passed .0) in
         let room = rows-room area (sizeOf (spansOf m)) (spansOf m .kind) (lying && fitsHeld held) own z in
         omega arith

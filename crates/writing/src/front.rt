@@ -39,7 +39,7 @@ fn first_refusal(room: usize, size: u32, kind: u8, fits: bool) -> u8
 }
 
 // The length is judged by the spans' own lengths, before a span that lies outside the slice is refused.
-pub fn write(m: Message, s: &[u8], area: &mut [u8]) -> Written
+pub fn encode(m: Message, s: &[u8], area: &mut [u8]) -> Written
     ensures { λ r. ⌜ Answers (writing (length (now (area .entry))) (now (s .entry)) m) (now (area .entry)) r (now (area .exit)) ⌝ }
 {
     let p = spans_of(m);
@@ -60,14 +60,14 @@ pub fn write(m: Message, s: &[u8], area: &mut [u8]) -> Written
     Written { number: 0, len }
 }
 
-// Reads a message and writes it again.
+// Decodes a message and encodes it again.
 pub fn copy(s: &[u8], area: &mut [u8]) -> Written
     ensures { λ r. ⌜ Answers (copied (length (now (area .entry))) (now (s .entry))) (now (area .entry)) r (now (area .exit)) ⌝ }
 {
-    let f = message::read(s);
+    let f = message::decode(s);
     let Found::Message(m) = f else {
         let number = message::number_of(f);
         return Written { number, len: 0 };
     };
-    write(m, s, area)
+    encode(m, s, area)
 }

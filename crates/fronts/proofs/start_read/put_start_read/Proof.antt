@@ -48,7 +48,7 @@ same-length c =
     let p3 = p4 .before .before .before .before in
     let p2 = p3 .before .before .before .before in
     let p1 = p2 .before .before .before .before in
-    p6 .put-part2 .ensures .same ∙ p5 .put-span .ensures .same ∙ p4 .put-byte2 .ensures .same ∙ p3 .put-words .ensures .same ∙ p2 .put-number .ensures .same ∙ p1 .put-byte .ensures .same
+    p6 .put-span2 .ensures .same ∙ p5 .put-span .ensures .same ∙ p4 .put-byte2 .ensures .same ∙ p3 .put-words .ensures .same ∙ p2 .put-number .ensures .same ∙ p1 .put-byte .ensures .same
 
 returns : tie.Need-returns
 unfolding frontBytes heldIn formOf forms frontTail fieldsIn numberOf startReadIn
@@ -69,7 +69,7 @@ returns c =
     (flags-first 3 flagWidths (w .result) (w .ensures)
     (field-first 2 16 (a .f .«max_length») (field-first 2 16 (a .f .«end_of_data») (field-first 2 16 (a .f .timeout)
     (field-first 2 16 (a .f .«end_of_prompt») (field-first 2 16 (a .f .«start_of_display») (field-first 2 16 (a .f .«low_water») no-more)))))))
-    (joins (p1 .put-byte .ensures) (joins (p2 .put-number .ensures) (joins (p3 .put-words .ensures) (joins (p4 .put-byte2 .ensures) (joins (p5 .put-span .ensures) (p6 .put-part2 .ensures)))))))
+    (joins (p1 .put-byte .ensures) (joins (p2 .put-number .ensures) (joins (p3 .put-words .ensures) (joins (p4 .put-byte2 .ensures) (joins (p5 .put-span .ensures) (p6 .put-span2 .ensures)))))))
 
 pub put-start-read-spec : {M : Type 1} → statement M
 put-start-read-spec =

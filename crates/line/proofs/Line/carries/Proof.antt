@@ -84,8 +84,8 @@ returns-4 c =
     let a = c .before .before .before .before .before .before .before .args in
     carried-as (a .s .now) (view (a .self)) (c .before .before .before .before .m4 .given .1) (settingsIn (spanOf (a .s .now) _)) (held-settings _ _)
     (c .carries-settings .ensures
-    ∙ ap (λ h. carriesSettings (host.hostOf h) (settingsIn (c .before .bytes-of2 .result .now))) (c .before .before .characteristics2 .ensures)
-    ∙ ap (λ bs. carriesSettings (hostOf (a .self)) (settingsIn bs)) (c .before .bytes-of2 .ensures))
+    ∙ ap (λ h. carriesSettings (host.hostOf h) (settingsIn (c .before .span-of2 .result .now))) (c .before .before .characteristics2 .ensures)
+    ∙ ap (λ bs. carriesSettings (hostOf (a .self)) (settingsIn bs)) (c .before .span-of2 .ensures))
 
 returns-5 : tie.Need-returns-5
 returns-5 c = let a = c .before .before .args in other-carried (a .s .now) (view (a .self)) (a .m) (c .match .keys5)

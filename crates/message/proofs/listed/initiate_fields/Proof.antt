@@ -9,7 +9,7 @@ use Rattle.rules.specs.Messages.Forms.{forms, formOf}
 use Rattle.rules.proofs.Tests.{both}
 use Rattle.message.specs.Found.{spanOf, heldIn, placesOf}
 use Rattle.message.proofs.Heads.{none-first, byte-first, bytes-run}
-use Rattle.message.proofs.Reading.{rest-lies, list-fields}
+use Rattle.message.proofs.Decoding.{rest-lies, list-fields}
 use Rattle.message.proofs.listed.initiate_fields.Statement.{statement}
 use Rattle.message.proofs.listed.initiate_fields.Tie as tie
 
