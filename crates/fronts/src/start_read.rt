@@ -60,7 +60,7 @@ pub(crate) fn put_start_read(f: StartReadFields, s: &[u8], area: &mut [u8], at: 
     let flags = start_read_flags(f);
     let bytes = message::span_of(s, set);
     let count = (bytes.len() % 256) as u8;
-    let next = put_byte(2, area, at);
+    let next = put_byte(rules::START_READ, area, at);
     let next = put_number(3, flags, area, next);
     let next = put_words(f, area, next);
     let next = put_byte(count, area, next);

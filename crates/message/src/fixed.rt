@@ -10,7 +10,7 @@ pub(crate) fn decode_out_of_band(s: &[u8]) -> Found
     ensures { λ r. ⌜ Finds (now (s .entry)) (decodedAs 4 (now (s .entry))) r ⌝ }
 {
     if s.len() != 3 {
-        return Found::Refused(5);
+        return Found::Refused(rules::UNSOUND);
     }
     let flags = byte_at(s, 1);
     let character = byte_at(s, 2);
@@ -25,7 +25,7 @@ pub(crate) fn decode_unread(s: &[u8]) -> Found
     ensures { λ r. ⌜ Finds (now (s .entry)) (decodedAs 5 (now (s .entry))) r ⌝ }
 {
     if s.len() != 2 {
-        return Found::Refused(5);
+        return Found::Refused(rules::UNSOUND);
     }
     let flags = byte_at(s, 1);
     Found::Message(Message::Unread {
@@ -38,7 +38,7 @@ pub(crate) fn decode_clear_input(s: &[u8]) -> Found
     ensures { λ r. ⌜ Finds (now (s .entry)) (decodedAs 6 (now (s .entry))) r ⌝ }
 {
     if s.len() != 2 {
-        return Found::Refused(5);
+        return Found::Refused(rules::UNSOUND);
     }
     Found::Message(Message::ClearInput)
 }
@@ -48,7 +48,7 @@ pub(crate) fn decode_write_completion(s: &[u8]) -> Found
     ensures { λ r. ⌜ Finds (now (s .entry)) (decodedAs 8 (now (s .entry))) r ⌝ }
 {
     if s.len() != 6 {
-        return Found::Refused(5);
+        return Found::Refused(rules::UNSOUND);
     }
     let flags = byte_at(s, 1);
     let horizontal = word_at(s, 2);
@@ -65,7 +65,7 @@ pub(crate) fn decode_discard_state(s: &[u8]) -> Found
     ensures { λ r. ⌜ Finds (now (s .entry)) (decodedAs 9 (now (s .entry))) r ⌝ }
 {
     if s.len() != 2 {
-        return Found::Refused(5);
+        return Found::Refused(rules::UNSOUND);
     }
     let flags = byte_at(s, 1);
     Found::Message(Message::DiscardState { kept: flags % 2 })
@@ -76,7 +76,7 @@ pub(crate) fn decode_check_input(s: &[u8]) -> Found
     ensures { λ r. ⌜ Finds (now (s .entry)) (decodedAs 12 (now (s .entry))) r ⌝ }
 {
     if s.len() != 2 {
-        return Found::Refused(5);
+        return Found::Refused(rules::UNSOUND);
     }
     Found::Message(Message::CheckInput)
 }
@@ -86,7 +86,7 @@ pub(crate) fn decode_input_count(s: &[u8]) -> Found
     ensures { λ r. ⌜ Finds (now (s .entry)) (decodedAs 13 (now (s .entry))) r ⌝ }
 {
     if s.len() != 4 {
-        return Found::Refused(5);
+        return Found::Refused(rules::UNSOUND);
     }
     let count = word_at(s, 2);
     Found::Message(Message::InputCount { count })
@@ -97,7 +97,7 @@ pub(crate) fn decode_input_state(s: &[u8]) -> Found
     ensures { λ r. ⌜ Finds (now (s .entry)) (decodedAs 14 (now (s .entry))) r ⌝ }
 {
     if s.len() != 2 {
-        return Found::Refused(5);
+        return Found::Refused(rules::UNSOUND);
     }
     let flags = byte_at(s, 1);
     Found::Message(Message::InputState { nonzero: flags % 2 })

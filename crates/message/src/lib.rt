@@ -129,25 +129,25 @@ pub fn decode(s: &[u8]) -> Found
     let size = s.len();
     let fits = (1 <= size) & (size <= rules::MESSAGE);
     if !fits {
-        return Found::Refused(2);
+        return Found::Refused(rules::WRONG_LENGTH);
     }
     let kind = fields::byte_at(s, 0);
     match kind {
-        1 => listed::decode_initiate(s),
-        2 => start_read::decode_start_read(s),
-        3 => texts::decode_read_data(s),
-        4 => fixed::decode_out_of_band(s),
-        5 => fixed::decode_unread(s),
-        6 => fixed::decode_clear_input(s),
-        7 => texts::decode_write(s),
-        8 => fixed::decode_write_completion(s),
-        9 => fixed::decode_discard_state(s),
-        10 => listed::decode_read_characteristics(s),
-        11 => listed::decode_characteristics(s),
-        12 => fixed::decode_check_input(s),
-        13 => fixed::decode_input_count(s),
-        14 => fixed::decode_input_state(s),
-        _ => Found::Refused(3),
+        rules::INITIATE => listed::decode_initiate(s),
+        rules::START_READ => start_read::decode_start_read(s),
+        rules::READ_DATA => texts::decode_read_data(s),
+        rules::OUT_OF_BAND => fixed::decode_out_of_band(s),
+        rules::UNREAD => fixed::decode_unread(s),
+        rules::CLEAR_INPUT => fixed::decode_clear_input(s),
+        rules::WRITE => texts::decode_write(s),
+        rules::WRITE_COMPLETION => fixed::decode_write_completion(s),
+        rules::DISCARD_STATE => fixed::decode_discard_state(s),
+        rules::READ_CHARACTERISTICS => listed::decode_read_characteristics(s),
+        rules::CHARACTERISTICS => listed::decode_characteristics(s),
+        rules::CHECK_INPUT => fixed::decode_check_input(s),
+        rules::INPUT_COUNT => fixed::decode_input_count(s),
+        rules::INPUT_STATE => fixed::decode_input_state(s),
+        _ => Found::Refused(rules::WRONG_TYPE),
     }
 }
 
@@ -156,7 +156,7 @@ pub fn number_of(f: Found) -> u8
     ensures { λ r. ⌜ r ≡ foundNumber f ⌝ }
 {
     match f {
-        Found::Message(_) => 0,
+        Found::Message(_) => rules::ACCEPTED,
         Found::Refused(number) => number,
     }
 }

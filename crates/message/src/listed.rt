@@ -33,10 +33,10 @@ pub(crate) fn decode_initiate(s: &[u8]) -> Found
     ensures { λ r. ⌜ Finds (now (s .entry)) (decodedAs 1 (now (s .entry))) r ⌝ }
 {
     if s.len() < 13 {
-        return Found::Refused(5);
+        return Found::Refused(rules::UNSOUND);
     }
-    if !whole_list(1, s, 13) {
-        return Found::Refused(5);
+    if !whole_list(rules::INITIATE, s, 13) {
+        return Found::Refused(rules::UNSOUND);
     }
     let f = initiate_fields(s);
     Found::Message(Message::Initiate(f))
@@ -47,10 +47,10 @@ pub(crate) fn decode_read_characteristics(s: &[u8]) -> Found
     ensures { λ r. ⌜ Finds (now (s .entry)) (decodedAs 10 (now (s .entry))) r ⌝ }
 {
     if s.len() < 2 {
-        return Found::Refused(5);
+        return Found::Refused(rules::UNSOUND);
     }
-    if !whole_list(10, s, 2) {
-        return Found::Refused(5);
+    if !whole_list(rules::READ_CHARACTERISTICS, s, 2) {
+        return Found::Refused(rules::UNSOUND);
     }
     let parameters = rest_from(s, 2);
     Found::Message(Message::ReadCharacteristics { parameters })
@@ -61,10 +61,10 @@ pub(crate) fn decode_characteristics(s: &[u8]) -> Found
     ensures { λ r. ⌜ Finds (now (s .entry)) (decodedAs 11 (now (s .entry))) r ⌝ }
 {
     if s.len() < 2 {
-        return Found::Refused(5);
+        return Found::Refused(rules::UNSOUND);
     }
-    if !whole_list(11, s, 2) {
-        return Found::Refused(5);
+    if !whole_list(rules::CHARACTERISTICS, s, 2) {
+        return Found::Refused(rules::UNSOUND);
     }
     let parameters = rest_from(s, 2);
     Found::Message(Message::Characteristics { parameters })

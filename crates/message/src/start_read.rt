@@ -106,17 +106,17 @@ pub(crate) fn decode_start_read(s: &[u8]) -> Found
     ensures { λ r. ⌜ Finds (now (s .entry)) (decodedAs 2 (now (s .entry))) r ⌝ }
 {
     if s.len() < 16 {
-        return Found::Refused(5);
+        return Found::Refused(rules::UNSOUND);
     }
     let behind = s.len() - 16;
     let count = byte_at(s, 16) as usize;
     let whole = (count < behind) & (count <= 32);
     if !whole {
-        return Found::Refused(5);
+        return Found::Refused(rules::UNSOUND);
     }
     let f = start_read_fields(s);
     if start_read_test(f) {
         return Found::Message(Message::StartRead(f));
     }
-    Found::Refused(5)
+    Found::Refused(rules::UNSOUND)
 }

@@ -36,11 +36,11 @@ pub(crate) fn decode_read_data(s: &[u8]) -> Found
     ensures { λ r. ⌜ Finds (now (s .entry)) (decodedAs 3 (now (s .entry))) r ⌝ }
 {
     if s.len() < 8 {
-        return Found::Refused(5);
+        return Found::Refused(rules::UNSOUND);
     }
     let f = read_data_fields(s);
     if 13 < f.code {
-        return Found::Refused(5);
+        return Found::Refused(rules::UNSOUND);
     }
     Found::Message(Message::ReadData(f))
 }
@@ -82,11 +82,11 @@ pub(crate) fn decode_write(s: &[u8]) -> Found
     ensures { λ r. ⌜ Finds (now (s .entry)) (decodedAs 7 (now (s .entry))) r ⌝ }
 {
     if s.len() < 5 {
-        return Found::Refused(5);
+        return Found::Refused(rules::UNSOUND);
     }
     let f = write_fields(s);
     if (f.prefix <= 2) & (f.postfix <= 2) {
         return Found::Message(Message::Write(f));
     }
-    Found::Refused(5)
+    Found::Refused(rules::UNSOUND)
 }

@@ -75,7 +75,7 @@ fn fits_initiate(f: InitiateFields, s: &[u8]) -> bool
 {
     let revision = f.revision;
     let parameters = f.parameters;
-    let whole = fits_list(1, parameters, s);
+    let whole = fits_list(rules::INITIATE, parameters, s);
     (revision.len == 8) & whole
 }
 
@@ -96,8 +96,12 @@ pub(crate) fn fits_message(m: Message, s: &[u8]) -> bool
             vertical,
         } => lost < 2,
         Message::DiscardState { kept } => kept < 2,
-        Message::ReadCharacteristics { parameters } => fits_list(10, parameters, s),
-        Message::Characteristics { parameters } => fits_list(11, parameters, s),
+        Message::ReadCharacteristics { parameters } => fits_list(
+            rules::READ_CHARACTERISTICS,
+            parameters,
+            s,
+        ),
+        Message::Characteristics { parameters } => fits_list(rules::CHARACTERISTICS, parameters, s),
         Message::CheckInput => true,
         Message::InputCount { count } => true,
         Message::InputState { nonzero } => nonzero < 2,

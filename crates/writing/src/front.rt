@@ -16,7 +16,7 @@ use message::Message;
 fn is_known(kind: u8) -> bool
     ensures { λ r. ⌜ r ≡ definedKind kind ⌝ }
 {
-    (1 <= kind) & (kind <= 14)
+    (rules::INITIATE <= kind) & (kind <= rules::INPUT_STATE)
 }
 
 // The number of the first refusal, or 0; `fits` is the last test.
@@ -24,18 +24,18 @@ fn first_refusal(room: usize, size: u32, kind: u8, fits: bool) -> u8
     ensures { λ r. ⌜ r ≡ firstRefusal room size kind fits ⌝ }
 {
     if room < rules::MESSAGE_AREA {
-        return 1;
+        return rules::SMALL_AREA;
     }
     if rules::MESSAGE < size as usize {
-        return 2;
+        return rules::WRONG_LENGTH;
     }
     if !is_known(kind) {
-        return 3;
+        return rules::WRONG_TYPE;
     }
     if !fits {
-        return 5;
+        return rules::UNSOUND;
     }
-    0
+    rules::ACCEPTED
 }
 
 // The length is judged by the spans' own lengths, before a span that lies outside the slice is refused.
@@ -49,7 +49,7 @@ pub fn encode(m: Message, s: &[u8], area: &mut [u8]) -> Written
     let lies = inside(p, s.len());
     let fits = fits_message(m, s);
     let refused = first_refusal(area.len(), size, kind, lies & fits);
-    if refused != 0 {
+    if refused != rules::ACCEPTED {
         return Written {
             number: refused,
             len: 0,
@@ -57,7 +57,10 @@ pub fn encode(m: Message, s: &[u8], area: &mut [u8]) -> Written
     }
     let next = put_message(m, s, area, 0);
     let len = put_list(kind, list, s, area, next);
-    Written { number: 0, len }
+    Written {
+        number: rules::ACCEPTED,
+        len,
+    }
 }
 
 // Decodes a message and encodes it again.

@@ -18,7 +18,7 @@ fn put_settings(t: &[u8], area: &mut [u8], at: usize) -> usize
     let mut next = at;
     let mut i = 0;
     while i < t.len() {
-        let p = parameters::parameter_at(11, t, i);
+        let p = parameters::parameter_at(rules::CHARACTERISTICS, t, i);
         let count = p.next - i - 2;
         next = put_setting(p.selector, p.first, p.second, p.third, count, area, next);
         i = p.next;
@@ -32,7 +32,7 @@ pub(crate) fn put_list(kind: u8, list: Span, s: &[u8], area: &mut [u8], at: usiz
     ensures { λ r. ⌜ Puts (listBytes kind (spanOf (now (s .entry)) list)) (now (area .entry)) at r (now (area .exit)) ⌝ }
 {
     let t = message::span_of(s, list);
-    if kind == 11 {
+    if kind == rules::CHARACTERISTICS {
         return put_settings(t, area, at);
     }
     put_bytes(t, area, at)

@@ -56,7 +56,7 @@ fn initiate_spans(list: Span, revision: Span) -> Spans
 {
     let none = Span { start: 0, len: 0 };
     Spans {
-        kind: 1,
+        kind: rules::INITIATE,
         head: 13,
         list,
         set: none,
@@ -70,7 +70,7 @@ fn start_read_spans(set: Span, text: Span) -> Spans
 {
     let none = Span { start: 0, len: 0 };
     Spans {
-        kind: 2,
+        kind: rules::START_READ,
         head: 17,
         list: none,
         set,
@@ -85,25 +85,29 @@ pub(crate) fn spans_of(m: Message) -> Spans
     match m {
         Message::Initiate(f) => initiate_spans(f.parameters, f.revision),
         Message::StartRead(f) => start_read_spans(f.set, f.text),
-        Message::ReadData(f) => with_text(3, 8, f.text),
+        Message::ReadData(f) => with_text(rules::READ_DATA, 8, f.text),
         Message::OutOfBand {
             discard: _,
             character: _,
-        } => bare(4, 3),
-        Message::Unread { condition: _ } => bare(5, 2),
-        Message::ClearInput => bare(6, 2),
-        Message::Write(f) => with_text(7, 5, f.text),
+        } => bare(rules::OUT_OF_BAND, 3),
+        Message::Unread { condition: _ } => bare(rules::UNREAD, 2),
+        Message::ClearInput => bare(rules::CLEAR_INPUT, 2),
+        Message::Write(f) => with_text(rules::WRITE, 5, f.text),
         Message::WriteCompletion {
             lost: _,
             horizontal: _,
             vertical: _,
-        } => bare(8, 6),
-        Message::DiscardState { kept: _ } => bare(9, 2),
-        Message::ReadCharacteristics { parameters } => with_list(10, 2, parameters),
-        Message::Characteristics { parameters } => with_list(11, 2, parameters),
-        Message::CheckInput => bare(12, 2),
-        Message::InputCount { count: _ } => bare(13, 4),
-        Message::InputState { nonzero: _ } => bare(14, 2),
+        } => bare(rules::WRITE_COMPLETION, 6),
+        Message::DiscardState { kept: _ } => bare(rules::DISCARD_STATE, 2),
+        Message::ReadCharacteristics { parameters } => with_list(
+            rules::READ_CHARACTERISTICS,
+            2,
+            parameters,
+        ),
+        Message::Characteristics { parameters } => with_list(rules::CHARACTERISTICS, 2, parameters),
+        Message::CheckInput => bare(rules::CHECK_INPUT, 2),
+        Message::InputCount { count: _ } => bare(rules::INPUT_COUNT, 4),
+        Message::InputState { nonzero: _ } => bare(rules::INPUT_STATE, 2),
         Message::Other { kind, body } => with_text(kind, 1, body),
     }
 }
