@@ -9,7 +9,7 @@ use Rattle.fields.proofs.Pieces.{all-behind}
 use Rattle.line.specs.View.{promptOf}
 use Rattle.line.specs.With.{lent}
 use Rattle.line.specs.ReadingParts.{displaysData}
-use Rattle.line.proofs.Sizes.{input-size}
+use Rattle.line.proofs.Sizes.{inputNumeral, input-size}
 use Rattle.line.proofs.Works.{then-does}
 use Rattle.line.proofs.Joints.{same-writes}
 use Rattle.line.proofs.Work.displays.Statement.{statement}
@@ -49,7 +49,7 @@ returns c =
     let start = c .before .before .before .before .before .before .before .before .before .before .before .before in
     let a = start .args in
     let text = a .text .now in
-    let from = 132 - a .t .«prompt_len» in
+    let from = inputNumeral - a .t .«prompt_len» in
     let all : length text ≤ from + (length text - from) = omega arith in
     let place : from ≡ inputSize - a .t .«prompt_len» = omega (arith, input-size) in
     let prompt = all-behind text from (length text - from) all ∙ ap (λ n. drop n text) place in
