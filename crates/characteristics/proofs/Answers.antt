@@ -24,7 +24,6 @@ use Rattle.parameters.proofs.Shapes.{parameters-end}
 use Rattle.parameters.specs.Lists.{settingBytes}
 use Rattle.writing.proofs.Settings.{selector-bytes}
 use Rattle.characteristics.specs.Lists.{questionsIn, answersFrom, answerTo}
-use Rattle.characteristics.proofs.Sizes.{message-area}
 use Rattle.characteristics.proofs.Walks.{allCarried}
 
 -- One question.
@@ -97,12 +96,12 @@ module _ (s : List ℕ) (h : Host) where
       ap (λ k. (bytesOf 2 k ++ (11 ∷ 0 ∷ [])) ++ answersFrom 0 s h) long ∙ ap framed (sym sent)
 
 -- the size, as far as the area goes
-fits-area : {r : ℕ} (n : ℕ) → r ≡ min (messageArea + 1) n → leb r 256 ≡ leb n messageArea
-fits-area {r} n e = by-test (leb n messageArea) refl
+fits-area : {r most : ℕ} (n : ℕ) → messageArea ≡ most → r ≡ min (messageArea + 1) n → leb r most ≡ leb n messageArea
+fits-area {r} {most} n area e = by-test (leb n messageArea) refl
   where
-    by-test : (t : Bool) → leb n messageArea ≡ t → leb r 256 ≡ t
-    by-test true k = le-leb r 256 (omega (arith, leb-true n messageArea k, message-area))
-    by-test false k = lt-leb r 256 (omega (arith, leb-false n messageArea k, message-area))
+    by-test : (t : Bool) → leb n messageArea ≡ t → leb r most ≡ t
+    by-test true k = le-leb r most (omega (arith, leb-true n messageArea k))
+    by-test false k = lt-leb r most (omega (arith, leb-false n messageArea k))
 
 -- Carried: a question that is not, and otherwise the size; whatever else the line holds.
 module _ (s : List ℕ) (h : Host) (line : State ℕ) where
@@ -117,15 +116,14 @@ module _ (s : List ℕ) (h : Host) (line : State ℕ) where
   not-carried e f = sym (carried-by ∙ rw (sym e ∙ f))
 
   pub carried-size : {t : Bool} → t ≡ allCarried (parametersFrom 10 0 s) → t ≡ true →
-      {r : ℕ} → r ≡ min (messageArea + 1) (length (answerTo s h)) → leb r 256 ≡ carried
-  carried-size e f size = fits-area (length (answerTo s h)) size ∙ sym (carried-by ∙ rw (sym e ∙ f))
+      {r most : ℕ} → messageArea ≡ most → r ≡ min (messageArea + 1) (length (answerTo s h)) → leb r most ≡ carried
+  carried-size e f area size = fits-area (length (answerTo s h)) area size ∙ sym (carried-by ∙ rw (sym e ∙ f))
 
   -- an answer that is carried has its own size
   pub own-size : carried ≡ true → {r : ℕ} → r ≡ min (messageArea + 1) (length (answerTo s h)) →
-      (r ≡ 4 + length (answersFrom 0 s h)) × (r ≤ 256)
+      (r ≡ 4 + length (answersFrom 0 s h)) × (r ≤ messageArea)
   own-size e size =
       let t = halves (allCarried (parametersFrom 10 0 s)) (leb (length (answerTo s h)) messageArea) (sym carried-by ∙ e) in
       let room = leb-true (length (answerTo s h)) messageArea (t .1) in
       let n = answer-length s h in
-      let area = message-area in
       (omega arith, omega arith)

@@ -9,19 +9,19 @@ use Rattle.rules.specs.Messages.Codec.{message}
 use Rattle.rules.specs.State.{Host, State, withHost}
 use Rattle.rules.specs.Calls.{carriesQuestions}
 use Rattle.rules.proofs.Tests.{pick-true}
-use Rattle.message.specs.declared.Part.{Part}
+use Rattle.message.specs.declared.Span.{Span}
 use Rattle.message.specs.declared.Message.the-variants.{ReadCharacteristics, Characteristics}
-use Rattle.message.specs.Found.{heldIn, partOf, listMessage}
+use Rattle.message.specs.Found.{heldIn, spanOf, listMessage}
 use Rattle.parameters.proofs.Shapes.{is-question, is-setting}
 use Rattle.message.proofs.Lists.{list-from}
 use Rattle.characteristics.specs.Lists.{settingsIn, questionsIn, answerTo, reportBytes}
 
-pub held-settings : (s : List ℕ) (p : Part) → heldIn s (Characteristics p) ≡ message (settingsIn (partOf s p))
+pub held-settings : (s : List ℕ) (p : Span) → heldIn s (Characteristics p) ≡ message (settingsIn (spanOf s p))
 unfolding heldIn
 held-settings s p =
     ap (listMessage forms.characteristics []) (list-from 11 (is-setting (λ e. omega arith) (λ e. omega arith)) s p)
 
-pub held-questions : (s : List ℕ) (p : Part) → heldIn s (ReadCharacteristics p) ≡ message (questionsIn (partOf s p))
+pub held-questions : (s : List ℕ) (p : Span) → heldIn s (ReadCharacteristics p) ≡ message (questionsIn (spanOf s p))
 unfolding heldIn
 held-questions s p =
     ap (listMessage forms.readCharacteristics []) (list-from 10 (is-question (λ e. omega arith) refl) s p)

@@ -1,5 +1,4 @@
 -- Laws that the proofs of the functions apply; Held has those that a line cites.
-mod Sizes
 mod Masks
 mod Walks
 mod Obeying

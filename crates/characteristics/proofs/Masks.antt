@@ -48,7 +48,7 @@ masked-mixed (suc width) more mask old new h =
     let b : kept % 2 ≡ 1 - mask % 2 = omega arith in
     let high = mixed-half kept mask old new ∙ ap (λ n. mixed n (mask / 2) (old / 2) (new / 2)) k in
     let low = mixed-bit kept mask old new ∙ ap (λ n. max (min (old % 2) n) (min (new % 2) (mask % 2))) b ∙ lowest mask old new in
-    let parts = mod-mul (mixed kept mask old new) {m = 2 ^ width} {c = 2} (pow-pos width) (omega arith) in
+    let spans = mod-mul (mixed kept mask old new) {m = 2 ^ width} {c = 2} (pow-pos width) (omega arith) in
     let above = ap (λ n. n % 2 ^ width) high ∙ rest in
     ap (λ n. mixed kept mask old new % n) (pow-suc 2 width) ∙ omega arith
 

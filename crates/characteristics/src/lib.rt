@@ -1,7 +1,6 @@
 // What the host sets: characteristics, character attributes and termination sets.
 mod attributes;
 mod reports;
-mod selectors;
 mod sets;
 mod settings;
 

@@ -15,12 +15,12 @@ ghost use Rattle.characteristics.specs.View.{switchesOf, hostOf};
 ghost use Rattle.characteristics.specs.Lists.{questionsIn, answersFrom, answerTo, reportBytes};
 use crate::Host;
 use crate::Switches;
-use crate::selectors;
 use crate::settings::all_carried;
 use crate::settings::chosen;
 use message::Message;
-use message::Part;
+use message::Span;
 use parameters::Parameter;
+use parameters::selectors;
 
 // How many bytes the answer to one question takes.
 fn size_of_one(n: u16) -> usize
@@ -39,7 +39,7 @@ fn answer_size(list: &[u8]) -> usize
     let mut size = 4;
     let mut at = 0;
     while at < list.len() {
-        let p = parameters::parameter_at(10, list, at);
+        let p = parameters::parameter_at(rules::READ_CHARACTERISTICS, list, at);
         size += size_of_one(p.selector);
         if rules::MESSAGE_AREA < size {
             return rules::MESSAGE_AREA + 1;
@@ -69,7 +69,7 @@ impl Host {
     pub fn carries_questions(self, list: &[u8]) -> bool
         ensures { λ r. ⌜ ((s : State ℕ) → r ≡ carriesQuestions (withHost (hostOf self) s) (questionsIn (now (list .entry)))) ⌝ }
     {
-        if !all_carried(10, list) {
+        if !all_carried(rules::READ_CHARACTERISTICS, list) {
             return false;
         }
         answer_size(list) <= rules::MESSAGE_AREA
@@ -98,7 +98,7 @@ impl Host {
         let mut next = at;
         let mut i = 0;
         while i < list.len() {
-            let p = parameters::parameter_at(10, list, i);
+            let p = parameters::parameter_at(rules::READ_CHARACTERISTICS, list, i);
             next = self.put_answer(p, area, next);
             i = p.next;
         }
@@ -113,7 +113,7 @@ impl Host {
             return at;
         }
         let size = answer_size(list);
-        let parameters = Part {
+        let parameters = Span {
             start: 0,
             len: (size - 4) as u16,
         };

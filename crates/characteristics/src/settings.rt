@@ -12,8 +12,8 @@ use crate::Host;
 use crate::Switches;
 use crate::attributes::any_deferred_clear;
 use crate::attributes::with_attribute;
-use crate::selectors;
 use parameters::Parameter;
+use parameters::selectors;
 
 // One of the five.
 fn is_carried(selector: u16) -> bool
@@ -99,7 +99,7 @@ impl Host {
         let mut host = self;
         let mut at = 0;
         while at < list.len() {
-            let p = parameters::parameter_at(11, list, at);
+            let p = parameters::parameter_at(rules::CHARACTERISTICS, list, at);
             host = host.with_setting(p);
             at = p.next;
         }
@@ -110,7 +110,7 @@ impl Host {
     pub fn carries_settings(self, list: &[u8]) -> bool
         ensures { λ r. ⌜ r ≡ carriesSettings (hostOf self) (settingsIn (now (list .entry))) ⌝ }
     {
-        if !all_carried(11, list) {
+        if !all_carried(rules::CHARACTERISTICS, list) {
             return false;
         }
         let host = self.with_settings(list);

@@ -4,25 +4,25 @@ ghost use Prim.Native.Nat.{_+_, _*_};
 ghost use Rattle.rules.specs.Messages.Layout.{byte, numberOf, writeGroups};
 ghost use lib.ListN.{replicate};
 ghost use Rattle.message.specs.declared.Message.the-variants as variants;
-ghost use Rattle.message.specs.Found.{heldIn, partOf};
+ghost use Rattle.message.specs.Found.{heldIn, spanOf};
 ghost use Rattle.areas.specs.Puts.{Puts};
 ghost use Rattle.fronts.specs.Front.{frontBytes, writeWidths, writeFlags};
-use crate::put::put_part;
+use crate::put::put_span;
 use crate::start_read::low_flags;
 use areas::put_byte;
 use areas::put_number;
 use areas::put_pair;
 use areas::put_word;
 use message::InitiateFields;
-use message::Part;
 use message::ReadDataFields;
+use message::Span;
 use message::WriteFields;
 
-// Eight bytes of a part; 0 for those that it does not have.
-fn put_eight(s: &[u8], p: Part, area: &mut [u8], at: usize) -> usize
-    ensures { λ r. ⌜ Puts (writeGroups (replicate 8 byte) (partOf (now (s .entry)) p)) (now (area .entry)) at r (now (area .exit)) ⌝ }
+// Eight bytes of a span; 0 for those that it does not have.
+fn put_eight(s: &[u8], p: Span, area: &mut [u8], at: usize) -> usize
+    ensures { λ r. ⌜ Puts (writeGroups (replicate 8 byte) (spanOf (now (s .entry)) p)) (now (area .entry)) at r (now (area .exit)) ⌝ }
 {
-    let t = message::bytes_of(s, p);
+    let t = message::span_of(s, p);
     let mut next = at;
     let mut i = 0;
     while i < 8 {
@@ -36,7 +36,7 @@ pub(crate) fn put_initiate(f: InitiateFields, s: &[u8], area: &mut [u8], at: usi
     ensures { λ r. ⌜ Puts (frontBytes (heldIn (now (s .entry)) (variants.Initiate f))) (now (area .entry)) at r (now (area .exit)) ⌝ }
 {
     let revision = f.revision;
-    let next = put_pair(1, 0, area, at);
+    let next = put_pair(rules::INITIATE, 0, area, at);
     let next = put_pair(f.version, f.eco, area, next);
     let next = put_number(1, f.modification as u32, area, next);
     put_eight(s, revision, area, next)
@@ -47,12 +47,12 @@ pub(crate) fn put_read_data(f: ReadDataFields, s: &[u8], area: &mut [u8], at: us
 {
     let text = f.text;
     let flags = f.code as u32 + 16 * (f.more as u32);
-    let next = put_byte(3, area, at);
+    let next = put_byte(rules::READ_DATA, area, at);
     let next = put_number(1, flags, area, next);
     let next = put_word(f.low_water, area, next);
     let next = put_pair(f.vertical, f.horizontal, area, next);
     let next = put_word(f.terminator, area, next);
-    put_part(s, text, area, next)
+    put_span(s, text, area, next)
 }
 
 pub(crate) fn put_out_of_band(
@@ -65,7 +65,7 @@ pub(crate) fn put_out_of_band(
     ensures { λ r.
         ⌜ Puts (frontBytes (heldIn (now (s .entry)) (variants.OutOfBand discard character))) (now (area .entry)) at r (now (area .exit)) ⌝ }
 {
-    let next = put_byte(4, area, at);
+    let next = put_byte(rules::OUT_OF_BAND, area, at);
     put_pair(discard, character, area, next)
 }
 
@@ -96,10 +96,10 @@ pub(crate) fn put_write(f: WriteFields, s: &[u8], area: &mut [u8], at: usize) ->
 {
     let text = f.text;
     let flags = write_flags(f);
-    let next = put_byte(7, area, at);
+    let next = put_byte(rules::WRITE, area, at);
     let next = put_number(2, flags, area, next);
     let next = put_pair(f.prefix_value, f.postfix_value, area, next);
-    put_part(s, text, area, next)
+    put_span(s, text, area, next)
 }
 
 pub(crate) fn put_write_completion(
@@ -115,7 +115,7 @@ pub(crate) fn put_write_completion(
         (frontBytes (heldIn (now (s .entry)) (variants.WriteCompletion lost horizontal vertical)))
         (now (area .entry)) at r (now (area .exit)) ⌝ }
 {
-    let next = put_pair(8, lost, area, at);
+    let next = put_pair(rules::WRITE_COMPLETION, lost, area, at);
     let next = put_word(horizontal, area, next);
     put_word(vertical, area, next)
 }
@@ -123,6 +123,6 @@ pub(crate) fn put_write_completion(
 pub(crate) fn put_input_count(count: u16, s: &[u8], area: &mut [u8], at: usize) -> usize
     ensures { λ r. ⌜ Puts (frontBytes (heldIn (now (s .entry)) (variants.InputCount count))) (now (area .entry)) at r (now (area .exit)) ⌝ }
 {
-    let next = put_pair(13, 0, area, at);
+    let next = put_pair(rules::INPUT_COUNT, 0, area, at);
     put_word(count, area, next)
 }

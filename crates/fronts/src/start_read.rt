@@ -6,7 +6,7 @@ ghost use Rattle.message.specs.declared.Message.the-variants as variants;
 ghost use Rattle.message.specs.Found.{heldIn, flagWidths, flagsOf};
 ghost use Rattle.areas.specs.Puts.{Puts};
 ghost use Rattle.fronts.specs.Front.{frontBytes, startReadWords};
-use crate::put::put_part;
+use crate::put::put_span;
 use areas::put_byte;
 use areas::put_number;
 use areas::put_word;
@@ -58,12 +58,12 @@ pub(crate) fn put_start_read(f: StartReadFields, s: &[u8], area: &mut [u8], at: 
     let set = f.set;
     let text = f.text;
     let flags = start_read_flags(f);
-    let bytes = message::bytes_of(s, set);
+    let bytes = message::span_of(s, set);
     let count = (bytes.len() % 256) as u8;
-    let next = put_byte(2, area, at);
+    let next = put_byte(rules::START_READ, area, at);
     let next = put_number(3, flags, area, next);
     let next = put_words(f, area, next);
     let next = put_byte(count, area, next);
-    let next = put_part(s, set, area, next);
-    put_part(s, text, area, next)
+    let next = put_span(s, set, area, next);
+    put_span(s, text, area, next)
 }

@@ -14,12 +14,12 @@ use Rattle.rules.specs.Calls.{isCarriedBy, carriesQuestions}
 use Rattle.rules.proofs.Bounds.Sent.{Fit, read-sent}
 use Rattle.rules.proofs.Bounds.Received as received
 use Rattle.rules.proofs.Bounds.Calls.{received-sound}
-use Rattle.message.specs.declared.Part.{Part}
+use Rattle.message.specs.declared.Span.{Span}
 use Rattle.message.specs.declared.Message.{Message}
 use Rattle.message.specs.declared.Message.the-variants as message
 use Rattle.message.proofs.Message.{the-type}
 use Rattle.message.specs.declared.StartReadFields.{StartReadFields}
-use Rattle.message.specs.Found.{partOf, startReadIn, heldIn}
+use Rattle.message.specs.Found.{spanOf, startReadIn, heldIn}
 use Rattle.characteristics.specs.Lists.{questionsIn}
 use Rattle.characteristics.proofs.Held.{held-questions}
 use Rattle.line.specs.declared.Line.{Line}
@@ -69,10 +69,10 @@ startables l s (ReadCharacteristics p) a = tt
 startables l s (Characteristics p) a = tt
 startables l s CheckInput a = tt
 
-pub questions-known : (l : Line) (s : List ℕ) (p : Part) → Accepted l s (ReadCharacteristics p) →
-    carriesQuestions (view l) (questionsIn (partOf s p)) ≡ true
+pub questions-known : (l : Line) (s : List ℕ) (p : Span) → Accepted l s (ReadCharacteristics p) →
+    carriesQuestions (view l) (questionsIn (spanOf s p)) ≡ true
 unfolding isCarriedBy pick
-questions-known l s p a = carried l s (ReadCharacteristics p) a (questionsIn (partOf s p)) (held-questions s p)
+questions-known l s p a = carried l s (ReadCharacteristics p) a (questionsIn (spanOf s p)) (held-questions s p)
 
 -- What a message does to the flow, by what it is found to be.
 module _ (s : List ℕ) (l : Line) (t : Terms) (k : Line) {w r : Progress} {a b a′ b′ : List ℕ} {m n : HostMessage} where

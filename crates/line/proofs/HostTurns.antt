@@ -22,9 +22,9 @@ use Rattle.rules.proofs.Outcomes.{refused-sound, readable}
 use borrow.Author.Tests.{not-false}
 use Rattle.rules.proofs.Bounds.Calls.{received-sound}
 use Rattle.rules.proofs.Tests.{pick-true, pick-false, row-behind}
-use Rattle.message.specs.declared.Part as Part
+use Rattle.message.specs.declared.Span.{Span}
 use Rattle.message.specs.declared.StartReadFields.{StartReadFields}
-use Rattle.message.specs.Found.{partOf, startReadIn, heldIn}
+use Rattle.message.specs.Found.{spanOf, startReadIn, heldIn}
 use Rattle.areas.specs.Puts.{Puts}
 use Rattle.areas.proofs.Putting.{equals}
 use Rattle.characteristics.specs.declared.Set.{Set}
@@ -219,21 +219,21 @@ module _ (s t before mid t′ m′ text′ : List ℕ) (l next : Line) (place : 
   initiate-turns e i d =
       then-does (changes-does t before _ (ap view e) refl refl) (begun-as next next place refl i d)
 
-  report-turns : (p : Part.Part) → Accepted l s (ReadCharacteristics p) → next ≡ l →
-      Puts (reportBytes (hostOf next) (partOf s p)) before 0 place mid →
+  report-turns : (p : Span) → Accepted l s (ReadCharacteristics p) → next ≡ l →
+      Puts (reportBytes (hostOf next) (spanOf s p)) before 0 place mid →
       Does still (on next (begunWork next place)) t mid (on (lent (next .terms) text′ next) r) t′ m′ →
-      Does (obeys codes (questionsIn (partOf s p))) (begun l) t before (on (lent (next .terms) text′ next) r) t′ m′
+      Does (obeys codes (questionsIn (spanOf s p))) (begun l) t before (on (lent (next .terms) text′ next) r) t′ m′
   unfolding obeys pick reports answerTo
   report-turns p a e puts d =
-      let known = subst (λ z. carriesQuestions (view z) (questionsIn (partOf s p)) ≡ true) (sym e) (questions-known l s p a) in
-      let bytes = report-carried (hostOf next) (partOf s p) (view next) known in
-      subst (λ z. Does (reports (questionsIn (partOf s p))) (begun z) t before (on (lent (next .terms) text′ next) r) t′ m′) e
+      let known = subst (λ z. carriesQuestions (view z) (questionsIn (spanOf s p)) ≡ true) (sym e) (questions-known l s p a) in
+      let bytes = report-carried (hostOf next) (spanOf s p) (view next) known in
+      subst (λ z. Does (reports (questionsIn (spanOf s p))) (begun z) t before (on (lent (next .terms) text′ next) r) t′ m′) e
       (here-part refl
       (still-behind (sent-does {w = begunWork next 0} {v = begunWork next place} _ (equals bytes puts) refl next t) d))
 
-  settings-turns : (p : Part.Part) → Sets (partOf s p) l next → NoReport before place mid →
+  settings-turns : (p : Span) → Sets (spanOf s p) l next → NoReport before place mid →
       Does still (on next (begunWork next place)) t mid (on (lent (next .terms) text′ next) r) t′ m′ →
-      Does (obeys codes (settingsIn (partOf s p))) (begun l) t before (on (lent (next .terms) text′ next) r) t′ m′
+      Does (obeys codes (settingsIn (spanOf s p))) (begun l) t before (on (lent (next .terms) text′ next) r) t′ m′
   unfolding obeys pick setsCharacteristics
   settings-turns p e i d =
       let seen = ap view (e .same) ∙ (λ j. withHost (e .settings j) (view l)) in

@@ -12,8 +12,8 @@ use Rattle.rules.specs.Calls.{framed, sentBytes}
 use Rattle.rules.specs.Host.{ourInitiate}
 use Rattle.message.specs.declared.Message.{Message}
 use Rattle.message.specs.declared.Message.the-variants.{Initiate}
-use Rattle.message.specs.Found.{partOf, heldIn}
-use Rattle.writing.specs.Parts.{partsOf, sizeOf}
+use Rattle.message.specs.Found.{spanOf, heldIn}
+use Rattle.writing.specs.Spans.{spansOf, sizeOf}
 use Rattle.fronts.specs.Front.{frontTail, frontBytes}
 
 -- its head, with places for eight bytes and for the parameters behind them
@@ -31,8 +31,8 @@ abbrev pub parameter : ℕ → ℕ → List ℕ
 parameter kind value = bytesOf 2 kind ++ bytesOf 2 value
 
 pub our-bytes :
-    (bytesOf 2 (sizeOf (partsOf head)) ++ frontBytes (heldIn (replicate 8 32) head)) ++
+    (bytesOf 2 (sizeOf (spansOf head)) ++ frontBytes (heldIn (replicate 8 32) head)) ++
     (parameter 0x0201 messageSize ++ (parameter 0x0202 inputSize ++ parameter 0x0203 0x7FFE))
     ≡ framed (sentBytes ourInitiate)
-unfolding partsOf frontBytes frontTail heldIn partOf framed sentBytes ourInitiate bytesAs tailBytes joined forms formOf writeGroups fieldsIn numberOf
+unfolding spansOf frontBytes frontTail heldIn spanOf framed sentBytes ourInitiate bytesAs tailBytes joined forms formOf writeGroups fieldsIn numberOf
 our-bytes = refl

@@ -18,7 +18,7 @@ use Rattle.rules.specs.ReadData.{endsRead, moreData, answerOf, completes}
 use Rattle.rules.specs.Calls.{messageBytes}
 use Rattle.rules.specs.Messages.Codec as codec
 use Rattle.rules.specs.Messages.Forms as forms
-use Rattle.message.specs.Found.{heldIn, partOf}
+use Rattle.message.specs.Found.{heldIn, spanOf}
 use Rattle.message.specs.declared.Message.the-variants.{ReadData}
 use Rattle.line.specs.declared.Work.{Work}
 use Rattle.line.specs.declared.Line.{Line}
@@ -205,7 +205,7 @@ module _ (f : Flow) (t : Terms) (r : Reading) (code ending : ℕ) {more vertical
         text = record { start = 0; len = r .count };
       }))
       ≡ codec.message (answerOf codes code ending (readingOf (lent t text l) r) (view (onFlow f k)))
-  unfolding heldIn partOf answerOf moreData inputOf
+  unfolding heldIn spanOf answerOf moreData inputOf
   answer-held text k l c m v h =
       let n : r .count - ending ≡ length (inputOf (r .count) text) - ending =
       ap (λ j. j - ending) (sym (input-length (r .count) text (omega arith))) in λ i.

@@ -15,7 +15,7 @@ use Rattle.rules.specs.StartRead.Acceptance as rules
 use Rattle.rules.specs.StartRead.Acceptance.{hidesLF}
 use Rattle.rules.specs.StartRead.{chosenSet}
 use Rattle.message.specs.declared.StartReadFields.{StartReadFields}
-use Rattle.message.specs.Found.{partOf, startReadIn}
+use Rattle.message.specs.Found.{spanOf, startReadIn}
 use Rattle.characteristics.specs.declared.Set.{Set}
 use Rattle.characteristics.specs.View.{setOf, CountedSet}
 use Rattle.line.specs.declared.Terms.{Terms}
@@ -97,13 +97,13 @@ module _ (text typed shown : List ℕ) (full : length text ≡ inputSize) (room 
 
 -- The pieces of an accepted Start Read's text.
 module _ {s : List ℕ} {f : StartReadFields} (k : Startable s f) where
-  pub prompt-within : {text : List ℕ} → text ≡ partOf s (f .text) → f .«end_of_prompt» ≤ length text
+  pub prompt-within : {text : List ℕ} → text ≡ spanOf s (f .text) → f .«end_of_prompt» ≤ length text
   prompt-within e = let same = ap length e in omega arith
 
   prompt-short : length (rules.shownPrompt (startReadIn s f)) ≤ f .«end_of_prompt»
   unfolding rules.shownPrompt startReadIn
   prompt-short =
-      let text = partOf s (f .text) in
+      let text = spanOf s (f .text) in
       let hidden = bit (hidesLF (startReadIn s f)) in
       let taken = length-take (f .«end_of_prompt») text in
       let left = length-drop hidden (take (f .«end_of_prompt») text) in
@@ -111,7 +111,7 @@ module _ {s : List ℕ} {f : StartReadFields} (k : Startable s f) where
 
   data-long : length (rules.dataBehind (startReadIn s f)) ≡ f .«end_of_data» - f .«end_of_prompt»
   unfolding rules.dataBehind startReadIn
-  data-long = length-drop (f .«end_of_prompt») (partOf s (f .text)) ∙ ap (λ n. n - f .«end_of_prompt») (k .text)
+  data-long = length-drop (f .«end_of_prompt») (spanOf s (f .text)) ∙ ap (λ n. n - f .«end_of_prompt») (k .text)
 
   pub pieces-fit : {shown typed : List ℕ} → shown ≡ rules.shownPrompt (startReadIn s f) → typed ≡ rules.dataBehind (startReadIn s f) → length shown + length typed ≤ inputSize
   pieces-fit p d =
@@ -125,7 +125,7 @@ module _ {s : List ℕ} {f : StartReadFields} (k : Startable s f) where
   module _ (l : Line) (full : length (l .text) ≡ inputSize) (shown typed : List ℕ) (p : shown ≡ rules.shownPrompt (startReadIn s f)) (d : typed ≡ rules.dataBehind (startReadIn s f))
       {terms : Terms} (t : terms ≡ termsFor f (l .switches) (l .flow .terminal .screen) (length shown))
       (chosen last : Set) (c : (setOf chosen ≡ chosenSet (setOf (l .«last_set»)) (startReadIn s f)) × CountedSet chosen)
-      (z : (setOf last ≡ pick (eqb (f .«set_choice») 1) (partOf s (f .set)) (setOf (l .«last_set»))) × CountedSet last) where
+      (z : (setOf last ≡ pick (eqb (f .«set_choice») 1) (spanOf s (f .set)) (setOf (l .«last_set»))) × CountedSet last) where
     abbrev opened : Line
     opened = onOpened terms chosen (placed (l .text) typed shown full (pieces-fit p d)) last l
 

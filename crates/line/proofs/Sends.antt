@@ -13,8 +13,8 @@ use Rattle.rules.specs.Area.{puts, spot}
 use Rattle.rules.specs.Messages.Forms as forms
 use Rattle.rules.specs.Turns.{sends}
 use Rattle.rules.specs.Calls.{framed, sentBytes, mapText, messageBytes}
-use Rattle.writing.specs.Parts as parts
-use Rattle.writing.specs.Parts.{inside}
+use Rattle.writing.specs.Spans as spans
+use Rattle.writing.specs.Spans.{inside}
 use Rattle.areas.specs.Puts.{Puts}
 use Rattle.line.specs.declared.Work.{Work}
 use Rattle.line.specs.With.{afterSent}
@@ -44,7 +44,7 @@ pub sent-counted : (w : Work) {v : Work} {n : ℕ} → v ≡ afterSent n w → C
 sent-counted w e c = rw e c
 
 -- a text in front of a slice lies inside it
-pub text-inside : (n size : ℕ) → n ≤ size → inside size (parts.withText 3 8 (record { start = 0; len = n })) ≡ true
+pub text-inside : (n size : ℕ) → n ≤ size → inside size (spans.withText 3 8 (record { start = 0; len = n })) ≡ true
 unfolding inside
 text-inside n size h =
     let none = leb·zero size in

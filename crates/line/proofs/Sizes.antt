@@ -1,10 +1,14 @@
 -- The sizes of the rules, as the arrays and the code have them. Nothing else in this crate looks at their numerals.
-use Prim.Native.Nat.{_<_}
+use Prim.Native.Nat.{ℕ, _<_}
 use native.Mathlib.Omega.{arith}
 use mathlib.Core.Path.{_≡_, refl}
 use Rattle.rules.specs.Numbers.{inputSize, typeAheadSize, tokenSize, messageSize, topDropped, terminalArea, messageArea}
 
-pub input-size : inputSize ≡ 132
+-- the numeral that the code has, for proofs that write what it computes
+abbrev pub inputNumeral : ℕ
+inputNumeral = 132
+
+pub input-size : inputSize ≡ inputNumeral
 unfolding inputSize
 input-size = refl
 

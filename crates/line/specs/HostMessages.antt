@@ -22,7 +22,7 @@ use Rattle.characteristics.specs.View.{CountedHost, hostOf as hostView}
 use Rattle.characteristics.specs.declared.Host.{Host}
 use Rattle.message.specs.declared.Message.{Message}
 use Rattle.message.specs.declared.Message.the-variants as message
-use Rattle.message.specs.Found.{partOf, startReadIn, writeIn, heldIn}
+use Rattle.message.specs.Found.{spanOf, startReadIn, writeIn, heldIn}
 use Rattle.line.specs.declared.events.Sender.{Sender}
 use Rattle.line.specs.declared.events.Sender.the-variants as sender
 use Rattle.line.specs.declared.events.HostMessage.{HostMessage}
@@ -150,7 +150,7 @@ SetBy s (Unread condition) l next = next ≡ l
 SetBy s ClearInput l next = next ≡ l
 SetBy s (Write f) l next = next ≡ l
 SetBy s (ReadCharacteristics p) l next = next ≡ l
-SetBy s (Characteristics p) l next = Sets (partOf s p) l next
+SetBy s (Characteristics p) l next = Sets (spanOf s p) l next
 SetBy s CheckInput l next = next ≡ l
 
 -- A report goes into the message area, up to a place; any other message leaves it alone.
@@ -165,7 +165,7 @@ Reported s (Unread condition) l before place after = NoReport before place after
 Reported s ClearInput l before place after = NoReport before place after
 Reported s (Write f) l before place after = NoReport before place after
 Reported s (ReadCharacteristics p) l before place after =
-    Puts (reportBytes (hostOf l) (partOf s p)) before 0 place after
+    Puts (reportBytes (hostOf l) (spanOf s p)) before 0 place after
 Reported s (Characteristics p) l before place after = NoReport before place after
 Reported s CheckInput l before place after = NoReport before place after
 

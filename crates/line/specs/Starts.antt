@@ -12,7 +12,7 @@ use Rattle.rules.specs.State.{codes}
 use Rattle.rules.specs.StartRead.Acceptance as rules
 use Rattle.rules.specs.StartRead.Acceptance.{dataBehind, hidesInput}
 use Rattle.message.specs.declared.StartReadFields.{StartReadFields}
-use Rattle.message.specs.Found.{partOf, startReadIn}
+use Rattle.message.specs.Found.{spanOf, startReadIn}
 use Rattle.screen.specs.declared.Screen.{Screen}
 use Rattle.characteristics.specs.declared.Set.{Set}
 use Rattle.characteristics.specs.declared.Switches.{Switches}
@@ -23,11 +23,11 @@ use Rattle.line.specs.declared.Line.{Line}
 use Rattle.line.specs.View.{view, termsOf, inputOf}
 
 pub record Startable (s : List ℕ) (f : StartReadFields) : Type 0 where
-  pub text : length (partOf s (f .text)) ≡ f .«end_of_data»
+  pub text : length (spanOf s (f .text)) ≡ f .«end_of_data»
   pub prompt : f .«end_of_prompt» ≤ f .«end_of_data»
   pub within : f .«end_of_data» ≤ f .«max_length»
   pub largest : f .«max_length» ≤ inputSize
-  pub set : length (partOf s (f .set)) ≤ setSize
+  pub set : length (spanOf s (f .set)) ≤ setSize
 
 -- the read as it begins, at this column
 abbrev pub readingAt : List ℕ → StartReadFields → ℕ → Reading
@@ -81,7 +81,7 @@ pub record Opens (s : List ℕ) (f : StartReadFields) (l next : Line) : Type 0 w
   pub terms : termsOf next ≡ rules.openedTerms codes (startReadIn s f) (view l)
   pub input : inputOf (f .«end_of_data» - f .«end_of_prompt») (next .text) ≡ dataBehind (startReadIn s f)
   pub prompting : next .terms .«auto_prompt» ≡ l .switches .prompting
-  pub last : setOf (next .«last_set») ≡ pick (eqb (f .«set_choice») 1) (partOf s (f .set)) (setOf (l .«last_set»))
+  pub last : setOf (next .«last_set») ≡ pick (eqb (f .«set_choice») 1) (spanOf s (f .set)) (setOf (l .«last_set»))
   pub size : length (next .text) ≡ inputSize
   pub shown : next .terms .«prompt_len» ≤ inputSize
   pub set : CountedSet (next .set)

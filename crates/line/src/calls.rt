@@ -185,7 +185,7 @@ impl Line {
         if row != 0 {
             return self.refuse(row);
         }
-        let f = message::read(s);
+        let f = message::decode(s);
         let Found::Message(m) = f else {
             let number = message::number_of(f);
             return self.refuse(number);

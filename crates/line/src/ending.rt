@@ -8,7 +8,7 @@ ghost use Rattle.rules.specs.State.{codes};
 ghost use Rattle.rules.specs.Messages.Codec as codec;
 ghost use Rattle.rules.specs.ReadData as rules;
 ghost use Rattle.message.specs.Found.{heldIn};
-ghost use Rattle.writing.specs.Parts.{partsOf, inside};
+ghost use Rattle.writing.specs.Spans.{spansOf, inside};
 ghost use Rattle.line.specs.declared.Line.{Line};
 ghost use Rattle.line.specs.View.{view, readingOf};
 ghost use Rattle.line.specs.Bounded.{CountedFlow, CountedReading};
@@ -18,8 +18,8 @@ use crate::Reading;
 use crate::Terms;
 use crate::Work;
 use message::Message;
-use message::Part;
 use message::ReadDataFields;
+use message::Span;
 
 // Completion codes (000, 4.16.4).
 pub(crate) const TERMINATOR: u8 = 0;
@@ -60,7 +60,7 @@ impl Work {
     fn answer(self, code: u8, ending: u16, r: Reading, t: Terms) -> Message
         requires { ⌜ CountedFlow (self .flow) ⌝ }
         requires { ⌜ ending ≤ r .count ⌝ }
-        ensures { λ m. ⌜ ((text : List ℕ) (k l : Line) → CountedReading r text → (heldIn text m ≡ codec.message (rules.answerOf codes code ending (readingOf (lent t text l) r) (view (onFlow (self .flow) k)))) × (inside (length text) (partsOf m) ≡ true)) ⌝ }
+        ensures { λ m. ⌜ ((text : List ℕ) (k l : Line) → CountedReading r text → (heldIn text m ≡ codec.message (rules.answerOf codes code ending (readingOf (lent t text l) r) (view (onFlow (self .flow) k)))) × (inside (length text) (spansOf m) ≡ true)) ⌝ }
     {
         let flow = self.flow;
         let typed = flow.typed;
@@ -69,7 +69,7 @@ impl Work {
         let more = typed.remains();
         let vertical = screen::columns::change(cursor.line as u16, t.line as u16);
         let horizontal = screen::columns::change(cursor.column, t.column);
-        let text = Part {
+        let text = Span {
             start: 0,
             len: r.count,
         };

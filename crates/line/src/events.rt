@@ -18,7 +18,7 @@ use crate::acts::Act;
 use crate::acts::Taken;
 use message::InitiateFields;
 use message::Message;
-use message::Part;
+use message::Span;
 use message::StartReadFields;
 use message::WriteFields;
 
@@ -29,8 +29,8 @@ pub(crate) enum HostMessage {
     Unread(u8),
     ClearInput,
     Write(WriteFields),
-    ReadCharacteristics(Part),
-    Characteristics(Part),
+    ReadCharacteristics(Span),
+    Characteristics(Span),
     CheckInput,
 }
 

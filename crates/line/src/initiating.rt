@@ -12,7 +12,7 @@ ghost use Rattle.line.specs.Promise.{on, Does};
 use crate::Work;
 use message::InitiateFields;
 use message::Message;
-use message::Part;
+use message::Span;
 
 // One parameter of Initiate: its type and the count 2 in one word, and two bytes.
 fn put_parameter(head: u16, value: usize, area: &mut [u8], at: usize) -> usize
@@ -28,8 +28,8 @@ fn put_initiate(area: &mut [u8], at: usize) -> usize
     ensures { λ r. ⌜ Puts (framed (sentBytes (rules.ourInitiate {D = ℕ}))) (now (area .entry)) at r (now (area .exit)) ⌝ }
 {
     let spaces = [32u8; 8];
-    let revision = Part { start: 0, len: 8 };
-    let parameters = Part { start: 8, len: 12 };
+    let revision = Span { start: 0, len: 8 };
+    let parameters = Span { start: 8, len: 12 };
     let head = Message::Initiate(InitiateFields {
         version: 1,
         eco: 0,

@@ -8,7 +8,7 @@ ghost use Rattle.rules.specs.Choice.{pick, bit};
 ghost use Rattle.rules.specs.Numbers.{inputSize};
 ghost use Rattle.rules.specs.StartRead as fields;
 ghost use Rattle.rules.specs.StartRead.Acceptance as rules;
-ghost use Rattle.message.specs.Found.{partOf, startReadIn};
+ghost use Rattle.message.specs.Found.{spanOf, startReadIn};
 ghost use Rattle.characteristics.specs.View.{setOf, CountedSet};
 ghost use Rattle.line.specs.Bounded.{Counted};
 ghost use Rattle.line.specs.Starts.{Startable, readingAt, termsFor, Opens};
@@ -49,7 +49,7 @@ fn set_of(given: &[u8]) -> Set
 // ZZ 0: the last set given with ZZ 1; 1: this set; 2: universal.
 fn chosen_set(last: Set, f: StartReadFields, s: &[u8]) -> Set
     requires { ⌜ CountedSet last ⌝ }
-    requires { ⌜ length (partOf (now s) (f .set)) ≤ 32 ⌝ }
+    requires { ⌜ length (spanOf (now s) (f .set)) ≤ 32 ⌝ }
     ensures { λ r. ⌜ (setOf r ≡ fields.chosenSet (setOf last) (startReadIn (now (s .entry)) f)) × CountedSet r ⌝ }
 {
     let choice = f.set_choice;
@@ -57,8 +57,8 @@ fn chosen_set(last: Set, f: StartReadFields, s: &[u8]) -> Set
         return last;
     }
     if choice == CHOOSES_THIS {
-        let part = f.set;
-        let given = message::bytes_of(s, part);
+        let span = f.set;
+        let given = message::span_of(s, span);
         return set_of(given);
     }
     Set::universal()
@@ -67,12 +67,12 @@ fn chosen_set(last: Set, f: StartReadFields, s: &[u8]) -> Set
 // ZZ 1 gives the set that ZZ 0 looks at.
 fn last_set(last: Set, f: StartReadFields, s: &[u8]) -> Set
     requires { ⌜ CountedSet last ⌝ }
-    requires { ⌜ length (partOf (now s) (f .set)) ≤ 32 ⌝ }
-    ensures { λ r. ⌜ (setOf r ≡ pick (eqb (f .«set_choice») 1) (partOf (now (s .entry)) (f .set)) (setOf last)) × CountedSet r ⌝ }
+    requires { ⌜ length (spanOf (now s) (f .set)) ≤ 32 ⌝ }
+    ensures { λ r. ⌜ (setOf r ≡ pick (eqb (f .«set_choice») 1) (spanOf (now (s .entry)) (f .set)) (setOf last)) × CountedSet r ⌝ }
 {
     if f.set_choice == CHOOSES_THIS {
-        let part = f.set;
-        let given = message::bytes_of(s, part);
+        let span = f.set;
+        let given = message::span_of(s, span);
         return set_of(given);
     }
     last
@@ -82,8 +82,8 @@ fn last_set(last: Set, f: StartReadFields, s: &[u8]) -> Set
 fn hides_lf(f: StartReadFields, s: &[u8]) -> bool
     ensures { λ r. ⌜ r ≡ rules.hidesLF (startReadIn (now (s .entry)) f) ⌝ }
 {
-    let part = f.text;
-    let text = message::bytes_of(s, part);
+    let span = f.text;
+    let text = message::span_of(s, span);
     let first = fields::byte_at(text, 0);
     (f.formats == 1) & (first == LINE_FEED)
 }
@@ -105,8 +105,8 @@ fn prompt_of(f: StartReadFields, s: &[u8]) -> &[u8]
     ensures { λ r. ⌜ now r ≡ rules.shownPrompt (startReadIn (now (s .entry)) f) ⌝ }
 {
     let hidden = hides_lf(f, s);
-    let part = f.text;
-    let text = message::bytes_of(s, part);
+    let span = f.text;
+    let text = message::span_of(s, span);
     front_of(text, f.end_of_prompt as usize, hidden)
 }
 
@@ -115,8 +115,8 @@ fn data_of(f: StartReadFields, s: &[u8]) -> &[u8]
     requires { ⌜ Startable (now s) f ⌝ }
     ensures { λ r. ⌜ now r ≡ rules.dataBehind (startReadIn (now (s .entry)) f) ⌝ }
 {
-    let part = f.text;
-    let text = message::bytes_of(s, part);
+    let span = f.text;
+    let text = message::span_of(s, span);
     let start = f.end_of_prompt as usize;
     &text[start..]
 }

@@ -171,12 +171,12 @@ impl Line {
             HostMessage::Write(f) => carries_write(f),
             HostMessage::ReadCharacteristics(parameters) => {
                 let host = self.characteristics();
-                let list = message::bytes_of(s, parameters);
+                let list = message::span_of(s, parameters);
                 host.carries_questions(list)
             }
             HostMessage::Characteristics(parameters) => {
                 let host = self.characteristics();
-                let list = message::bytes_of(s, parameters);
+                let list = message::span_of(s, parameters);
                 host.carries_settings(list)
             }
             _ => true,

@@ -8,7 +8,7 @@ ghost use Rattle.rules.specs.Messages.Forms.{plain};
 ghost use Rattle.rules.specs.Messages.Codec as codec;
 ghost use Rattle.message.specs.Found.{heldIn};
 ghost use Rattle.rules.specs.Turns.{sends};
-ghost use Rattle.writing.specs.Parts.{partsOf, inside};
+ghost use Rattle.writing.specs.Spans.{spansOf, inside};
 ghost use Rattle.writing.specs.Framed.{Sendable};
 ghost use Rattle.line.specs.declared.Line.{Line};
 ghost use Rattle.line.specs.Bounded.{CountedFlow};
@@ -45,7 +45,7 @@ impl Work {
     pub(crate) fn sends_plain(self, messages: &mut [u8], m: Message) -> Work
         requires { ⌜ CountedFlow (self .flow) ⌝ }
         ensures counted { λ w. ⌜ CountedFlow (w .flow) ⌝ }
-        ensures rule { λ w. ⌜ ((kind : ℕ) (numbers : List ℕ) → ((s : List ℕ) → heldIn s m ≡ codec.message (plain kind numbers)) → inside 0 (partsOf m) ≡ true → (l : Line) (t : List ℕ) → Does (sends (plain kind numbers)) (on l self) t (now (messages .entry)) (on l w) t (now (messages .exit))) ⌝ }
+        ensures rule { λ w. ⌜ ((kind : ℕ) (numbers : List ℕ) → ((s : List ℕ) → heldIn s m ≡ codec.message (plain kind numbers)) → inside 0 (spansOf m) ≡ true → (l : Line) (t : List ℕ) → Does (sends (plain kind numbers)) (on l self) t (now (messages .entry)) (on l w) t (now (messages .exit))) ⌝ }
     {
         let text = [0u8; 1];
         self.send(messages, m, &text[..0])

@@ -1,12 +1,12 @@
 // What an accepted host message sets of the line, and the report of what is set.
 ghost use mathlib.Core.Path.{_≡_};
-ghost use Rattle.message.specs.Found.{partOf};
+ghost use Rattle.message.specs.Found.{spanOf};
 ghost use Rattle.line.specs.Bounded.{Counted};
 ghost use Rattle.line.specs.HostMessages.{Startables, onInitiated, onHost, Sets, SetBy, Reported, hostStruct};
 use crate::Line;
 use crate::events::HostMessage;
 use characteristics::Host;
-use message::Part;
+use message::Span;
 
 impl Line {
     // What the host has set, as the characteristics look at it.
@@ -48,12 +48,12 @@ impl Line {
     }
 
     // Characteristics: switches and attributes, as the parameters set them.
-    fn with_characteristics(self, parameters: Part, s: &[u8]) -> Line
+    fn with_characteristics(self, parameters: Span, s: &[u8]) -> Line
         requires { ⌜ Counted self ⌝ }
-        ensures { λ r. ⌜ Sets (partOf (now (s .entry)) parameters) self r ⌝ }
+        ensures { λ r. ⌜ Sets (spanOf (now (s .entry)) parameters) self r ⌝ }
     {
         let host = self.characteristics();
-        let list = message::bytes_of(s, parameters);
+        let list = message::span_of(s, parameters);
         let set = host.with_settings(list);
         self.with_host(set)
     }
@@ -79,7 +79,7 @@ impl Line {
         match m {
             HostMessage::ReadCharacteristics(parameters) => {
                 let host = self.characteristics();
-                let list = message::bytes_of(s, parameters);
+                let list = message::span_of(s, parameters);
                 host.put_report(list, messages, 0)
             }
             _ => 0,

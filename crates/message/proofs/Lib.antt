@@ -1,6 +1,6 @@
 -- Laws that the proofs of the functions apply, and one that callers cite.
 pub mod Lists
 mod Heads
-mod Reading
+mod Decoding
 mod SetAndText
 mod Types

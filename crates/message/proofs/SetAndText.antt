@@ -13,14 +13,14 @@ use Rattle.rules.specs.Messages.Layout.{word, byteAt, sizeOf, numberAt}
 use Rattle.rules.specs.Messages.Forms.{setAndText, forms, formOf}
 use Rattle.rules.specs.Messages.Codec.{message, behindHead, wholeTail, definedFields, soundAs, fieldsAs, setIn, parametersIn, textIn}
 use Rattle.rules.proofs.Tests.{both, halves, thirds}
-use Rattle.message.specs.declared.Part.{Part}
+use Rattle.message.specs.declared.Span.{Span}
 use Rattle.message.specs.declared.StartReadFields.{StartReadFields}
-use Rattle.message.specs.Found.{RestFrom, FlagsAre, StartReadIs, partOf, flagWidths, startReadIn, heldIn, placesOf, lies}
+use Rattle.message.specs.Found.{RestFrom, FlagsAre, StartReadIs, spanOf, flagWidths, startReadIn, heldIn, placesOf, lies}
 use Rattle.fields.proofs.Numbers.{byte-behind}
 use Rattle.message.proofs.Heads.{Head, flags-first}
-use Rattle.message.proofs.Reading.{fields-are}
+use Rattle.message.proofs.Decoding.{fields-are}
 
--- the flags and parts of one, with these numbers
+-- the flags and spans of one, with these numbers
 abbrev pub withNumbers : ℕ → ℕ → ℕ → ℕ → ℕ → ℕ → StartReadFields → StartReadFields
 withNumbers max end time prompt display low f =
     record {
@@ -57,12 +57,12 @@ module _ (s : List ℕ) {count : ℕ} (counted : count ≡ byteAt s 16) where
   unfolding formOf forms sizeOf behindHead wholeTail
   whole-set = ap₂ (λ n l. ltb n l && leb n 32) count-behind (length-drop 16 s)
 
-  module _ {text : Part} (behind : RestFrom (17 + count) s text) where
+  module _ {text : Span} (behind : RestFrom (17 + count) s text) where
     set-behind : take count (drop 17 s) ≡ setIn setAndText rest
     unfolding setIn
     set-behind = ap₂ take (sym count-behind) (sym (drop-drop 1 16 s))
 
-    text-behind : partOf s text ≡ textIn setAndText rest
+    text-behind : spanOf s text ≡ textIn setAndText rest
     unfolding textIn
     text-behind = behind .same ∙ sym (drop-drop count 17 s) ∙ ap₂ drop (sym count-behind) (sym (drop-drop 1 16 s))
 
@@ -79,11 +79,11 @@ module _ (s : List ℕ) {count : ℕ} (counted : count ≡ byteAt s 16) where
         {max end time prompt display low : ℕ} →
         Head (word ∷ word ∷ word ∷ word ∷ word ∷ word ∷ []) 4 s (max ∷ end ∷ time ∷ prompt ∷ display ∷ low ∷ []) →
         StartReadIs s (withNumbers max end time prompt display low f)
-    unfolding heldIn placesOf startReadIn partOf formOf forms sizeOf behindHead setIn parametersIn textIn
+    unfolding heldIn placesOf startReadIn spanOf formOf forms sizeOf behindHead setIn parametersIn textIn
     start-read-is k {f} are {max} {end} {time} {prompt} {display} {low} words =
         let flags = flags-first 3 flagWidths (numberAt 3 1 s) refl words in
-        let set = ap (partOf s) (are .set-kept) ∙ set-behind in
-        let text = ap (partOf s) (are .text-kept) ∙ text-behind in
+        let set = ap (spanOf s) (are .set-kept) ∙ set-behind in
+        let text = ap (spanOf s) (are .text-kept) ∙ text-behind in
         let size = length-drop (17 + count) s in
         record {
           read = record {
@@ -100,6 +100,6 @@ module _ (s : List ℕ) {count : ℕ} (counted : count ≡ byteAt s 16) where
             inside = λ e. ap₂ (λ p q. allAre (lies (length s)) (p ∷ q ∷ [])) (are .set-kept) (are .text-kept) ∙ both-lie e;
           };
           long =
-              ap (λ p. length (partOf s p)) (are .text-kept) ∙ ap length (behind .same) ∙ size ∙ sym (behind .long) ∙
-              ap (λ (p : Part). p .len) (sym (are .text-kept));
+              ap (λ p. length (spanOf s p)) (are .text-kept) ∙ ap length (behind .same) ∙ size ∙ sym (behind .long) ∙
+              ap (λ (p : Span). p .len) (sym (are .text-kept));
         }

@@ -2,18 +2,18 @@
 use mathlib.Core.Path.{_≡_, refl, sym, ap, _∙_}
 use Prim.Native.Nat.{ℕ, zero, suc, _≤_}
 use native.Mathlib.Omega.{arith}
-use mathlib.Core.Bool.{Bool, true, false, _&&_}
+use mathlib.Core.Bool.{Bool, true, false, not, _&&_}
 use mathlib.Core.List.{List}
 use lib.Dec.{leb}
 use lib.ListN.{length}
 use borrow.Author.Tests.{leb-true, lt-leb}
-use Rattle.rules.specs.Choice.{pick, within}
-use Rattle.rules.specs.Numbers.{messageSize, unsound}
+use Rattle.rules.specs.Choice.{pick, firstOf, within}
+use Rattle.rules.specs.Numbers.{messageSize, wrongLength, wrongType, unsound}
 use Rattle.rules.specs.Messages.Layout.{byteAt}
 use Rattle.rules.specs.Messages.Forms.{formOf}
-use Rattle.rules.specs.Messages.Codec.{sound, refused, definedKind, soundAs, fieldsAs, soundLength, read}
+use Rattle.rules.specs.Messages.Codec.{sound, refused, definedKind, soundAs, fieldsAs, soundLength, readRefusals, read}
 use Rattle.rules.proofs.Tests.{pick-true, pick-false, halves}
-use Rattle.message.specs.Found.{IsType, asHeld, readAs}
+use Rattle.message.specs.Found.{IsType, asHeld, decodedAs}
 
 -- none of the numbers from 1 up to a last one, as a `match` leaves it
 abbrev pub NoneOf : ℕ → ℕ → Type 0
@@ -35,34 +35,38 @@ undefined-kind {k} others = by-least (leb 1 k) refl
     by-least false e = refl
     by-least true e = lt-leb k 14 (none-past 14 others (leb-true 1 k e))
 
--- The size of a message, which is opaque elsewhere.
-length-test : (n : ℕ) → soundLength n ≡ leb 1 n && leb n 256
-unfolding soundLength within messageSize
-length-test n = refl
+-- `most` is the longest message, as the code has it.
+module _ (s : List ℕ) {most : ℕ} (longest : messageSize ≡ most) where
+  abbrev lengthTest : Bool
+  lengthTest = leb 1 (length s) && leb (length s) most
 
-module _ (s : List ℕ) where
-  pub wrong-length : leb 1 (length s) && leb (length s) 256 ≡ false → refused 2 ≡ asHeld (read s)
-  unfolding read asHeld
-  wrong-length e = ap asHeld (sym (pick-false _ _ (length-test (length s) ∙ e)))
+  length-test : soundLength (length s) ≡ lengthTest
+  unfolding soundLength within
+  length-test = ap (λ n. leb 1 (length s) && leb (length s) n) longest
 
-  module _ (e : leb 1 (length s) && leb (length s) 256 ≡ true) {kind : ℕ} (k : kind ≡ byteAt s 0) where
-    pub wrong-type : definedKind kind ≡ false → refused 3 ≡ asHeld (read s)
-    unfolding read asHeld
+  pub wrong-length : lengthTest ≡ false → refused wrongLength ≡ asHeld (read s)
+  unfolding read readRefusals firstOf asHeld
+  wrong-length e = ap asHeld (sym (pick-true _ _ (ap not (length-test ∙ e))))
+
+  module _ (e : lengthTest ≡ true) {kind : ℕ} (k : kind ≡ byteAt s 0) where
+    pub wrong-type : definedKind kind ≡ false → refused wrongType ≡ asHeld (read s)
+    unfolding read readRefusals firstOf asHeld
     wrong-type d =
-        ap asHeld (sym (pick-true _ _ (length-test (length s) ∙ e) ∙ pick-false _ _ (ap definedKind (sym k) ∙ d)))
+        ap asHeld (sym (pick-false _ _ (ap not (length-test ∙ e)) ∙ pick-true _ _ (ap not (ap definedKind (sym k) ∙ d))))
 
     -- a type by its number
     module _ {n : ℕ} (t : kind ≡ n) where
       pub is-type : IsType n s
       is-type =
-          record { typed = sym k ∙ t; short = leb-true (length s) 256 (halves (leb 1 (length s)) (leb (length s) 256) e .1) }
+          let within = leb-true (length s) most (halves (leb 1 (length s)) (leb (length s) most) e .1) in
+          record { typed = sym k ∙ t; short = omega arith }
 
-      pub as-type : leb 1 n && leb n 14 ≡ true → readAs n s ≡ asHeld (read s)
-      unfolding read readAs definedKind within
+      pub as-type : leb 1 n && leb n 14 ≡ true → decodedAs n s ≡ asHeld (read s)
+      unfolding read readRefusals firstOf decodedAs definedKind within
       as-type d =
           let same = sym k ∙ t in
           ap asHeld
           (sym
-          (pick-true _ _ (length-test (length s) ∙ e) ∙
-          pick-true _ _ (ap definedKind same ∙ d) ∙
-          ap (λ m. pick (soundAs (formOf m) s) (sound (fieldsAs (formOf m) s)) (refused unsound)) same))
+          (pick-false _ _ (ap not (length-test ∙ e)) ∙
+          pick-false _ _ (ap not (ap definedKind same ∙ d)) ∙
+          ap (λ m. pick (not (soundAs (formOf m) s)) (refused unsound) (sound (fieldsAs (formOf m) s))) same))

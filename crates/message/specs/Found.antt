@@ -1,20 +1,20 @@
--- What a decoded message means: its fields, read off the slice that it was found in, and where its parts lie there; a number for
+-- What a decoded message means: its fields, read off the slice that it was found in, and where its spans lie there; a number for
 -- each refusal.
 use Prim.Native.Nat.{ℕ, _+_, _-_, _≤_}
 use mathlib.Core.Path.{_≡_}
-use mathlib.Core.Bool.{Bool, true}
+use mathlib.Core.Bool.{Bool, true, not}
 use mathlib.Core.List.{List, [], _∷_, _++_, map}
 use lib.Dec.{leb}
 use lib.ListN.{length, take, drop}
 use Rattle.rules.specs.Choice.{pick, allAre}
-use Rattle.rules.specs.Numbers.{accepted, unsound}
+use Rattle.rules.specs.Numbers.{messageSize, accepted, unsound}
 use Rattle.rules.specs.Messages.Layout.{byteAt, fieldsIn, numberAt}
 use Rattle.rules.specs.Messages.Parameters.{Shape, initiation, question, setting, cleaned, cut}
 use Rattle.rules.specs.Messages.Forms as forms
 use Rattle.rules.specs.Messages.Forms.{formOf, plain}
 use Rattle.rules.specs.Messages.Codec as codec
 use Rattle.rules.specs.Messages.Codec.{Outcome, Held, soundAs, fieldsAs}
-use Rattle.message.specs.declared.Part.{Part}
+use Rattle.message.specs.declared.Span.{Span}
 use Rattle.message.specs.declared.StartReadFields.{StartReadFields}
 use Rattle.message.specs.declared.WriteFields.{WriteFields}
 use Rattle.message.specs.declared.Message.{Message}
@@ -24,13 +24,13 @@ use Rattle.message.specs.declared.Message.the-variants.{CheckInput, Inpu
 use Rattle.message.specs.declared.Found.{Found}
 use Rattle.message.specs.declared.Found.the-variants as found
 
--- the bytes of a part
-unfoldable pub partOf : List ℕ → Part → List ℕ
-partOf s p = take (p .len) (drop (p .start) s)
+-- the bytes of a span
+unfoldable pub spanOf : List ℕ → Span → List ℕ
+spanOf s p = take (p .len) (drop (p .start) s)
 
--- the parameters in a part
-unfoldable pub parametersOf : Shape → List ℕ → Part → List (List ℕ)
-parametersOf shape s p = map (cleaned shape) (cut shape 0 (partOf s p))
+-- the parameters in a span
+unfoldable pub parametersOf : Shape → List ℕ → Span → List (List ℕ)
+parametersOf shape s p = map (cleaned shape) (cut shape 0 (spanOf s p))
 
 abbrev pub plainMessage : ℕ → List ℕ → Held
 plainMessage kind numbers = codec.message (plain kind numbers)
@@ -59,9 +59,9 @@ startReadIn s f =
       numbers =
           flagsOf f ++
           (f .«max_length» ∷ f .«end_of_data» ∷ f .timeout ∷ f .«end_of_prompt» ∷ f .«start_of_display» ∷ f .«low_water» ∷ []);
-      set = partOf s (f .set);
+      set = spanOf s (f .set);
       parameters = [];
-      text = partOf s (f .text);
+      text = spanOf s (f .text);
     }
 
 -- a Write, by its fields
@@ -74,17 +74,17 @@ writeIn s f =
           f .transparent ∷ f .«prefix_value» ∷ f .«postfix_value» ∷ [];
       set = [];
       parameters = [];
-      text = partOf s (f .text);
+      text = spanOf s (f .text);
     }
 
 -- the fields of each case
 unfoldable pub heldIn : List ℕ → Message → Held
 heldIn s (Initiate f) =
-    listMessage forms.initiate (f .version ∷ f .eco ∷ f .modification ∷ partOf s (f .revision)) (parametersOf initiation s (f .parameters))
+    listMessage forms.initiate (f .version ∷ f .eco ∷ f .modification ∷ spanOf s (f .revision)) (parametersOf initiation s (f .parameters))
 heldIn s (StartRead f) = codec.message (startReadIn s f)
 heldIn s (ReadData f) =
     textMessage forms.readData
-    (f .code ∷ f .more ∷ f .«low_water» ∷ f .vertical ∷ f .horizontal ∷ f .terminator ∷ []) [] (partOf s (f .text))
+    (f .code ∷ f .more ∷ f .«low_water» ∷ f .vertical ∷ f .horizontal ∷ f .terminator ∷ []) [] (spanOf s (f .text))
 heldIn s (OutOfBand discard character) = plainMessage forms.outOfBand (discard ∷ character ∷ [])
 heldIn s (Unread condition) = plainMessage forms.unread (condition ∷ [])
 heldIn s ClearInput = plainMessage forms.clearInput []
@@ -96,10 +96,10 @@ heldIn s (Characteristics p) = listMessage forms.characteristics [] (parametersO
 heldIn s CheckInput = plainMessage forms.checkInput []
 heldIn s (InputCount count) = plainMessage forms.inputCount (count ∷ [])
 heldIn s (InputState nonzero) = plainMessage forms.inputState (nonzero ∷ [])
-heldIn s (Other kind body) = codec.other kind (partOf s body)
+heldIn s (Other kind body) = codec.other kind (spanOf s body)
 
--- the parts of each case
-unfoldable pub placesOf : Message → List Part
+-- the spans of each case
+unfoldable pub placesOf : Message → List Span
 placesOf (Initiate f) = f .revision ∷ f .parameters ∷ []
 placesOf (StartRead f) = f .set ∷ f .text ∷ []
 placesOf (ReadData f) = f .text ∷ []
@@ -116,8 +116,8 @@ placesOf (InputCount count) = []
 placesOf (InputState nonzero) = []
 placesOf (Other kind body) = body ∷ []
 
--- a part, and every part of a message, lies in a slice of this length
-abbrev pub lies : ℕ → Part → Bool
+-- a span, and every span of a message, lies in a slice of this length
+abbrev pub lies : ℕ → Span → Bool
 lies size p = leb (p .start + p .len) size
 
 abbrev pub allLie : ℕ → Message → Bool
@@ -133,12 +133,12 @@ unfoldable pub foundIn : List ℕ → Found → Outcome Held
 foundIn s (found.Message m) = codec.sound (heldIn s m)
 foundIn s (found.Refused n) = codec.refused n
 
--- every part of what was found lies in the slice
+-- every span of what was found lies in the slice
 unfoldable pub foundInside : ℕ → Found → Bool
 foundInside size (found.Message m) = allLie size m
 foundInside size (found.Refused n) = true
 
--- what reading promises: this outcome, and where the parts of a message lie
+-- what reading promises: this outcome, and where the spans of a message lie
 pub record Finds (s : List ℕ) (o : Outcome Held) (f : Found) : Type 0 where
   pub fields : foundIn s f ≡ o
   pub inside : foundInside (length s) f ≡ true
@@ -149,28 +149,28 @@ foundNumber (found.Message m) = accepted
 foundNumber (found.Refused n) = n
 
 -- reading as one type
-unfoldable pub readAs : ℕ → List ℕ → Outcome Held
-readAs kind s =
-    asHeld (pick (soundAs (formOf kind) s) (codec.sound (fieldsAs (formOf kind) s)) (codec.refused unsound))
+unfoldable pub decodedAs : ℕ → List ℕ → Outcome Held
+decodedAs kind s =
+    asHeld (pick (not (soundAs (formOf kind) s)) (codec.refused unsound) (codec.sound (fieldsAs (formOf kind) s)))
 
 -- what a reader of one type is handed: a message of that type that is not too long
 pub record IsType (kind : ℕ) (s : List ℕ) : Type 0 where
   pub typed : byteAt s 0 ≡ kind
-  pub short : length s ≤ 256
+  pub short : length s ≤ messageSize
 
 -- what stands from a place on
-pub record RestFrom (at : ℕ) (s : List ℕ) (p : Part) : Type 0 where
-  pub same : partOf s p ≡ drop at s
+pub record RestFrom (at : ℕ) (s : List ℕ) (p : Span) : Type 0 where
+  pub same : spanOf s p ≡ drop at s
   pub long : p .len ≡ length s - at
   pub inside : at ≤ length s → p .start + p .len ≤ length s
 
--- the fields as one type, whatever they hold; the parts of a message that is not refused lie in the slice
+-- the fields as one type, whatever they hold; the spans of a message that is not refused lie in the slice
 pub record FieldsIn (kind : ℕ) (s : List ℕ) (m : Message) : Type 0 where
   pub fields : heldIn s m ≡ codec.message (fieldsAs (formOf kind) s)
   pub inside : soundAs (formOf kind) s ≡ true → allLie (length s) m ≡ true
 
--- the flags of a Start Read, with parts that are given
-pub record FlagsAre (s : List ℕ) (set text : Part) (f : StartReadFields) : Type 0 where
+-- the flags of a Start Read, with spans that are given
+pub record FlagsAre (s : List ℕ) (set text : Span) (f : StartReadFields) : Type 0 where
   pub flags : flagsOf f ≡ fieldsIn flagWidths (numberAt 3 1 s)
   pub set-kept : f .set ≡ set
   pub text-kept : f .text ≡ text
@@ -178,4 +178,4 @@ pub record FlagsAre (s : List ℕ) (set text : Part) (f : StartReadFields) : Typ
 -- the fields of a Start Read
 pub record StartReadIs (s : List ℕ) (f : StartReadFields) : Type 0 where
   pub read : FieldsIn forms.startRead s (StartRead f)
-  pub long : length (partOf s (f .text)) ≡ f .text .len
+  pub long : length (spanOf s (f .text)) ≡ f .text .len

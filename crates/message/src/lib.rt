@@ -1,19 +1,19 @@
-// The fourteen messages of the Network Command Terminal protocol: their fields, and reading them from bytes.
+// The fourteen messages of the Network Command Terminal protocol: their fields, and decoding them.
 ghost use mathlib.Core.Path.{_≡_};
 ghost use Rattle.rules.specs.Messages.Codec as codec;
 ghost use Rattle.message.specs.Found.{Finds, asHeld, foundNumber};
 
 mod fixed;
 mod listed;
-mod parts;
+mod spans;
 mod start_read;
 mod texts;
 
-pub use crate::parts::bytes_of;
+pub use crate::spans::span_of;
 pub use crate::start_read::start_read_test;
 
-// A part of the lent slice.
-pub struct Part {
+// A span of the lent slice: where it starts, and how long it is.
+pub struct Span {
     pub start: u16,
     pub len: u16,
 }
@@ -23,8 +23,8 @@ pub struct InitiateFields {
     pub eco: u8,
     pub modification: u8,
     // eight bytes
-    pub revision: Part,
-    pub parameters: Part,
+    pub revision: Span,
+    pub parameters: Span,
 }
 
 pub struct StartReadFields {
@@ -46,8 +46,8 @@ pub struct StartReadFields {
     pub end_of_prompt: u16,
     pub start_of_display: u16,
     pub low_water: u16,
-    pub set: Part,
-    pub text: Part,
+    pub set: Span,
+    pub text: Span,
 }
 
 pub struct ReadDataFields {
@@ -57,7 +57,7 @@ pub struct ReadDataFields {
     pub vertical: u8,
     pub horizontal: u8,
     pub terminator: u16,
-    pub text: Part,
+    pub text: Span,
 }
 
 pub struct WriteFields {
@@ -72,7 +72,7 @@ pub struct WriteFields {
     pub transparent: u8,
     pub prefix_value: u8,
     pub postfix_value: u8,
-    pub text: Part,
+    pub text: Span,
 }
 
 pub enum Message {
@@ -97,10 +97,10 @@ pub enum Message {
         kept: u8,
     },
     ReadCharacteristics {
-        parameters: Part,
+        parameters: Span,
     },
     Characteristics {
-        parameters: Part,
+        parameters: Span,
     },
     CheckInput,
     InputCount {
@@ -112,42 +112,42 @@ pub enum Message {
     // a message of another type, which can be held and is never written
     Other {
         kind: u8,
-        body: Part,
+        body: Span,
     },
 }
 
-// What reading finds: a message, or the number of a refusal.
+// What decoding finds: a message, or the number of a refusal.
 pub enum Found {
     Message(Message),
     Refused(u8),
 }
 
-// Reads a message without a line: 2, 3 or 5 in that order, else its fields, with parts that lie in the slice.
-pub fn read(s: &[u8]) -> Found
+// Decodes a message without a line: 2, 3 or 5 in that order, else its fields, with spans that lie in the slice.
+pub fn decode(s: &[u8]) -> Found
     ensures { λ r. ⌜ Finds (now (s .entry)) (asHeld (codec.read (now (s .entry)))) r ⌝ }
 {
     let size = s.len();
     let fits = (1 <= size) & (size <= rules::MESSAGE);
     if !fits {
-        return Found::Refused(2);
+        return Found::Refused(rules::WRONG_LENGTH);
     }
     let kind = fields::byte_at(s, 0);
     match kind {
-        1 => listed::read_initiate(s),
-        2 => start_read::read_start_read(s),
-        3 => texts::read_read_data(s),
-        4 => fixed::read_out_of_band(s),
-        5 => fixed::read_unread(s),
-        6 => fixed::read_clear_input(s),
-        7 => texts::read_write(s),
-        8 => fixed::read_write_completion(s),
-        9 => fixed::read_discard_state(s),
-        10 => listed::read_read_characteristics(s),
-        11 => listed::read_characteristics(s),
-        12 => fixed::read_check_input(s),
-        13 => fixed::read_input_count(s),
-        14 => fixed::read_input_state(s),
-        _ => Found::Refused(3),
+        rules::INITIATE => listed::decode_initiate(s),
+        rules::START_READ => start_read::decode_start_read(s),
+        rules::READ_DATA => texts::decode_read_data(s),
+        rules::OUT_OF_BAND => fixed::decode_out_of_band(s),
+        rules::UNREAD => fixed::decode_unread(s),
+        rules::CLEAR_INPUT => fixed::decode_clear_input(s),
+        rules::WRITE => texts::decode_write(s),
+        rules::WRITE_COMPLETION => fixed::decode_write_completion(s),
+        rules::DISCARD_STATE => fixed::decode_discard_state(s),
+        rules::READ_CHARACTERISTICS => listed::decode_read_characteristics(s),
+        rules::CHARACTERISTICS => listed::decode_characteristics(s),
+        rules::CHECK_INPUT => fixed::decode_check_input(s),
+        rules::INPUT_COUNT => fixed::decode_input_count(s),
+        rules::INPUT_STATE => fixed::decode_input_state(s),
+        _ => Found::Refused(rules::WRONG_TYPE),
     }
 }
 
@@ -156,7 +156,7 @@ pub fn number_of(f: Found) -> u8
     ensures { λ r. ⌜ r ≡ foundNumber f ⌝ }
 {
     match f {
-        Found::Message(_) => 0,
+        Found::Message(_) => rules::ACCEPTED,
         Found::Refused(number) => number,
     }
 }

@@ -5,18 +5,18 @@ ghost use mathlib.Core.List.{List};
 ghost use lib.ListN.{length};
 ghost use Rattle.rules.specs.Numbers.{inputSize};
 ghost use Rattle.rules.specs.StartRead.{soundStartRead};
-ghost use Rattle.message.specs.Found.{IsType, FlagsAre, StartReadIs, partOf, startReadIn, Finds, readAs};
+ghost use Rattle.message.specs.Found.{IsType, FlagsAre, StartReadIs, spanOf, startReadIn, Finds, decodedAs};
 use crate::Found;
 use crate::Message;
-use crate::Part;
+use crate::Span;
 use crate::StartReadFields;
-use crate::parts::rest_from;
+use crate::spans::rest_from;
 use fields::byte_at;
 use fields::three_at;
 use fields::word_at;
 
-// The flags beside the parts; the numbers are still 0.
-fn start_read_flags(s: &[u8], set: Part, text: Part) -> StartReadFields
+// The flags beside the spans; the numbers are still 0.
+fn start_read_flags(s: &[u8], set: Span, text: Span) -> StartReadFields
     ensures { λ r. ⌜ FlagsAre (now (s .entry)) set text r ⌝ }
 {
     let flags = three_at(s, 1);
@@ -60,7 +60,7 @@ fn start_read_fields(s: &[u8]) -> StartReadFields
     ensures { λ r. ⌜ StartReadIs (now (s .entry)) r ⌝ }
 {
     let count = byte_at(s, 16) as u16;
-    let set = Part {
+    let set = Span {
         start: 17,
         len: count,
     };
@@ -83,7 +83,7 @@ fn less(a: u16, b: u16) -> u16
 }
 
 pub fn start_read_test(f: StartReadFields) -> bool
-    ensures { λ r. ⌜ ((s : List ℕ) → length (partOf s (f .text)) ≡ f .text .len → r ≡ soundStartRead inputSize (startReadIn s f)) ⌝ }
+    ensures { λ r. ⌜ ((s : List ℕ) → length (spanOf s (f .text)) ≡ f .text .len → r ≡ soundStartRead inputSize (startReadIn s f)) ⌝ }
 {
     let text = f.text;
     let largest = f.max_length as usize;
@@ -101,22 +101,22 @@ pub fn start_read_test(f: StartReadFields) -> bool
         & (text.len == shown)
 }
 
-pub(crate) fn read_start_read(s: &[u8]) -> Found
+pub(crate) fn decode_start_read(s: &[u8]) -> Found
     requires { ⌜ IsType 2 (now s) ⌝ }
-    ensures { λ r. ⌜ Finds (now (s .entry)) (readAs 2 (now (s .entry))) r ⌝ }
+    ensures { λ r. ⌜ Finds (now (s .entry)) (decodedAs 2 (now (s .entry))) r ⌝ }
 {
     if s.len() < 16 {
-        return Found::Refused(5);
+        return Found::Refused(rules::UNSOUND);
     }
     let behind = s.len() - 16;
     let count = byte_at(s, 16) as usize;
     let whole = (count < behind) & (count <= 32);
     if !whole {
-        return Found::Refused(5);
+        return Found::Refused(rules::UNSOUND);
     }
     let f = start_read_fields(s);
     if start_read_test(f) {
         return Found::Message(Message::StartRead(f));
     }
-    Found::Refused(5)
+    Found::Refused(rules::UNSOUND)
 }

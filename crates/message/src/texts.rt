@@ -1,11 +1,11 @@
 // Messages that end in DATA.
 ghost use Rattle.message.specs.declared.Message.the-variants as variants;
-ghost use Rattle.message.specs.Found.{IsType, FieldsIn, Finds, readAs};
+ghost use Rattle.message.specs.Found.{IsType, FieldsIn, Finds, decodedAs};
 use crate::Found;
 use crate::Message;
 use crate::ReadDataFields;
 use crate::WriteFields;
-use crate::parts::rest_from;
+use crate::spans::rest_from;
 use fields::byte_at;
 use fields::word_at;
 
@@ -31,16 +31,16 @@ fn read_data_fields(s: &[u8]) -> ReadDataFields
     }
 }
 
-pub(crate) fn read_read_data(s: &[u8]) -> Found
+pub(crate) fn decode_read_data(s: &[u8]) -> Found
     requires { ⌜ IsType 3 (now s) ⌝ }
-    ensures { λ r. ⌜ Finds (now (s .entry)) (readAs 3 (now (s .entry))) r ⌝ }
+    ensures { λ r. ⌜ Finds (now (s .entry)) (decodedAs 3 (now (s .entry))) r ⌝ }
 {
     if s.len() < 8 {
-        return Found::Refused(5);
+        return Found::Refused(rules::UNSOUND);
     }
     let f = read_data_fields(s);
     if 13 < f.code {
-        return Found::Refused(5);
+        return Found::Refused(rules::UNSOUND);
     }
     Found::Message(Message::ReadData(f))
 }
@@ -77,16 +77,16 @@ fn write_fields(s: &[u8]) -> WriteFields
     }
 }
 
-pub(crate) fn read_write(s: &[u8]) -> Found
+pub(crate) fn decode_write(s: &[u8]) -> Found
     requires { ⌜ IsType 7 (now s) ⌝ }
-    ensures { λ r. ⌜ Finds (now (s .entry)) (readAs 7 (now (s .entry))) r ⌝ }
+    ensures { λ r. ⌜ Finds (now (s .entry)) (decodedAs 7 (now (s .entry))) r ⌝ }
 {
     if s.len() < 5 {
-        return Found::Refused(5);
+        return Found::Refused(rules::UNSOUND);
     }
     let f = write_fields(s);
     if (f.prefix <= 2) & (f.postfix <= 2) {
         return Found::Message(Message::Write(f));
     }
-    Found::Refused(5)
+    Found::Refused(rules::UNSOUND)
 }

@@ -1,4 +1,4 @@
-// Parameter lists: a walk of one, and a parameter into an area. `kind` is the type of the message that a list stands in: 1, 10 or 11.
+// Parameter lists: a walk of one, and a parameter into an area. `kind` is the type of the message that a list stands in: Initiate, Read Characteristics or Characteristics.
 ghost use mathlib.Core.Path.{_≡_};
 ghost use Prim.Native.Nat.{_%_, _<_, _≤_};
 ghost use lib.ListN.{length, drop};
@@ -12,6 +12,7 @@ use fields::word_at;
 
 mod limits;
 mod put;
+pub mod selectors;
 
 pub use crate::put::put_setting;
 
@@ -30,14 +31,14 @@ fn defined_at(kind: u8, s: &[u8], at: usize) -> bool
     requires { ⌜ at < length (now s) ⌝ }
     ensures { λ r. ⌜ r ≡ shapeOf kind .defined (drop at (now (s .entry))) ⌝ }
 {
-    if kind == 1 {
+    if kind == rules::INITIATE {
         return true;
     }
     let n = word_at(s, at);
-    if kind == 10 {
+    if kind == rules::READ_CHARACTERISTICS {
         return defined_selector(n);
     }
-    if n == 0x0208 {
+    if n == selectors::INPUT_COUNT_STATE {
         let value = word_at(s, at + 2);
         return (1 <= value) & (value <= 3);
     }

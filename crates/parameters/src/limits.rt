@@ -4,6 +4,7 @@ ghost use Prim.Native.Nat.{_<_};
 ghost use lib.ListN.{length, getD, drop, replicate};
 ghost use Rattle.rules.specs.Messages.Parameters.{definedSelector, questionLimits, valueLimits, limitsOf};
 ghost use Rattle.parameters.specs.Lists.{LimitsAre, shapeOf};
+use crate::selectors;
 use fields::byte_at;
 use fields::word_at;
 
@@ -14,7 +15,7 @@ pub(crate) struct Limits(pub u8, pub u16, pub u16, pub u16);
 pub(crate) fn defined_selector(n: u16) -> bool
     ensures { λ r. ⌜ r ≡ definedSelector n ⌝ }
 {
-    (0x0201 <= n) & (n <= 0x020A)
+    (selectors::FIRST <= n) & (n <= selectors::LAST)
 }
 
 // The limit of a byte of Initiate, all of whose bits are used.
@@ -39,7 +40,7 @@ fn initiation_limits(count: u8) -> Limits
 fn question_limits(n: u16) -> Limits
     ensures { λ r. ⌜ LimitsAre (questionLimits n) r ⌝ }
 {
-    if n == 0x0202 {
+    if n == selectors::CHARACTER_ATTRIBUTES {
         return Limits(1, 256, 1, 1);
     }
     Limits(0, 1, 1, 1)
@@ -48,13 +49,13 @@ fn question_limits(n: u16) -> Limits
 fn setting_limits(n: u16) -> Limits
     ensures { λ r. ⌜ LimitsAre (valueLimits n) r ⌝ }
 {
-    if n == 0x0202 {
+    if n == selectors::CHARACTER_ATTRIBUTES {
         return Limits(3, 256, 256, 128);
     }
-    if n == 0x0208 {
+    if n == selectors::INPUT_COUNT_STATE {
         return Limits(2, 256, 256, 1);
     }
-    if n == 0x020A {
+    if n == selectors::ERROR_PROCESSING {
         return Limits(1, 16, 1, 1);
     }
     if defined_selector(n) {
@@ -68,12 +69,12 @@ pub(crate) fn limits_at(kind: u8, s: &[u8], at: usize) -> Limits
     requires { ⌜ at < length (now s) ⌝ }
     ensures { λ r. ⌜ LimitsAre (limitsOf (shapeOf kind) (drop at (now (s .entry)))) r ⌝ }
 {
-    if kind == 1 {
+    if kind == rules::INITIATE {
         let count = byte_at(s, at + 1);
         return initiation_limits(count);
     }
     let n = word_at(s, at);
-    if kind == 10 {
+    if kind == rules::READ_CHARACTERISTICS {
         return question_limits(n);
     }
     setting_limits(n)

@@ -2,15 +2,16 @@
 use mathlib.Core.Path.{_≡_, sym, ap, _∙_}
 use Prim.Native.Nat.{ℕ, _≤_}
 use native.Mathlib.Omega.{arith}
-use mathlib.Core.Bool.{true}
+use mathlib.Core.Bool.{true, not}
 use mathlib.Core.List.{List}
 use lib.ListN.{length}
-use borrow.Author.Tests.{ltb-false, le-ltb}
+use borrow.Author.Tests.{ltb-false, le-ltb, not-false}
+use Rattle.rules.specs.Choice.{firstOf}
 use Rattle.rules.specs.Numbers.{messageSize, messageArea, unsound}
 use Rattle.rules.specs.Messages.Layout.{byteAt}
 use Rattle.rules.specs.Messages.Forms.{Message, formOf}
-use Rattle.rules.specs.Messages.Codec.{Outcome, refused, sound, definedKind, soundLength, soundAs, fieldsAs, read}
-use Rattle.rules.specs.Messages.Codec.{Held, kindOf, bytesOf, fitsHeld, written}
+use Rattle.rules.specs.Messages.Codec.{Outcome, refused, sound, definedKind, soundLength, soundAs, fieldsAs, readRefusals, read}
+use Rattle.rules.specs.Messages.Codec.{Held, kindOf, bytesOf, fitsHeld, writeRefusals, written}
 use Rattle.rules.proofs.Tests.{pick-true, pick-false, pick-first, pick-second}
 
 module _ {A : Type 0} where
@@ -31,24 +32,25 @@ pub record Readable (bytes : List ℕ) (m : Message ℕ) : Type 0 where
   pub fields : fieldsAs (formOf (byteAt bytes 0)) bytes ≡ m
 
 pub readable : (bytes : List ℕ) (m : Message ℕ) → read bytes ≡ sound m → Readable bytes m
-unfolding read
+unfolding read readRefusals firstOf
 readable bytes m e =
-    let l = pick-first _ refused-sound e in
-    let k = pick-first _ refused-sound (l .1) in
-    let s = pick-first _ refused-sound (k .1) in
-    record { length = l .0; kind = k .0; sound = s .0; fields = sound-same (s .1) }
+    let l = pick-second _ refused-sound e in
+    let k = pick-second _ refused-sound (l .1) in
+    let s = pick-second _ refused-sound (k .1) in
+    record { length = not-false _ (l .0); kind = not-false _ (k .0); sound = not-false _ (s .0); fields = sound-same (s .1) }
 
 pub read-sound : (bytes : List ℕ) (m : Message ℕ) → Readable bytes m → read bytes ≡ sound m
-unfolding read
-read-sound bytes m r = pick-true _ _ (r .length) ∙ pick-true _ _ (r .kind) ∙ pick-true _ _ (r .sound) ∙ ap sound (r .fields)
+unfolding read readRefusals firstOf
+read-sound bytes m r =
+    pick-false _ _ (ap not (r .length)) ∙ pick-false _ _ (ap not (r .kind)) ∙ pick-false _ _ (ap not (r .sound)) ∙ ap sound (r .fields)
 
 -- bytes of a sound length and a defined type are refused as unsound
 pub read-refused : (bytes : List ℕ) {n : ℕ} → soundLength (length bytes) ≡ true → definedKind (byteAt bytes 0) ≡ true → read bytes ≡ refused n →
     n ≡ unsound
-unfolding read
+unfolding read readRefusals firstOf
 read-refused bytes {n} size kind e =
-    let rest = sym (pick-true _ _ size ∙ pick-true _ _ kind) ∙ e in
-    refused-same (sym (pick-second _ (λ h. refused-sound (sym h)) rest .1))
+    let rest = sym (pick-false _ _ (ap not size) ∙ pick-false _ _ (ap not kind)) ∙ e in
+    refused-same (sym (pick-first _ (λ h. refused-sound (sym h)) rest .1))
 
 -- writing: its tests, and the bytes
 pub record Writable (area : ℕ) (h : Held) (b : List ℕ) : Type 0 where
@@ -59,25 +61,25 @@ pub record Writable (area : ℕ) (h : Held) (b : List ℕ) : Type 0 where
   pub bytes : bytesOf h ≡ b
 
 pub writable : (area : ℕ) (h : Held) (b : List ℕ) → written area h ≡ sound b → Writable area h b
-unfolding written
+unfolding written writeRefusals firstOf
 writable area h b e =
     let a = pick-second _ refused-sound e in
     let l = pick-second _ refused-sound (a .1) in
-    let k = pick-first _ refused-sound (l .1) in
-    let s = pick-first _ refused-sound (k .1) in
+    let k = pick-second _ refused-sound (l .1) in
+    let s = pick-second _ refused-sound (k .1) in
     record {
       room = ltb-false area messageArea (a .0);
       size = ltb-false messageSize (length (bytesOf h)) (l .0);
-      kind = k .0;
-      fits = s .0;
+      kind = not-false _ (k .0);
+      fits = not-false _ (s .0);
       bytes = sound-same (s .1);
     }
 
 pub written-sound : (area : ℕ) (h : Held) (b : List ℕ) → Writable area h b → written area h ≡ sound b
-unfolding written
+unfolding written writeRefusals firstOf
 written-sound area h b w =
     pick-false _ _ (le-ltb area messageArea (w .room)) ∙
     pick-false _ _ (le-ltb messageSize (length (bytesOf h)) (w .size)) ∙
-    pick-true _ _ (w .kind) ∙
-    pick-true _ _ (w .fits) ∙
+    pick-false _ _ (ap not (w .kind)) ∙
+    pick-false _ _ (ap not (w .fits)) ∙
     ap sound (w .bytes)

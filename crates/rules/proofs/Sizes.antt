@@ -1,7 +1,8 @@
 -- What the laws need of the sizes. Nothing else looks at their numerals.
+use mathlib.Core.Path.{_≡_, refl}
 use Prim.Native.Nat.{_+_, _*_, _≤_, _<_}
 use native.Mathlib.Omega.{arith}
-use Rattle.rules.specs.Numbers.{inputSize, typeAheadSize, tokenSize, messageSize, terminalArea, messageArea}
+use Rattle.rules.specs.Numbers.{inputSize, typeAheadSize, tokenSize, messageSize, terminalArea, messageArea, topColumn}
 
 -- rubbing out a whole buffer, three bytes for each of a character's eight marks; or one echo and a byte or two
 pub rubbing-room : 24 * inputSize + 8 ≤ terminalArea
@@ -40,3 +41,30 @@ waiting-word = omega arith
 pub area-word : messageArea < 65536
 unfolding messageArea
 area-word = omega arith
+
+-- and places in a message
+pub message-word : messageSize < 65536
+unfolding messageSize
+message-word = omega arith
+
+-- the longest message fits the area
+pub longest-room : messageSize ≤ messageArea
+unfolding messageSize messageArea
+longest-room = omega arith
+
+-- The sizes as the code has them, in src/lib.rt.
+pub input-size : inputSize ≡ 132
+unfolding inputSize
+input-size = refl
+
+pub message-size : messageSize ≡ 256
+unfolding messageSize
+message-size = refl
+
+pub message-area : messageArea ≡ 256
+unfolding messageArea
+message-area = refl
+
+pub top-column : topColumn ≡ 999
+unfolding topColumn
+top-column = refl

@@ -1,4 +1,4 @@
-// The sizes of page 01, for the crates above. specs/Numbers.antt has the same sizes under the names the rules use.
+// The numbers of page 01 and 000 for the crates above. First the sizes, as in specs/Numbers.antt.
 
 pub const INPUT: usize = 132;
 
@@ -12,4 +12,52 @@ pub const TERMINAL_AREA: usize = 4096;
 
 pub const MESSAGE_AREA: usize = 256;
 
+pub const TOP_COLUMN: u16 = 999;
+
 pub const TOP_DROPPED: u16 = 65535;
+
+// The numbers that a call answers, as in specs/Numbers.antt.
+
+pub const ACCEPTED: u8 = 0;
+
+pub const SMALL_AREA: u8 = 1;
+
+pub const WRONG_LENGTH: u8 = 2;
+
+pub const WRONG_TYPE: u8 = 3;
+
+pub const WRONG_TIME: u8 = 4;
+
+pub const UNSOUND: u8 = 5;
+
+pub const NOT_CARRIED: u8 = 6;
+
+// MSGTYPE, as in specs/Messages/Forms.antt.
+
+pub const INITIATE: u8 = 1;
+
+pub const START_READ: u8 = 2;
+
+pub const READ_DATA: u8 = 3;
+
+pub const OUT_OF_BAND: u8 = 4;
+
+pub const UNREAD: u8 = 5;
+
+pub const CLEAR_INPUT: u8 = 6;
+
+pub const WRITE: u8 = 7;
+
+pub const WRITE_COMPLETION: u8 = 8;
+
+pub const DISCARD_STATE: u8 = 9;
+
+pub const READ_CHARACTERISTICS: u8 = 10;
+
+pub const CHARACTERISTICS: u8 = 11;
+
+pub const CHECK_INPUT: u8 = 12;
+
+pub const INPUT_COUNT: u8 = 13;
+
+pub const INPUT_STATE: u8 = 14;

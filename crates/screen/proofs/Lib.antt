@@ -1,5 +1,4 @@
 -- Laws of areas, screens and echoes. Crates above cite the public ones.
-mod Tops
 mod Cases
 mod Echoes
 mod Written

@@ -8,8 +8,6 @@ ghost use Rattle.rules.specs.Screen as rules;
 ghost use Rattle.screen.specs.View.{view};
 use crate::Screen;
 
-const TOP_COLUMN: u32 = 999;
-
 // A mark or a space: what takes a column.
 pub(crate) fn is_mark(b: u8) -> bool
     ensures { λ r. ⌜ r ≡ rules.isMark b ⌝ }
@@ -29,10 +27,10 @@ pub(crate) fn further(column: u16, by: u16) -> u16
     ensures { λ r. ⌜ r ≡ min topColumn (column + by) ⌝ }
 {
     let sum = column as u32 + by as u32;
-    if sum < TOP_COLUMN {
+    if sum < rules::TOP_COLUMN as u32 {
         return sum as u16;
     }
-    TOP_COLUMN as u16
+    rules::TOP_COLUMN
 }
 
 // The column after a byte.

@@ -13,24 +13,24 @@ use Rattle.rules.specs.Messages.Codec.{allBytes, definedFields, fitsTail, fitsA
 use Rattle.rules.specs.Numbers.{inputSize}
 use Rattle.rules.specs.StartRead.{soundStartRead}
 use Rattle.rules.proofs.Tests.{both, all-split}
-use Rattle.message.specs.declared.Part.{Part}
+use Rattle.message.specs.declared.Span.{Span}
 use Rattle.message.specs.declared.Message.{Message}
 use Rattle.message.specs.declared.Message.the-variants.{StartRead, OutOfBand, Unread, WriteCompletion, DiscardState, InputCount, InputState}
 use Rattle.message.specs.declared.StartReadFields.{StartReadFields}
-use Rattle.message.specs.Found.{partOf, heldIn, startReadIn, textMessage}
+use Rattle.message.specs.Found.{spanOf, heldIn, startReadIn, textMessage}
 use Rattle.writing.specs.Fits.{FitsIn}
-use Rattle.writing.specs.Parts.{partsOf}
-use Rattle.writing.proofs.Lengths.{parts-length}
+use Rattle.writing.specs.Spans.{spansOf}
+use Rattle.writing.proofs.Lengths.{spans-length}
 
--- the bytes of a slice are bytes, and so are those of a part
+-- the bytes of a slice are bytes, and so are those of a span
 pub bytes-all : (s : List ℕ) → ((i : ℕ) → byteAt s i < 256) → allBytes s ≡ true
 unfolding allBytes allAre
 bytes-all [] h = refl
 bytes-all (b ∷ s) h = both (lt-ltb b 256 (h zero)) (bytes-all s (λ i. h (suc i)))
 
-pub part-bytes : (s : List ℕ) (p : Part) → allBytes s ≡ true → allBytes (partOf s p) ≡ true
-unfolding allBytes partOf
-part-bytes s p h = all-split (λ b. ltb b 256) (p .len) _ (all-split (λ b. ltb b 256) (p .start) s h .1) .0
+pub span-bytes : (s : List ℕ) (p : Span) → allBytes s ≡ true → allBytes (spanOf s p) ≡ true
+unfolding allBytes spanOf
+span-bytes s p h = all-split (λ b. ltb b 256) (p .len) _ (all-split (λ b. ltb b 256) (p .start) s h .1) .0
 
 -- a message by its case
 pub fits-as : (s : List ℕ) {m n : Message} {t : Bool} → m ≡ n → FitsIn s n t → FitsIn s m t
@@ -88,17 +88,17 @@ pub twelve : (a b c d e f g h i j k l : Bool) {r : Bool} → r ≡ true →
     a && (b && (c && (d && (e && (f && (g && (h && (i && (j && (k && (l && r)))))))))))
 twelve a b c d e f g h i j k l r = rw r (simp (and-true, and-assoc))
 
--- Start Read, by the lengths of its parts
+-- Start Read, by the lengths of its spans
 pub start-read-fits : (s : List ℕ) (f : StartReadFields) → allBytes s ≡ true → {flags sound : Bool} →
     flags ≡ fits (widthsOf (formOf 2 .head)) (startReadIn [] f .numbers) →
-    (length (partOf s (f .text)) ≡ f .text .len → sound ≡ soundStartRead inputSize (startReadIn s f)) →
+    (length (spanOf s (f .text)) ≡ f .text .len → sound ≡ soundStartRead inputSize (startReadIn s f)) →
     FitsIn s (StartRead f) (flags && leb (f .set .len) 32 && sound)
-unfolding heldIn partsOf fitsHeld fitsAs fitsTail definedFields pick isEmpty startReadIn formOf forms
+unfolding heldIn spansOf fitsHeld fitsAs fitsTail definedFields pick isEmpty startReadIn formOf forms
 start-read-fits s f bytes flags test =
     record {
       same =
           λ e.
-          let long = parts-length s (partsOf (StartRead f)) e in
+          let long = spans-length s (spansOf (StartRead f)) e in
           ap₂ _&&_ (ap₂ _&&_ flags (ap (λ k. leb k 32) (sym (long .1)))) (test (long .2)) ∙
-          simp (part-bytes s (f .set) bytes, part-bytes s (f .text) bytes, and-true);
+          simp (span-bytes s (f .set) bytes, span-bytes s (f .text) bytes, and-true);
     }

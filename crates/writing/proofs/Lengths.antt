@@ -1,4 +1,4 @@
--- How long messages are: by their forms, and by the lengths of their parts.
+-- How long messages are: by their forms, and by the lengths of their spans.
 use mathlib.Core.Path.{_≡_, refl, sym, ap, ap₂, _∙_}
 use Prim.Native.Nat.{ℕ, zero, suc, _+_, _-_, _%_, _<_, _≤_}
 use native.Mathlib.Nat.{mod-eq-of-lt}
@@ -20,17 +20,17 @@ use Rattle.rules.specs.Messages.Codec.{tailBytes, bytesAs, bytesOf}
 use Rattle.rules.proofs.Tests.{both, quarters, all-cons}
 use Rattle.rules.proofs.Fields.{length-writeGroups}
 use Rattle.rules.proofs.ParameterLists.{joined-cut}
-use Rattle.message.specs.declared.Part.{Part}
+use Rattle.message.specs.declared.Span.{Span}
 use Rattle.message.specs.declared.Message.{Message}
 use Rattle.message.specs.declared.Message.the-variants.{Initiate, StartRead, ReadData, OutOfBand, Unread, ClearInput, Write}
 use Rattle.message.specs.declared.Message.the-variants.{WriteCompletion, DiscardState, ReadCharacteristics, Characteristics}
 use Rattle.message.specs.declared.Message.the-variants.{CheckInput, InputCount, InputState, Other}
-use Rattle.message.specs.Found.{partOf, parametersOf, startReadIn, heldIn, placesOf, lies, allLie}
+use Rattle.message.specs.Found.{spanOf, parametersOf, startReadIn, heldIn, placesOf, lies, allLie}
 use Rattle.parameters.proofs.Walk.{size-taken, size-least}
 use Rattle.fronts.specs.Front.{frontTail, frontBytes}
-use Rattle.writing.specs.Parts as parts
-use Rattle.writing.specs.declared.parts.Parts.{Parts}
-use Rattle.writing.specs.Parts.{partsOf, inside}
+use Rattle.writing.specs.Spans as spans
+use Rattle.writing.specs.declared.spans.Spans.{Spans}
+use Rattle.writing.specs.Spans.{spansOf, inside}
 use Rattle.writing.specs.Framed.{Sendable}
 
 -- A parameter list: cleaning keeps the length, whole or not.
@@ -81,14 +81,14 @@ form-length f x =
     omega arith
 
 module _ (s : List ℕ) where
-  -- by the bytes that there are of its parts
-  abbrev sizeIn : Parts → ℕ
-  sizeIn p = p .head + length (partOf s (p .list)) + length (partOf s (p .set)) + length (partOf s (p .text))
+  -- by the bytes that there are of its spans
+  abbrev sizeIn : Spans → ℕ
+  sizeIn p = p .head + length (spanOf s (p .list)) + length (spanOf s (p .set)) + length (spanOf s (p .text))
 
-  listed : (kind head : ℕ) (shape : Shape) (p : Part) (x : forms.Message ℕ) → formOf kind .tail ≡ list shape →
+  listed : (kind head : ℕ) (shape : Shape) (p : Span) (x : forms.Message ℕ) → formOf kind .tail ≡ list shape →
       1 + layout.sizeOf (formOf kind .head) ≡ head → x .parameters ≡ parametersOf shape s p →
-      length (bytesAs (formOf kind) x) ≡ sizeIn (parts.withList kind head p)
-  unfolding tailBytes parametersOf partOf
+      length (bytesAs (formOf kind) x) ≡ sizeIn (spans.withList kind head p)
+  unfolding tailBytes parametersOf spanOf
   listed kind head shape p x is size e =
       let f = form-length (formOf kind) x in
       let tail : length (tailBytes (formOf kind .tail) x) ≡ length (joined (x .parameters)) = ap (λ t. length (tailBytes t x)) is in
@@ -96,12 +96,12 @@ module _ (s : List ℕ) where
       let l = list-length shape (take (p .len) (drop (p .start) s)) in
       omega arith
 
-  pub held-length : (m : Message) → length (bytesOf (heldIn s m)) ≡ sizeIn (partsOf m)
-  unfolding heldIn startReadIn bytesOf partsOf formOf forms.forms layout.sizeOf tailBytes partOf
+  pub held-length : (m : Message) → length (bytesOf (heldIn s m)) ≡ sizeIn (spansOf m)
+  unfolding heldIn startReadIn bytesOf spansOf formOf forms.forms layout.sizeOf tailBytes spanOf
   held-length (Initiate f) = listed 1 13 initiation (f .parameters) _ refl refl refl
   held-length (StartRead f) =
       let l = form-length (formOf 2) (startReadIn s f) in
-      let n = length-append (partOf s (f .set)) (partOf s (f .text)) in
+      let n = length-append (spanOf s (f .set)) (spanOf s (f .text)) in
       omega arith
   held-length (ReadData f) = form-length (formOf 3) _
   held-length (OutOfBand discard character) = form-length (formOf 4) _
@@ -117,51 +117,51 @@ module _ (s : List ℕ) where
   held-length (InputState nonzero) = form-length (formOf 14) _
   held-length (Other kind body) = omega arith
 
-  -- Where the parts lie in the slice, their own lengths say it.
-  part-length : (p : Part) → lies (length s) p ≡ true → length (partOf s p) ≡ p .len
-  unfolding partOf
-  part-length p e =
+  -- Where the spans lie in the slice, their own lengths say it.
+  span-length : (p : Span) → lies (length s) p ≡ true → length (spanOf s p) ≡ p .len
+  unfolding spanOf
+  span-length p e =
       let h = leb-true (p .start + p .len) (length s) e in
       let d = length-drop (p .start) s in
       length-take-le (p .len) (drop (p .start) s) (omega arith)
 
-  pub parts-length : (p : Parts) → inside (length s) p ≡ true →
-      (length (partOf s (p .list)) ≡ p .list .len) × (length (partOf s (p .set)) ≡ p .set .len) ×
-      (length (partOf s (p .text)) ≡ p .text .len) × (length (partOf s (p .revision)) ≡ p .revision .len)
+  pub spans-length : (p : Spans) → inside (length s) p ≡ true →
+      (length (spanOf s (p .list)) ≡ p .list .len) × (length (spanOf s (p .set)) ≡ p .set .len) ×
+      (length (spanOf s (p .text)) ≡ p .text .len) × (length (spanOf s (p .revision)) ≡ p .revision .len)
   unfolding inside
-  parts-length p e =
+  spans-length p e =
       let n = length s in
       let h = quarters (lies n (p .list)) (lies n (p .set)) (lies n (p .text)) (lies n (p .revision)) e in
-      (part-length (p .list) (h .0), part-length (p .set) (h .1), part-length (p .text) (h .2), part-length (p .revision) (h .3))
+      (span-length (p .list) (h .0), span-length (p .set) (h .1), span-length (p .text) (h .2), span-length (p .revision) (h .3))
 
-  pub inside-length : (m : Message) → inside (length s) (partsOf m) ≡ true → parts.sizeOf (partsOf m) ≡ length (bytesOf (heldIn s m))
+  pub inside-length : (m : Message) → inside (length s) (spansOf m) ≡ true → spans.sizeOf (spansOf m) ≡ length (bytesOf (heldIn s m))
   inside-length m e =
-      let h = parts-length (partsOf m) e in
+      let h = spans-length (spansOf m) e in
       let list = h .0 in
       let set = h .1 in
       let text = h .2 in
       omega (arith, held-length m)
 
--- Where every part of a message lies in the slice, so do the four that it is written by.
+-- Where every span of a message lies in the slice, so do the four that it is written by.
 module _ (size : ℕ) where
-  abbrev Lies : Part → Type 0
+  abbrev Lies : Span → Type 0
   Lies p = lies size p ≡ true
 
-  none-lies : Lies parts.none
+  none-lies : Lies spans.none
   none-lies = le-leb 0 size (omega arith)
 
-  four-lie : (p : Parts) → Lies (p .list) → Lies (p .set) → Lies (p .text) → Lies (p .revision) → inside size p ≡ true
+  four-lie : (p : Spans) → Lies (p .list) → Lies (p .set) → Lies (p .text) → Lies (p .revision) → inside size p ≡ true
   unfolding inside
   four-lie p l s t r = both (both (both l s) t) r
 
-  first-lies : (p : Part) (ps : List Part) → allAre (lies size) (p ∷ ps) ≡ true → Lies p
+  first-lies : (p : Span) (ps : List Span) → allAre (lies size) (p ∷ ps) ≡ true → Lies p
   first-lies p ps e = all-cons (lies size) p ps e .0
 
-  bare-inside : (kind head : ℕ) → inside size (parts.bare kind head) ≡ true
+  bare-inside : (kind head : ℕ) → inside size (spans.bare kind head) ≡ true
   bare-inside kind head = four-lie _ none-lies none-lies none-lies none-lies
 
-  pub all-inside : (m : Message) → allLie size m ≡ true → inside size (partsOf m) ≡ true
-  unfolding placesOf partsOf
+  pub all-inside : (m : Message) → allLie size m ≡ true → inside size (spansOf m) ≡ true
+  unfolding placesOf spansOf
   all-inside (Initiate f) e =
       let h = all-cons (lies size) (f .revision) (f .parameters ∷ []) e in
       four-lie _ (first-lies (f .parameters) [] (h .1)) none-lies none-lies (h .0)
@@ -197,7 +197,7 @@ module _ {s : List ℕ} {m : Message} {x : forms.Message ℕ} (h : Sendable s m 
       ap frontBytes (h .held) ∙
       ap (λ t. x .kind ∷ (writeGroups (formOf (x .kind) .head) (x .numbers) ++ t)) (same-tail (formOf (x .kind) .tail))
 
-  pub sent-framed : layout.bytesOf 2 (parts.sizeOf (partsOf m)) ++ frontBytes (heldIn s m) ≡ framed (sentBytes x)
+  pub sent-framed : layout.bytesOf 2 (spans.sizeOf (spansOf m)) ++ frontBytes (heldIn s m) ≡ framed (sentBytes x)
   unfolding framed sentBytes bytesOf
   sent-framed =
       ap₂ (λ n b. layout.bytesOf 2 n ++ b) (inside-length s m (h .lie) ∙ ap (λ y. length (bytesOf y)) (h .held)) sent-front

@@ -16,11 +16,11 @@ use Rattle.rules.specs.Messages.Codec.{allBytes, definedFields, fitsTail, fitsA
 use Rattle.rules.proofs.Tests.{both, halves, pick-same, all-cons, all-joined}
 use Rattle.rules.proofs.ParameterLists.{Cleanable, initiation-cleanable, question-cleanable, setting-cleanable}
 use Rattle.rules.proofs.ParameterLists.{joined-cut, limits-cleaned, selector-cleaned, count-cleaned, cut-cleaned-fits, cut-cleaned-sound}
-use Rattle.message.specs.declared.Part.{Part}
-use Rattle.message.specs.Found.{partOf, parametersOf, listMessage}
+use Rattle.message.specs.declared.Span.{Span}
+use Rattle.message.specs.Found.{spanOf, parametersOf, listMessage}
 use Rattle.parameters.specs.Lists.{shapeOf, soundFrom}
 use Rattle.writing.proofs.Lengths.{cut-short, cleaned-length}
-use Rattle.writing.proofs.Fitting.{part-bytes}
+use Rattle.writing.proofs.Fitting.{span-bytes}
 
 -- What is defined stays so when unused bits are cleared, and the other way round.
 abbrev Keeps : Shape → Type 0
@@ -94,21 +94,21 @@ run-fits (suc n) (b ∷ l) e =
     suc-eqb (length l) n ∙ rw (h .0) (run-fits n l (h .1))
 
 -- The three messages with a list.
-module _ (s : List ℕ) (p : Part) (bytes : allBytes s ≡ true) where
-  pub question-fits : soundFrom 10 0 (partOf s p) ≡ fitsHeld (listMessage 10 [] (parametersOf question s p))
+module _ (s : List ℕ) (p : Span) (bytes : allBytes s ≡ true) where
+  pub question-fits : soundFrom 10 0 (spanOf s p) ≡ fitsHeld (listMessage 10 [] (parametersOf question s p))
   unfolding soundFrom shapeOf fitsHeld fitsAs formOf forms widthsOf fits fitsTail definedFields pick isEmpty parametersOf
-  question-fits = simp (list-fits question question-cleanable question-keeps (partOf s p) (part-bytes s p bytes), and-true)
+  question-fits = simp (list-fits question question-cleanable question-keeps (spanOf s p) (span-bytes s p bytes), and-true)
 
-  pub setting-fits : soundFrom 11 0 (partOf s p) ≡ fitsHeld (listMessage 11 [] (parametersOf setting s p))
+  pub setting-fits : soundFrom 11 0 (spanOf s p) ≡ fitsHeld (listMessage 11 [] (parametersOf setting s p))
   unfolding soundFrom shapeOf fitsHeld fitsAs formOf forms widthsOf fits fitsTail definedFields pick isEmpty parametersOf
-  setting-fits = simp (list-fits setting setting-cleanable setting-keeps (partOf s p) (part-bytes s p bytes), and-true)
+  setting-fits = simp (list-fits setting setting-cleanable setting-keeps (spanOf s p) (span-bytes s p bytes), and-true)
 
-  pub initiate-fits : {v e m n : ℕ} (revision : Part) → v < 256 → e < 256 → m < 256 → {t : Bool} → n ≡ length (partOf s revision) →
-      t ≡ soundFrom 1 0 (partOf s p) →
-      eqb n 8 && t ≡ fitsHeld (listMessage 1 (v ∷ e ∷ m ∷ partOf s revision) (parametersOf initiation s p))
+  pub initiate-fits : {v e m n : ℕ} (revision : Span) → v < 256 → e < 256 → m < 256 → {t : Bool} → n ≡ length (spanOf s revision) →
+      t ≡ soundFrom 1 0 (spanOf s p) →
+      eqb n 8 && t ≡ fitsHeld (listMessage 1 (v ∷ e ∷ m ∷ spanOf s revision) (parametersOf initiation s p))
   unfolding soundFrom shapeOf fitsHeld fitsAs formOf forms widthsOf fits fitsTail definedFields pick isEmpty parametersOf
   initiate-fits {v} {e} {m} revision v< e< m< size whole =
-      let eight = ap (λ k. eqb k 8) size ∙ run-fits 8 (partOf s revision) (part-bytes s revision bytes) in
-      let list = list-fits initiation initiation-cleanable initiation-keeps (partOf s p) (part-bytes s p bytes) in
+      let eight = ap (λ k. eqb k 8) size ∙ run-fits 8 (spanOf s revision) (span-bytes s revision bytes) in
+      let list = list-fits initiation initiation-cleanable initiation-keeps (spanOf s p) (span-bytes s p bytes) in
       ap₂ _&&_ eight (whole ∙ list) ∙
       simp (lt-ltb v 256 v<, lt-ltb e 256 e<, lt-ltb m 256 m<, and-true, and-assoc)

@@ -3,13 +3,13 @@ use mathlib.Core.Path.{_≡_, refl, sym, ap, ap₂, _∙_}
 use Prim.Native.Nat.{ℕ, zero, suc, _+_, _*_, _%_, _≤_}
 use native.Mathlib.Nat.{mod-eq-of-lt}
 use native.Mathlib.Omega.{arith}
-use mathlib.Core.Bool.{Bool, true, false, _&&_, false≢true}
+use mathlib.Core.Bool.{Bool, true, false, not, _&&_, false≢true}
 use mathlib.Core.List.{List, [], _∷_, _++_, map, zipWith, append-nil}
 use lib.Dec.{leb, ltb, eqb}
 use lib.ListN.{length, take, drop, replicate}
 use lib.Seq.{take-append-seam}
 use borrow.Author.Tests.{ltb-true, ltb-false, leb-true, eqb-true}
-use Rattle.rules.specs.Choice.{pick, isEmpty, allAre, joined}
+use Rattle.rules.specs.Choice.{pick, Row, firstOf, isEmpty, allAre, joined}
 use Rattle.rules.specs.Numbers.{messageSize, messageArea, accepted, smallArea, wrongLength, wrongType, unsound}
 use Rattle.rules.specs.Calls.{areaAfter}
 use Rattle.rules.specs.Messages.Layout.{widthsOf, fits, writeGroups}
@@ -18,8 +18,9 @@ use Rattle.rules.specs.Messages.Parameters as parameters
 use Rattle.rules.specs.Messages.Forms as forms
 use Rattle.rules.specs.Messages.Forms.{formOf, text, setAndText, list}
 use Rattle.rules.specs.Messages.Codec.{Outcome, refused, sound, Held, message, other, allBytes, definedKind, definedFields, fitsTail, fitsAs, fitsHeld}
-use Rattle.rules.specs.Messages.Codec.{tailBytes, bytesAs, bytesOf, kindOf, read, written}
+use Rattle.rules.specs.Messages.Codec.{tailBytes, bytesAs, bytesOf, kindOf, read, writeRefusals, written}
 use Rattle.rules.proofs.Tests.{halves, thirds, quarters, pick-true, pick-false, pick-case, all-cons, all-joined}
+use Rattle.rules.proofs.Sizes.{longest-room}
 use Rattle.rules.proofs.Areas.{puts-front}
 use Rattle.rules.proofs.Outcomes.{refused-sound, sound-same}
 use Rattle.rules.proofs.RoundTrip.{round-trip}
@@ -31,19 +32,19 @@ use Rattle.message.specs.declared.Message.the-variants.{WriteCompletion, Discar
 use Rattle.message.specs.declared.Message.the-variants.{CheckInput, InputCount, InputState, Other}
 use Rattle.message.specs.declared.Found.{Found}
 use Rattle.message.specs.declared.Found.the-variants as variants
-use Rattle.message.specs.Found.{Finds, partOf, parametersOf, startReadIn, heldIn, asHeld, foundIn, foundInside}
+use Rattle.message.specs.Found.{Finds, spanOf, parametersOf, startReadIn, heldIn, asHeld, foundIn, foundInside}
 use Rattle.parameters.specs.Lists.{soundFrom}
 use Rattle.parameters.proofs.Shapes.{is-setting}
 use Rattle.message.proofs.Lists.{list-from}
 use Rattle.writing.specs.declared.Written.{Written}
 use Rattle.areas.specs.Puts.{Puts}
 use Rattle.fronts.specs.Front.{frontTail, frontBytes}
-use Rattle.writing.specs.declared.parts.Parts.{Parts}
-use Rattle.writing.specs.Parts.{partsOf, sizeOf, inside, listBytes}
+use Rattle.writing.specs.declared.spans.Spans.{Spans}
+use Rattle.writing.specs.Spans.{spansOf, sizeOf, inside, listBytes}
 use Rattle.writing.specs.Fits.{FitsIn}
 use Rattle.writing.specs.Writing.{Answers, firstRefusal, writing, again, copied, numberIn, bytesIn}
 use Rattle.writing.proofs.Lengths.{cut-short, inside-length, all-inside}
-use Rattle.writing.proofs.Fitting.{part-bytes}
+use Rattle.writing.proofs.Fitting.{span-bytes}
 use Rattle.writing.proofs.WholeLists.{setting-fits}
 
 -- A refusal leaves the area as it was.
@@ -123,9 +124,9 @@ full-question : (n : ℕ) → full (questionLimits n) ≡ true
 unfolding questionLimits full allAre
 full-question n = pick-case (λ ls. full ls ≡ true) _ (λ y. refl) (λ n. refl)
 
--- A message that fits: its type, its list and its bytes, by its parts.
-pub kind-held : (s : List ℕ) (m : Message) → partsOf m .kind ≡ kindOf (heldIn s m)
-unfolding partsOf kindOf heldIn startReadIn
+-- A message that fits: its type, its list and its bytes, by its spans.
+pub kind-held : (s : List ℕ) (m : Message) → spansOf m .kind ≡ kindOf (heldIn s m)
+unfolding spansOf kindOf heldIn startReadIn
 kind-held s (Initiate f) = refl
 kind-held s (StartRead f) = refl
 kind-held s (ReadData f) = refl
@@ -151,8 +152,8 @@ listed-bytes : (kind : ℕ) (numbers : List ℕ) {xs ys : List ℕ} → xs ≡ y
 listed-bytes kind numbers e = ap₂ (λ w y. kind ∷ (w ++ y)) (append-nil (writeGroups (formOf kind .head) numbers)) e
 
 module _ (s : List ℕ) (bytes : allBytes s ≡ true) where
-  pub list-whole : (m : Message) → fitsHeld (heldIn s m) ≡ true → partsOf m .kind ≡ 11 → soundFrom 11 0 (partOf s (partsOf m .list)) ≡ true
-  unfolding partsOf fitsHeld heldIn
+  pub list-whole : (m : Message) → fitsHeld (heldIn s m) ≡ true → spansOf m .kind ≡ 11 → soundFrom 11 0 (spanOf s (spansOf m .list)) ≡ true
+  unfolding spansOf fitsHeld heldIn
   list-whole (Initiate f) e k = absurd (omega arith)
   list-whole (StartRead f) e k = absurd (omega arith)
   list-whole (ReadData f) e k = absurd (omega arith)
@@ -167,27 +168,27 @@ module _ (s : List ℕ) (bytes : allBytes s ≡ true) where
   list-whole CheckInput e k = absurd (omega arith)
   list-whole (InputCount count) e k = absurd (omega arith)
   list-whole (InputState nonzero) e k = absurd (omega arith)
-  list-whole (Other kind body) e k = absurd (never-other kind (partOf s body) e)
+  list-whole (Other kind body) e k = absurd (never-other kind (spanOf s body) e)
 
-  set-count : (f : StartReadFields) → fitsHeld (message (startReadIn s f)) ≡ true → length (partOf s (f .set)) % 256 ≡ length (partOf s (f .set))
+  set-count : (f : StartReadFields) → fitsHeld (message (startReadIn s f)) ≡ true → length (spanOf s (f .set)) % 256 ≡ length (spanOf s (f .set))
   unfolding fitsHeld fitsAs fitsTail formOf forms.forms startReadIn
   set-count f e =
-      let set = partOf s (f .set) in
+      let set = spanOf s (f .set) in
       let x = startReadIn s f in
       let t = thirds (fits (widthsOf (formOf 2 .head)) (x .numbers)) (fitsTail setAndText x) (definedFields x) e in
-      let q = quarters (leb (length set) 32) (allBytes set) (isEmpty (x .parameters)) (allBytes (partOf s (f .text))) (t .1) in
+      let q = quarters (leb (length set) 32) (allBytes set) (isEmpty (x .parameters)) (allBytes (spanOf s (f .text))) (t .1) in
       let h = leb-true (length set) 32 (q .0) in
       mod-eq-of-lt (omega arith)
 
   pub whole-bytes : (m : Message) → fitsHeld (heldIn s m) ≡ true →
-      frontBytes (heldIn s m) ++ listBytes (partsOf m .kind) (partOf s (partsOf m .list)) ≡ bytesOf (heldIn s m)
-  unfolding frontBytes bytesOf bytesAs frontTail tailBytes listBytes partsOf heldIn startReadIn formOf forms.forms pick partOf parametersOf
+      frontBytes (heldIn s m) ++ listBytes (spansOf m .kind) (spanOf s (spansOf m .list)) ≡ bytesOf (heldIn s m)
+  unfolding frontBytes bytesOf bytesAs frontTail tailBytes listBytes spansOf heldIn startReadIn formOf forms.forms pick spanOf parametersOf
   whole-bytes (Initiate f) e =
-      listed-bytes 1 (f .version ∷ f .eco ∷ f .modification ∷ partOf s (f .revision))
-      (own-bytes initiation (λ low high. full-replicate high) (partOf s (f .parameters)) (part-bytes s (f .parameters) bytes))
+      listed-bytes 1 (f .version ∷ f .eco ∷ f .modification ∷ spanOf s (f .revision))
+      (own-bytes initiation (λ low high. full-replicate high) (spanOf s (f .parameters)) (span-bytes s (f .parameters) bytes))
   whole-bytes (StartRead f) e =
       append-nil _ ∙
-      ap (λ n. 2 ∷ (writeGroups (formOf 2 .head) (startReadIn s f .numbers) ++ n ∷ (partOf s (f .set) ++ partOf s (f .text)))) (set-count f e)
+      ap (λ n. 2 ∷ (writeGroups (formOf 2 .head) (startReadIn s f .numbers) ++ n ∷ (spanOf s (f .set) ++ spanOf s (f .text)))) (set-count f e)
   whole-bytes (ReadData f) e = append-nil _
   whole-bytes (OutOfBand discard character) e = append-nil _
   whole-bytes (Unread condition) e = append-nil _
@@ -196,32 +197,33 @@ module _ (s : List ℕ) (bytes : allBytes s ≡ true) where
   whole-bytes (WriteCompletion lost horizontal vertical) e = append-nil _
   whole-bytes (DiscardState kept) e = append-nil _
   whole-bytes (ReadCharacteristics p) e =
-      listed-bytes 10 [] (own-bytes question (λ low high. full-question (low + 256 * high)) (partOf s p) (part-bytes s p bytes))
+      listed-bytes 10 [] (own-bytes question (λ low high. full-question (low + 256 * high)) (spanOf s p) (span-bytes s p bytes))
   whole-bytes (Characteristics p) e =
       listed-bytes 11 [] (ap joined (sym (list-from 11 (is-setting (λ q. omega arith) (λ q. omega arith)) s p)))
   whole-bytes CheckInput e = append-nil _
   whole-bytes (InputCount count) e = append-nil _
   whole-bytes (InputState nonzero) e = append-nil _
-  whole-bytes (Other kind body) e = absurd (never-other kind (partOf s body) e)
+  whole-bytes (Other kind body) e = absurd (never-other kind (spanOf s body) e)
 
 -- The rows, in their order.
 abbrev rows : ℕ → ℕ → ℕ → Bool → Outcome (List ℕ) → Outcome (List ℕ)
-rows area size kind fits x =
-    pick (ltb area messageArea) (refused smallArea)
-    (pick (ltb messageSize size) (refused wrongLength)
-    (pick (definedKind kind) (pick fits x (refused unsound)) (refused wrongType)))
+rows area size kind passes x = firstOf refused x (writeRefusals area size kind passes)
 
-row-of : (a l k f : Bool) {n : ℕ} → n ≡ pick a 1 (pick l 2 (pick k (pick f 0 5) 3)) → (n ≡ 0 → ⊥) → (x : Outcome (List ℕ)) →
-    pick a (refused 1) (pick l (refused 2) (pick k (pick f x (refused 5)) (refused 3))) ≡ refused n
+-- the number of the first row that applies is the number of the refusal
+row-step : (t : Bool) {n : ℕ} (k : ℕ) {rest : ℕ} {y : Outcome (List ℕ)} → (n ≡ rest → y ≡ refused n) → n ≡ pick t k rest →
+    pick t (refused k) y ≡ refused n
 unfolding pick
-row-of true l k f e z x = ap refused (sym e)
-row-of false true k f e z x = ap refused (sym e)
-row-of false false false f e z x = ap refused (sym e)
-row-of false false true false e z x = ap refused (sym e)
-row-of false false true true e z x = absurd (z e)
+row-step true k behind e = ap refused (sym e)
+row-step false k behind e = behind e
 
-all-passed : (a l k f : Bool) {n : ℕ} → n ≡ pick a 1 (pick l 2 (pick k (pick f 0 5) 3)) → n ≡ 0 →
-    (a ≡ false) × (l ≡ false) × (k ≡ true) × (f ≡ true)
+row-of : (table : List Row) {n : ℕ} → n ≡ firstOf (λ k. k) accepted table → (n ≡ accepted → ⊥) → (x : Outcome (List ℕ)) →
+    firstOf refused x table ≡ refused n
+unfolding firstOf
+row-of [] e z x = absurd (z e)
+row-of (r ∷ table) e z x = row-step (r .applies) (r .number) (λ k. row-of table k z x) e
+
+all-passed : (a l k f : Bool) {n : ℕ} → n ≡ pick a smallArea (pick l wrongLength (pick (not k) wrongType (pick (not f) unsound accepted))) →
+    n ≡ accepted → (a ≡ false) × (l ≡ false) × (k ≡ true) × (f ≡ true)
 unfolding pick
 all-passed true l k f e z = absurd (omega arith)
 all-passed false true k f e z = absurd (omega arith)
@@ -232,94 +234,94 @@ all-passed false false true true e z = (refl, refl, refl, refl)
 module _ (area size kind : ℕ) (fits : Bool) {n : ℕ} (e : n ≡ firstRefusal area size kind fits) where
   rows-refused : (n ≡ 0 → ⊥) → (x : Outcome (List ℕ)) → rows area size kind fits x ≡ refused n
   unfolding firstRefusal
-  rows-refused z x = row-of (ltb area messageArea) (ltb messageSize size) (definedKind kind) fits e z x
+  rows-refused z x = row-of (writeRefusals area size kind fits) e z x
 
   module _ (z : n ≡ 0) where
     tests : (ltb area messageArea ≡ false) × (ltb messageSize size ≡ false) × (definedKind kind ≡ true) × (fits ≡ true)
-    unfolding firstRefusal
+    unfolding firstRefusal writeRefusals firstOf
     tests = all-passed (ltb area messageArea) (ltb messageSize size) (definedKind kind) fits e z
 
     rows-passed : (x : Outcome (List ℕ)) → rows area size kind fits x ≡ x
+    unfolding writeRefusals firstOf
     rows-passed x =
-        pick-false _ _ (tests .0) ∙ pick-false _ _ (tests .1) ∙ pick-true _ _ (tests .2) ∙ pick-true _ _ (tests .3)
+        pick-false _ _ (tests .0) ∙ pick-false _ _ (tests .1) ∙ pick-false _ _ (ap not (tests .2)) ∙ pick-false _ _ (ap not (tests .3))
 
     rows-room : size ≤ area
-    unfolding messageArea messageSize
-    rows-room = omega (arith, ltb-false area 256 (tests .0), ltb-false 256 size (tests .1))
+    rows-room = omega (arith, longest-room, ltb-false area messageArea (tests .0), ltb-false messageSize size (tests .1))
 
--- Where every part lies in the slice, the rows are the definition's own.
+-- Where every span lies in the slice, the rows are the definition's own.
 same-rows : {A : Type 0} (a l k : Bool) (one two three five x : A) →
-    pick a one (pick l two (pick k (pick true (pick a one (pick l two (pick k x three))) five) three)) ≡ pick a one (pick l two (pick k x three))
+    pick a one (pick l two (pick k three (pick false five (pick a one (pick l two (pick k three x)))))) ≡ pick a one (pick l two (pick k three x))
 unfolding pick
 same-rows true l k one two three five x = refl
 same-rows false true k one two three five x = refl
 same-rows false false true one two three five x = refl
 same-rows false false false one two three five x = refl
 
-writing-inside : (area : ℕ) (s : List ℕ) (m : Message) → inside (length s) (partsOf m) ≡ true → writing area s m ≡ written area (heldIn s m)
-unfolding writing written
+writing-inside : (area : ℕ) (s : List ℕ) (m : Message) → inside (length s) (spansOf m) ≡ true → writing area s m ≡ written area (heldIn s m)
+unfolding writing written writeRefusals firstOf
 writing-inside area s m e =
     rw (e, inside-length s m e, kind-held s m)
-    (same-rows (ltb area messageArea) (ltb messageSize (length (bytesOf (heldIn s m)))) (definedKind (kindOf (heldIn s m))) _ _ _ _ _)
+    (same-rows (ltb area messageArea) (ltb messageSize (length (bytesOf (heldIn s m)))) (not (definedKind (kindOf (heldIn s m)))) _ _ _ _ _)
 
--- The same rows, by the test of its parts and the test of its fields together.
+-- The same rows, by the test of its spans and the test of its fields together.
 written-rows : (area : ℕ) (h : Held) {size kind : ℕ} → length (bytesOf h) ≡ size → kindOf h ≡ kind →
     written area h ≡ rows area size kind (fitsHeld h) (sound (bytesOf h))
 unfolding written
 written-rows area h long is = λ i. rows area (long i) (is i) (fitsHeld h) (sound (bytesOf h))
 
-outside-rows : (area : ℕ) (s : List ℕ) (m : Message) (x : Outcome (List ℕ)) → inside (length s) (partsOf m) ≡ false →
-    writing area s m ≡ rows area (sizeOf (partsOf m)) (partsOf m .kind) false x
-unfolding writing pick
+outside-rows : (area : ℕ) (s : List ℕ) (m : Message) (x : Outcome (List ℕ)) → inside (length s) (spansOf m) ≡ false →
+    writing area s m ≡ rows area (sizeOf (spansOf m)) (spansOf m .kind) false x
+unfolding writing writeRefusals firstOf pick
 outside-rows area s m x e = rw e refl
 
 -- What the code finds of a message.
-module _ (area : ℕ) (s : List ℕ) (m : Message) {p : Parts} (is : p ≡ partsOf m) {size : ℕ} (sized : size ≡ sizeOf p)
+module _ (area : ℕ) (s : List ℕ) (m : Message) {p : Spans} (is : p ≡ spansOf m) {size : ℕ} (sized : size ≡ sizeOf p)
     {lie fits : Bool} (lies : lie ≡ inside (length s) p) (fit : FitsIn s m fits)
     {n : ℕ} (e : n ≡ firstRefusal area size (p .kind) (lie && fits)) where
   abbrev held : Held
   held = heldIn s m
 
   abbrev lying : Bool
-  lying = inside (length s) (partsOf m)
+  lying = inside (length s) (spansOf m)
 
-  own : n ≡ firstRefusal area (sizeOf (partsOf m)) (partsOf m .kind) (lying && fitsHeld held)
+  own : n ≡ firstRefusal area (sizeOf (spansOf m)) (spansOf m .kind) (lying && fitsHeld held)
   own =
       e ∙ (λ i. firstRefusal area ((sized ∙ ap sizeOf is) i) (is i .kind) ((lies ∙ ap (inside (length s)) is) i && fits)) ∙
-      ap (firstRefusal area (sizeOf (partsOf m)) (partsOf m .kind)) (by-places lying refl)
+      ap (firstRefusal area (sizeOf (spansOf m)) (spansOf m .kind)) (by-places lying refl)
     where
       by-places : (b : Bool) → lying ≡ b → b && fits ≡ b && fitsHeld held
       by-places true l = fit .same l
       by-places false l = refl
 
-  as-rows : writing area s m ≡ rows area (sizeOf (partsOf m)) (partsOf m .kind) (lying && fitsHeld held) (sound (bytesOf held))
+  as-rows : writing area s m ≡ rows area (sizeOf (spansOf m)) (spansOf m .kind) (lying && fitsHeld held) (sound (bytesOf held))
   as-rows = by-places lying refl
     where
       by-places : (b : Bool) → lying ≡ b →
-          writing area s m ≡ rows area (sizeOf (partsOf m)) (partsOf m .kind) (b && fitsHeld held) (sound (bytesOf held))
+          writing area s m ≡ rows area (sizeOf (spansOf m)) (spansOf m .kind) (b && fitsHeld held) (sound (bytesOf held))
       by-places true l =
           writing-inside area s m l ∙ written-rows area held (sym (inside-length s m l)) (sym (kind-held s m))
       by-places false l = outside-rows area s m (sound (bytesOf held)) l
 
-  pub write-refused : (n ≡ 0 → ⊥) → writing area s m ≡ refused n
-  write-refused z =
-      as-rows ∙ rows-refused area (sizeOf (partsOf m)) (partsOf m .kind) (lying && fitsHeld held) own z (sound (bytesOf held))
+  pub encode-refused : (n ≡ 0 → ⊥) → writing area s m ≡ refused n
+  encode-refused z =
+      as-rows ∙ rows-refused area (sizeOf (spansOf m)) (spansOf m .kind) (lying && fitsHeld held) own z (sound (bytesOf held))
 
   module _ (z : n ≡ 0) where
     passed : (lying ≡ true) × (fitsHeld held ≡ true)
-    passed = halves lying (fitsHeld held) (tests area (sizeOf (partsOf m)) (partsOf m .kind) (lying && fitsHeld held) own z .3)
+    passed = halves lying (fitsHeld held) (tests area (sizeOf (spansOf m)) (spansOf m .kind) (lying && fitsHeld held) own z .3)
 
-    pub write-sound : writing area s m ≡ sound (bytesOf held)
-    write-sound =
-        as-rows ∙ rows-passed area (sizeOf (partsOf m)) (partsOf m .kind) (lying && fitsHeld held) own z (sound (bytesOf held))
+    pub encode-sound : writing area s m ≡ sound (bytesOf held)
+    encode-sound =
+        as-rows ∙ rows-passed area (sizeOf (spansOf m)) (spansOf m .kind) (lying && fitsHeld held) own z (sound (bytesOf held))
 
-    pub write-fits : fitsHeld held ≡ true
-    write-fits = passed .1
+    pub encode-fits : fitsHeld held ≡ true
+    encode-fits = passed .1
 
-    pub write-room : length (bytesOf held) ≤ area
-    write-room =
+    pub encode-room : length (bytesOf held) ≤ area
+    encode-room =
         let long = inside-length s m (passed .0) in
-        let room = rows-room area (sizeOf (partsOf m)) (partsOf m .kind) (lying && fitsHeld held) own z in
+        let room = rows-room area (sizeOf (spansOf m)) (spansOf m .kind) (lying && fitsHeld held) own z in
         omega arith
 
 -- Copying: what was found, written again.

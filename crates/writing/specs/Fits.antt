@@ -7,12 +7,12 @@ use lib.ListN.{length}
 use Rattle.rules.specs.Messages.Codec.{allBytes, fitsHeld}
 use Rattle.message.specs.declared.Message.{Message}
 use Rattle.message.specs.Found.{heldIn}
-use Rattle.writing.specs.Parts.{partsOf, inside}
+use Rattle.writing.specs.Spans.{spansOf, inside}
 
--- of a message whose parts lie in the slice
+-- of a message whose spans lie in the slice
 pub record FitsIn (s : List ℕ) (m : Message) (r : Bool) : Type 0 where
-  pub same : inside (length s) (partsOf m) ≡ true → r ≡ fitsHeld (heldIn s m)
+  pub same : inside (length s) (spansOf m) ≡ true → r ≡ fitsHeld (heldIn s m)
 
--- the same whatever bytes the parts have
+-- the same whatever bytes the spans have
 pub record Fits (m : Message) (r : Bool) : Type 0 where
   pub each : (s : List ℕ) → allBytes s ≡ true → FitsIn s m r

@@ -1,4 +1,4 @@
-pub mod Parts
+pub mod Spans
 pub mod Framed
 pub mod Fits
 pub mod Writing

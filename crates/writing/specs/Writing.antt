@@ -3,33 +3,26 @@ use Prim.Native.Nat.{ℕ}
 use mathlib.Core.Path.{_≡_}
 use mathlib.Core.Bool.{Bool}
 use mathlib.Core.List.{List, []}
-use lib.Dec.{ltb}
 use lib.ListN.{length}
-use Rattle.rules.specs.Choice.{pick}
-use Rattle.rules.specs.Numbers.{messageSize, messageArea, accepted, smallArea, wrongLength, wrongType, unsound}
+use Rattle.rules.specs.Choice.{firstOf}
+use Rattle.rules.specs.Numbers.{accepted}
 use Rattle.rules.specs.Calls.{areaAfter}
 use Rattle.rules.specs.Messages.Forms as forms
-use Rattle.rules.specs.Messages.Codec.{Outcome, refused, sound, message, definedKind, read, written}
+use Rattle.rules.specs.Messages.Codec.{Outcome, refused, sound, message, read, writeRefusals, written}
 use Rattle.message.specs.declared.Message.{Message}
 use Rattle.message.specs.Found.{heldIn}
 use Rattle.writing.specs.declared.Written.{Written}
-use Rattle.writing.specs.Parts.{partsOf, sizeOf, inside}
+use Rattle.writing.specs.Spans.{spansOf, sizeOf, inside}
 
 -- the number of the first refusal, or 0: by the area, the length, the type and one more test
 unfoldable pub firstRefusal : ℕ → ℕ → ℕ → Bool → ℕ
-firstRefusal area size kind fits =
-    pick (ltb area messageArea) smallArea
-    (pick (ltb messageSize size) wrongLength
-    (pick (definedKind kind) (pick fits accepted unsound) wrongType))
+firstRefusal area size kind passes = firstOf (λ n. n) accepted (writeRefusals area size kind passes)
 
--- 1, 2 by the parts' own lengths, 3, 5 where a part lies outside the slice, else as the definition has it
+-- The refusals, by the spans' own lengths and by whether they lie in the slice; else as the definition has it.
 unfoldable pub writing : ℕ → List ℕ → Message → Outcome (List ℕ)
 writing area s m =
-    pick (ltb area messageArea) (refused smallArea)
-    (pick (ltb messageSize (sizeOf (partsOf m))) (refused wrongLength)
-    (pick (definedKind (partsOf m .kind))
-    (pick (inside (length s) (partsOf m)) (written area (heldIn s m)) (refused unsound))
-    (refused wrongType)))
+    firstOf refused (written area (heldIn s m))
+    (writeRefusals area (sizeOf (spansOf m)) (spansOf m .kind) (inside (length s) (spansOf m)))
 
 -- what was read, written again
 unfoldable pub again : ℕ → Outcome (forms.Message ℕ) → Outcome (List ℕ)

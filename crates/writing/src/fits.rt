@@ -4,13 +4,13 @@ ghost use mathlib.Core.List.{[]};
 ghost use Rattle.rules.specs.Messages.Layout.{widthsOf, fits};
 ghost use Rattle.rules.specs.Messages.Forms.{formOf};
 ghost use Rattle.message.specs.declared.Message.the-variants as variants;
-ghost use Rattle.message.specs.Found.{partOf, startReadIn};
+ghost use Rattle.message.specs.Found.{spanOf, startReadIn};
 ghost use Rattle.parameters.specs.Lists.{soundFrom};
 ghost use Rattle.writing.specs.Fits.{Fits, FitsIn};
 use message::InitiateFields;
 use message::Message;
-use message::Part;
 use message::ReadDataFields;
+use message::Span;
 use message::StartReadFields;
 use message::WriteFields;
 
@@ -63,10 +63,10 @@ fn fits_start_read(f: StartReadFields) -> bool
     flags & (set.len <= 32) & sound
 }
 
-fn fits_list(kind: u8, p: Part, s: &[u8]) -> bool
-    ensures { λ r. ⌜ r ≡ soundFrom kind 0 (partOf (now (s .entry)) p) ⌝ }
+fn fits_list(kind: u8, p: Span, s: &[u8]) -> bool
+    ensures { λ r. ⌜ r ≡ soundFrom kind 0 (spanOf (now (s .entry)) p) ⌝ }
 {
-    let t = message::bytes_of(s, p);
+    let t = message::span_of(s, p);
     parameters::whole_list(kind, t, 0)
 }
 
@@ -75,7 +75,7 @@ fn fits_initiate(f: InitiateFields, s: &[u8]) -> bool
 {
     let revision = f.revision;
     let parameters = f.parameters;
-    let whole = fits_list(1, parameters, s);
+    let whole = fits_list(rules::INITIATE, parameters, s);
     (revision.len == 8) & whole
 }
 
@@ -96,8 +96,12 @@ pub(crate) fn fits_message(m: Message, s: &[u8]) -> bool
             vertical,
         } => lost < 2,
         Message::DiscardState { kept } => kept < 2,
-        Message::ReadCharacteristics { parameters } => fits_list(10, parameters, s),
-        Message::Characteristics { parameters } => fits_list(11, parameters, s),
+        Message::ReadCharacteristics { parameters } => fits_list(
+            rules::READ_CHARACTERISTICS,
+            parameters,
+            s,
+        ),
+        Message::Characteristics { parameters } => fits_list(rules::CHARACTERISTICS, parameters, s),
         Message::CheckInput => true,
         Message::InputCount { count } => true,
         Message::InputState { nonzero } => nonzero < 2,

@@ -6,19 +6,17 @@ ghost use Rattle.writing.specs.Writing.{Answers, firstRefusal, writing, 
 use crate::Written;
 use crate::fits::fits_message;
 use crate::lists::put_list;
-use crate::parts::inside;
-use crate::parts::parts_of;
-use crate::parts::size_of;
+use crate::spans::inside;
+use crate::spans::size_of;
+use crate::spans::spans_of;
 use fronts::put_message;
 use message::Found;
 use message::Message;
 
-const LONGEST: u32 = 256;
-
 fn is_known(kind: u8) -> bool
     ensures { λ r. ⌜ r ≡ definedKind kind ⌝ }
 {
-    (1 <= kind) & (kind <= 14)
+    (rules::INITIATE <= kind) & (kind <= rules::INPUT_STATE)
 }
 
 // The number of the first refusal, or 0; `fits` is the last test.
@@ -26,32 +24,32 @@ fn first_refusal(room: usize, size: u32, kind: u8, fits: bool) -> u8
     ensures { λ r. ⌜ r ≡ firstRefusal room size kind fits ⌝ }
 {
     if room < rules::MESSAGE_AREA {
-        return 1;
+        return rules::SMALL_AREA;
     }
-    if LONGEST < size {
-        return 2;
+    if rules::MESSAGE < size as usize {
+        return rules::WRONG_LENGTH;
     }
     if !is_known(kind) {
-        return 3;
+        return rules::WRONG_TYPE;
     }
     if !fits {
-        return 5;
+        return rules::UNSOUND;
     }
-    0
+    rules::ACCEPTED
 }
 
-// The length is judged by the parts' own lengths, before a part that lies outside the slice is refused.
-pub fn write(m: Message, s: &[u8], area: &mut [u8]) -> Written
+// The length is judged by the spans' own lengths, before a span that lies outside the slice is refused.
+pub fn encode(m: Message, s: &[u8], area: &mut [u8]) -> Written
     ensures { λ r. ⌜ Answers (writing (length (now (area .entry))) (now (s .entry)) m) (now (area .entry)) r (now (area .exit)) ⌝ }
 {
-    let p = parts_of(m);
+    let p = spans_of(m);
     let kind = p.kind;
     let list = p.list;
     let size = size_of(p);
     let lies = inside(p, s.len());
     let fits = fits_message(m, s);
     let refused = first_refusal(area.len(), size, kind, lies & fits);
-    if refused != 0 {
+    if refused != rules::ACCEPTED {
         return Written {
             number: refused,
             len: 0,
@@ -59,17 +57,20 @@ pub fn write(m: Message, s: &[u8], area: &mut [u8]) -> Written
     }
     let next = put_message(m, s, area, 0);
     let len = put_list(kind, list, s, area, next);
-    Written { number: 0, len }
+    Written {
+        number: rules::ACCEPTED,
+        len,
+    }
 }
 
-// Reads a message and writes it again.
+// Decodes a message and encodes it again.
 pub fn copy(s: &[u8], area: &mut [u8]) -> Written
     ensures { λ r. ⌜ Answers (copied (length (now (area .entry))) (now (s .entry))) (now (area .entry)) r (now (area .exit)) ⌝ }
 {
-    let f = message::read(s);
+    let f = message::decode(s);
     let Found::Message(m) = f else {
         let number = message::number_of(f);
         return Written { number, len: 0 };
     };
-    write(m, s, area)
+    encode(m, s, area)
 }

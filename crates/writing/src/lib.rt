@@ -2,11 +2,11 @@
 mod fits;
 mod front;
 mod lists;
-mod parts;
 mod send;
+mod spans;
 
 pub use crate::front::copy;
-pub use crate::front::write;
+pub use crate::front::encode;
 pub use crate::send::put_framed;
 
 // The number of a refusal, or 0 and how many bytes stand in front of the area.

@@ -2,12 +2,12 @@
 ghost use mathlib.Core.Path.{_≡_};
 ghost use mathlib.Core.Bool.{true};
 ghost use Rattle.rules.specs.Choice.{joined};
-ghost use Rattle.message.specs.Found.{partOf};
+ghost use Rattle.message.specs.Found.{spanOf};
 ghost use Rattle.parameters.specs.Lists.{soundFrom, parametersFrom};
 ghost use Rattle.areas.specs.Puts.{Puts};
-ghost use Rattle.writing.specs.Parts.{listBytes};
+ghost use Rattle.writing.specs.Spans.{listBytes};
 use areas::put_bytes;
-use message::Part;
+use message::Span;
 use parameters::put_setting;
 
 // The parameters of a Characteristics, unused bits set to 0.
@@ -18,7 +18,7 @@ fn put_settings(t: &[u8], area: &mut [u8], at: usize) -> usize
     let mut next = at;
     let mut i = 0;
     while i < t.len() {
-        let p = parameters::parameter_at(11, t, i);
+        let p = parameters::parameter_at(rules::CHARACTERISTICS, t, i);
         let count = p.next - i - 2;
         next = put_setting(p.selector, p.first, p.second, p.third, count, area, next);
         i = p.next;
@@ -27,12 +27,12 @@ fn put_settings(t: &[u8], area: &mut [u8], at: usize) -> usize
 }
 
 // The list of a message; in the others every bit is used.
-pub(crate) fn put_list(kind: u8, list: Part, s: &[u8], area: &mut [u8], at: usize) -> usize
-    requires { ⌜ (kind ≡ 11 → soundFrom 11 0 (partOf (now s) list) ≡ true) ⌝ }
-    ensures { λ r. ⌜ Puts (listBytes kind (partOf (now (s .entry)) list)) (now (area .entry)) at r (now (area .exit)) ⌝ }
+pub(crate) fn put_list(kind: u8, list: Span, s: &[u8], area: &mut [u8], at: usize) -> usize
+    requires { ⌜ (kind ≡ 11 → soundFrom 11 0 (spanOf (now s) list) ≡ true) ⌝ }
+    ensures { λ r. ⌜ Puts (listBytes kind (spanOf (now (s .entry)) list)) (now (area .entry)) at r (now (area .exit)) ⌝ }
 {
-    let t = message::bytes_of(s, list);
-    if kind == 11 {
+    let t = message::span_of(s, list);
+    if kind == rules::CHARACTERISTICS {
         return put_settings(t, area, at);
     }
     put_bytes(t, area, at)

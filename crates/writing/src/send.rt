@@ -1,7 +1,7 @@
 // Messages for a line that sends them: each behind its length, into an area.
 ghost use Rattle.writing.specs.Framed.{Frames};
-use crate::parts::parts_of;
-use crate::parts::size_of;
+use crate::spans::size_of;
+use crate::spans::spans_of;
 use areas::put_number;
 use fronts::put_message;
 use message::Message;
@@ -10,7 +10,7 @@ use message::Message;
 pub fn put_framed(m: Message, s: &[u8], area: &mut [u8], at: usize) -> usize
     ensures { λ r. ⌜ Frames (now (s .entry)) m (now (area .entry)) at r (now (area .exit)) ⌝ }
 {
-    let p = parts_of(m);
+    let p = spans_of(m);
     let size = size_of(p);
     let next = put_number(2, size, area, at);
     put_message(m, s, area, next)

@@ -1,10 +1,10 @@
 -- Reading a message gives its fields or a number, writing fields gives bytes or a number; both without a line.
 use Prim.Native.Nat.{ℕ, zero, _+_}
-use mathlib.Core.Bool.{Bool, true, false, _&&_}
+use mathlib.Core.Bool.{Bool, true, false, not, _&&_}
 use mathlib.Core.List.{List, [], _∷_, _++_, map}
 use lib.Dec.{leb, ltb, eqb}
 use lib.ListN.{length, take, drop}
-use Rattle.rules.specs.Choice.{pick, within, isEmpty, allAre, joined}
+use Rattle.rules.specs.Choice.{pick, Row, _when_, firstOf, within, isEmpty, allAre, joined}
 use Rattle.rules.specs.Numbers.{inputSize, messageSize, messageArea, smallArea, wrongLength, wrongType, unsound}
 use Rattle.rules.specs.Messages.Layout.{byteAt, sizeOf, widthsOf, fits, readGroups, writeGroups}
 use Rattle.rules.specs.Messages.Parameters.{soundParameter, fitsParameter, cleaned, cut}
@@ -91,14 +91,17 @@ soundAs f bytes =
 unfoldable pub soundLength : ℕ → Bool
 soundLength n = within 1 messageSize n
 
--- reading: 2, 3 or 5, else the fields
+-- the refusals of reading, in the table's order
+unfoldable pub readRefusals : List ℕ → List Row
+readRefusals bytes =
+    wrongLength when not (soundLength (length bytes)) ∷
+    wrongType when not (definedKind (byteAt bytes 0)) ∷
+    unsound when not (soundAs (formOf (byteAt bytes 0)) bytes) ∷
+    []
+
+-- reading: the first refusal that applies, else the fields
 unfoldable pub read : List ℕ → Outcome (Message ℕ)
-read bytes =
-    pick (soundLength (length bytes))
-    (pick (definedKind (byteAt bytes 0))
-    (pick (soundAs (formOf (byteAt bytes 0)) bytes) (sound (fieldsAs (formOf (byteAt bytes 0)) bytes)) (refused unsound))
-    (refused wrongType))
-    (refused wrongLength)
+read bytes = firstOf refused (sound (fieldsAs (formOf (byteAt bytes 0)) bytes)) (readRefusals bytes)
 
 -- Writing.
 
@@ -146,9 +149,15 @@ unfoldable pub fitsHeld : Held → Bool
 fitsHeld (message m) = fitsAs (formOf (m .kind)) m
 fitsHeld (other kind body) = false
 
--- writing into an area of this length: 1, 2, 3 or 5, else the bytes
+-- the refusals of writing, in the table's order: by the length of the area, the length and the type of the message, and one more test
+unfoldable pub writeRefusals : ℕ → ℕ → ℕ → Bool → List Row
+writeRefusals area size kind passes =
+    smallArea when ltb area messageArea ∷
+    wrongLength when ltb messageSize size ∷
+    wrongType when not (definedKind kind) ∷
+    unsound when not passes ∷
+    []
+
+-- writing into an area of this length: the first refusal that applies, else the bytes
 unfoldable pub written : ℕ → Held → Outcome (List ℕ)
-written area h =
-    pick (ltb area messageArea) (refused smallArea)
-    (pick (ltb messageSize (length (bytesOf h))) (refused wrongLength)
-    (pick (definedKind (kindOf h)) (pick (fitsHeld h) (sound (bytesOf h)) (refused unsound)) (refused wrongType)))
+written area h = firstOf refused (sound (bytesOf h)) (writeRefusals area (length (bytesOf h)) (kindOf h) (fitsHeld h))

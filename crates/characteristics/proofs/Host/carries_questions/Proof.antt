@@ -1,5 +1,6 @@
 use borrow.Author.Tests.{not-true, not-false}
 use Rattle.characteristics.specs.View.{hostOf}
+use Rattle.rules.proofs.Sizes.{message-area}
 use Rattle.characteristics.proofs.Answers.{not-carried, carried-size}
 use Rattle.characteristics.proofs.Host.carries_questions.Statement.{statement}
 use Rattle.characteristics.proofs.Host.carries_questions.Tie as tie
@@ -20,7 +21,7 @@ returns-2 c s =
     let b = c .before .before in
     let args = b .before .before .args in
     carried-size (args .list .now) (hostOf (args .self)) s (b .all-carried .ensures) (not-false _ (c .before .if1 .left))
-    (c .answer-size .ensures (hostOf (args .self)))
+    message-area (c .answer-size .ensures (hostOf (args .self)))
 
 pub carries-questions-spec : {M : Type 1} → statement M
 carries-questions-spec =

@@ -3,13 +3,15 @@ use Prim.Native.Nat.{_+_, _-_, _≤_}
 use native.Mathlib.Omega.{arith}
 use lib.ListN.{length}
 use borrow.Author.Tests.{not-true, not-false}
+use Rattle.rules.specs.Numbers.{messageArea}
 use Rattle.rules.specs.Messages.Layout.{fieldsIn, numberOf, writeGroups}
 use Rattle.rules.specs.Messages.Forms.{forms, formOf}
 use Rattle.rules.specs.State.{fresh}
+use Rattle.rules.proofs.Sizes.{area-word}
 use Rattle.rules.proofs.Tests.{pick-true, pick-false}
 use Rattle.message.specs.Found.{heldIn}
 use Rattle.fronts.specs.Front.{frontBytes, frontTail}
-use Rattle.writing.specs.Parts.{partsOf}
+use Rattle.writing.specs.Spans.{spansOf}
 use Rattle.areas.proofs.Putting.{nothing, equals, joins}
 use Rattle.characteristics.specs.View.{hostOf}
 use Rattle.characteristics.specs.Lists.{answersFrom, reportBytes}
@@ -30,7 +32,7 @@ answer-size-requires c κs = tt
 -- the size that the code has is the answer's own
 sized : (c : tie.After-answer-size) →
     let args = c .before .before .before .before .before .args in
-    (c .answer-size .result ≡ 4 + length (answersFrom 0 (args .list .now) (hostOf (args .self)))) × (c .answer-size .result ≤ 256)
+    (c .answer-size .result ≡ 4 + length (answersFrom 0 (args .list .now) (hostOf (args .self)))) × (c .answer-size .result ≤ messageArea)
 sized c =
     let b = c .before .before in
     let args = b .before .before .before .args in
@@ -41,7 +43,7 @@ sub-t10 : tie.Need-sub-t10
 sub-t10 c = omega (arith, sized c .0)
 
 cast-t11 : tie.Need-cast-t11
-cast-t11 c = omega (arith, sized c .1)
+cast-t11 c = omega (arith, area-word, sized c .1)
 
 put-framed-requires : tie.Need-put-framed-requires
 put-framed-requires c κs = tt
@@ -53,7 +55,7 @@ same-length : tie.Need-same-length
 same-length c = c .before .before .put-answers .ensures .same ∙ c .before .before .before .before .before .before .put-framed .ensures .front .same
 
 returns-2 : tie.Need-returns-2
-unfolding reportBytes partsOf heldIn frontBytes frontTail formOf forms writeGroups numberOf fieldsIn
+unfolding reportBytes spansOf heldIn frontBytes frontTail formOf forms writeGroups numberOf fieldsIn
 returns-2 c =
     let p2 = c .before .before in
     let p1 = p2 .before .before .before .before in

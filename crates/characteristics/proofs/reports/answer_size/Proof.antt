@@ -2,21 +2,22 @@ use mathlib.Core.Path.{_≡_, ap}
 use Prim.Native.Nat.{_+_, _-_, _≤_}
 use native.Mathlib.Omega.{arith}
 use lib.ListN.{length}
+use Rattle.rules.specs.Numbers.{messageArea}
 use Rattle.rules.specs.State.{Host}
+use Rattle.rules.proofs.Sizes.{message-area, area-word}
 use Rattle.characteristics.specs.Lists.{answersFrom, answerTo}
 use Rattle.characteristics.proofs.Answers.{first-size, no-answers, answer-length}
-use Rattle.characteristics.proofs.Sizes.{message-area}
 use Rattle.characteristics.proofs.reports.answer_size.Statement.{statement}
 use Rattle.characteristics.proofs.reports.answer_size.Tie as tie
 
 abbrev Inv-loop : tie.InvT-loop
-Inv-loop list size₀ at₀ size at = ((h : Host) → size + length (answersFrom at list h) ≡ length (answerTo list h)) × (size ≤ 256)
+Inv-loop list size₀ at₀ size at = ((h : Host) → size + length (answersFrom at list h) ≡ length (answerTo list h)) × (size ≤ messageArea)
 
 abbrev μ-loop : tie.MeasureT-loop
 μ-loop list size₀ at₀ size at = length list - at
 
 loop-holds : tie.Need-loop-holds Inv-loop μ-loop
-loop-holds c = (λ h. answer-length (c .before .args .list .now) h, omega arith)
+loop-holds c = (λ h. answer-length (c .before .args .list .now) h, omega (arith, message-area))
 
 parameter-at-requires : tie.Need-parameter-at-requires Inv-loop μ-loop
 parameter-at-requires c κs = tt
@@ -25,10 +26,10 @@ size-of-one-requires : tie.Need-size-of-one-requires Inv-loop μ-loop
 size-of-one-requires c κs = tt
 
 add-size : tie.Need-add-size Inv-loop μ-loop
-add-size c = omega arith
+add-size c = omega (arith, area-word)
 
 add-result : tie.Need-add-result Inv-loop μ-loop
-add-result c = omega arith
+add-result c = omega (arith, area-word)
 
 returns : tie.Need-returns Inv-loop μ-loop
 returns c h =
@@ -45,7 +46,7 @@ loop-again c =
     let is = c .before .before .parameter-at .ensures in
     let l = c .before .before .before .loop-test .taken in
     let a = c .before .before .before .before in
-    (λ h. first-size is h l (a .loop .size) (c .before .size-of-one .ensures .0 h _ (is .selected)) (a .loop .inv .0 h), omega arith)
+    (λ h. first-size is h l (a .loop .size) (c .before .size-of-one .ensures .0 h _ (is .selected)) (a .loop .inv .0 h), omega (arith, message-area))
 
 returns-2 : tie.Need-returns-2 Inv-loop μ-loop
 returns-2 c h =

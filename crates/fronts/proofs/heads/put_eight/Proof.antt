@@ -14,8 +14,8 @@ Inv-loop s area₀ at t next₀ i₀ area next i = Left (writeGroups (replicate 
 abbrev μ-loop : tie.MeasureT-loop
 μ-loop s area₀ at t next₀ i₀ area next i = 8 - i
 
-bytes-of-requires : tie.Need-bytes-of-requires Inv-loop μ-loop
-bytes-of-requires c κs = tt
+span-of-requires : tie.Need-span-of-requires Inv-loop μ-loop
+span-of-requires c κs = tt
 
 loop-holds : tie.Need-loop-holds Inv-loop μ-loop
 loop-holds c = all-left
@@ -36,7 +36,7 @@ loop-again : tie.Need-loop-again Inv-loop μ-loop
 loop-again c =
     let t = c .before .before .before .before in
     let a = t .before .before in
-    let s = a .before .bytes-of .result .now in
+    let s = a .before .span-of .result .now in
     turn (first-of-run s 8 (a .loop .i) (t .before .loop-test .taken) (t .byte-at .ensures) (omega arith)) (a .loop .inv) (c .before .before .put-byte .ensures)
 
 same-length : tie.Need-same-length Inv-loop μ-loop
@@ -45,8 +45,8 @@ same-length c = c .before .loop .inv .same
 returns : tie.Need-returns Inv-loop μ-loop
 returns c =
     let a = c .before in
-    let s = a .before .bytes-of .result .now in
-    equals (ap (writeGroups (replicate 8 byte)) (a .before .bytes-of .ensures)) (none-left (no-run s 8 (a .loop .i) (c .loop-test .left)) (a .loop .inv))
+    let s = a .before .span-of .result .now in
+    equals (ap (writeGroups (replicate 8 byte)) (a .before .span-of .ensures)) (none-left (no-run s 8 (a .loop .i) (c .loop-test .left)) (a .loop .inv))
 
 pub put-eight-spec : {M : Type 1} → statement M
 put-eight-spec =
@@ -54,7 +54,7 @@ put-eight-spec =
     (tie.spec
     Inv-loop
     μ-loop
-    bytes-of-requires
+    span-of-requires
     loop-holds
     byte-at-requires
     put-byte-requires

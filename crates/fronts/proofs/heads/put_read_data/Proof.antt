@@ -3,7 +3,7 @@ use native.Mathlib.Omega.{arith}
 use mathlib.Core.List.{[], _∷_}
 use Prim.Native.Nat.{_+_, _*_}
 use Rattle.rules.specs.Messages.Layout.{fieldsIn, numberOf}
-use Rattle.message.specs.Found.{partOf}
+use Rattle.message.specs.Found.{spanOf}
 use Rattle.fronts.proofs.Groups.{headed, flags-first, field-first, no-more}
 use Rattle.rules.specs.Messages.Forms.{forms, formOf}
 use Rattle.message.specs.Found.{heldIn}
@@ -40,8 +40,8 @@ put-pair-requires c κs = tt
 put-word-requires-2 : tie.Need-put-word-requires-2
 put-word-requires-2 c κs = tt
 
-put-part-requires : tie.Need-put-part-requires
-put-part-requires c κs = tt
+put-span-requires : tie.Need-put-span-requires
+put-span-requires c κs = tt
 
 same-length : tie.Need-same-length
 same-length c =
@@ -51,7 +51,7 @@ same-length c =
     let p3 = p4 .before .before .before .before in
     let p2 = p3 .before .before .before .before in
     let p1 = p2 .before .before .before .before in
-    p6 .put-part .ensures .same ∙ p5 .put-word2 .ensures .same ∙ p4 .put-pair .ensures .same ∙ p3 .put-word .ensures .same ∙ p2 .put-number .ensures .same ∙ p1 .put-byte .ensures .same
+    p6 .put-span .ensures .same ∙ p5 .put-word2 .ensures .same ∙ p4 .put-pair .ensures .same ∙ p3 .put-word .ensures .same ∙ p2 .put-number .ensures .same ∙ p1 .put-byte .ensures .same
 
 returns : tie.Need-returns
 unfolding frontBytes heldIn formOf forms frontTail fieldsIn numberOf
@@ -63,10 +63,10 @@ returns c =
     let p2 = p3 .before .before .before .before in
     let p1 = p2 .before .before .before .before in
     let a = p1 .before .before .before .before .before .before .before .args in
-    headed 3 (partOf (a .s .now) (a .f .text))
+    headed 3 (spanOf (a .s .now) (a .f .text))
     (flags-first 1 (4 ∷ 1 ∷ []) (a .f .code + 16 * a .f .more) (omega arith)
     (field-first 2 16 (a .f .«low_water») (field-first 1 8 (a .f .vertical) (field-first 1 8 (a .f .horizontal) (field-first 2 16 (a .f .terminator) no-more)))))
-    (joins (p1 .put-byte .ensures) (joins (p2 .put-number .ensures) (joins (p3 .put-word .ensures) (joins (p4 .put-pair .ensures) (joins (p5 .put-word2 .ensures) (p6 .put-part .ensures))))))
+    (joins (p1 .put-byte .ensures) (joins (p2 .put-number .ensures) (joins (p3 .put-word .ensures) (joins (p4 .put-pair .ensures) (joins (p5 .put-word2 .ensures) (p6 .put-span .ensures))))))
 
 pub put-read-data-spec : {M : Type 1} → statement M
 put-read-data-spec =
@@ -81,6 +81,6 @@ put-read-data-spec =
     put-word-requires
     put-pair-requires
     put-word-requires-2
-    put-part-requires
+    put-span-requires
     same-length
     returns)

@@ -1,6 +1,6 @@
 use mathlib.Core.Path.{_∙_}
 use Rattle.rules.specs.Messages.Layout.{fieldsIn, numberOf}
-use Rattle.message.specs.Found.{partOf}
+use Rattle.message.specs.Found.{spanOf}
 use Rattle.fronts.specs.Front.{writeWidths}
 use Rattle.fronts.proofs.Groups.{headed, flags-first, field-first, no-more}
 use Rattle.rules.specs.Messages.Forms.{forms, formOf}
@@ -22,8 +22,8 @@ put-number-requires c κs = tt
 put-pair-requires : tie.Need-put-pair-requires
 put-pair-requires c κs = tt
 
-put-part-requires : tie.Need-put-part-requires
-put-part-requires c κs = tt
+put-span-requires : tie.Need-put-span-requires
+put-span-requires c κs = tt
 
 same-length : tie.Need-same-length
 same-length c =
@@ -31,7 +31,7 @@ same-length c =
     let p3 = p4 .before .before .before .before in
     let p2 = p3 .before .before .before .before in
     let p1 = p2 .before .before .before .before in
-    p4 .put-part .ensures .same ∙ p3 .put-pair .ensures .same ∙ p2 .put-number .ensures .same ∙ p1 .put-byte .ensures .same
+    p4 .put-span .ensures .same ∙ p3 .put-pair .ensures .same ∙ p2 .put-number .ensures .same ∙ p1 .put-byte .ensures .same
 
 returns : tie.Need-returns
 unfolding frontBytes heldIn formOf forms frontTail fieldsIn numberOf
@@ -42,9 +42,9 @@ returns c =
     let p1 = p2 .before .before .before .before in
     let a = p1 .before .before .before .before .before .before .args in
     let w = p1 .before .before .write-flags in
-    headed 7 (partOf (a .s .now) (a .f .text))
+    headed 7 (spanOf (a .s .now) (a .f .text))
     (flags-first 2 writeWidths (w .result) (w .ensures) (field-first 1 8 (a .f .«prefix_value») (field-first 1 8 (a .f .«postfix_value») no-more)))
-    (joins (p1 .put-byte .ensures) (joins (p2 .put-number .ensures) (joins (p3 .put-pair .ensures) (p4 .put-part .ensures))))
+    (joins (p1 .put-byte .ensures) (joins (p2 .put-number .ensures) (joins (p3 .put-pair .ensures) (p4 .put-span .ensures))))
 
 pub put-write-spec : {M : Type 1} → statement M
 put-write-spec =
@@ -54,6 +54,6 @@ put-write-spec =
     put-byte-requires
     put-number-requires
     put-pair-requires
-    put-part-requires
+    put-span-requires
     same-length
     returns)

@@ -3,7 +3,7 @@ use Prim.Native.Nat.{_%_}
 use mathlib.Core.List.{_∷_, _++_}
 use lib.ListN.{length}
 use Rattle.rules.specs.Messages.Layout.{fieldsIn, numberOf, writeGroups}
-use Rattle.message.specs.Found.{partOf, flagWidths, startReadIn}
+use Rattle.message.specs.Found.{spanOf, flagWidths, startReadIn}
 use Rattle.fronts.proofs.Groups.{headed, flags-first, field-first, no-more}
 use Rattle.rules.specs.Messages.Forms.{forms, formOf}
 use Rattle.message.specs.Found.{heldIn}
@@ -16,8 +16,8 @@ use Rattle.fronts.proofs.start_read.put_start_read.Tie as tie
 start-read-flags-requires : tie.Need-start-read-flags-requires
 start-read-flags-requires c κs = tt
 
-bytes-of-requires : tie.Need-bytes-of-requires
-bytes-of-requires c κs = tt
+span-of-requires : tie.Need-span-of-requires
+span-of-requires c κs = tt
 
 cast-count : tie.Need-cast-count
 cast-count c = search needs
@@ -34,11 +34,11 @@ put-words-requires c κs = tt
 put-byte-requires-2 : tie.Need-put-byte-requires-2
 put-byte-requires-2 c κs = tt
 
-put-part-requires : tie.Need-put-part-requires
-put-part-requires c κs = tt
+put-span-requires : tie.Need-put-span-requires
+put-span-requires c κs = tt
 
-put-part-requires-2 : tie.Need-put-part-requires-2
-put-part-requires-2 c κs = tt
+put-span-requires-2 : tie.Need-put-span-requires-2
+put-span-requires-2 c κs = tt
 
 same-length : tie.Need-same-length
 same-length c =
@@ -48,7 +48,7 @@ same-length c =
     let p3 = p4 .before .before .before .before in
     let p2 = p3 .before .before .before .before in
     let p1 = p2 .before .before .before .before in
-    p6 .put-part2 .ensures .same ∙ p5 .put-part .ensures .same ∙ p4 .put-byte2 .ensures .same ∙ p3 .put-words .ensures .same ∙ p2 .put-number .ensures .same ∙ p1 .put-byte .ensures .same
+    p6 .put-span2 .ensures .same ∙ p5 .put-span .ensures .same ∙ p4 .put-byte2 .ensures .same ∙ p3 .put-words .ensures .same ∙ p2 .put-number .ensures .same ∙ p1 .put-byte .ensures .same
 
 returns : tie.Need-returns
 unfolding frontBytes heldIn formOf forms frontTail fieldsIn numberOf startReadIn
@@ -61,28 +61,28 @@ returns c =
     let p1 = p2 .before .before .before .before in
     let a = p1 .before .before .before .before .before .before .before .before .args in
     let w = p1 .before .before .before .start-read-flags in
-    let bytes = p1 .before .before .bytes-of in
+    let bytes = p1 .before .before .span-of in
     let numbers = startReadIn (a .s .now) (a .f) .numbers in
-    let rest = partOf (a .s .now) (a .f .set) ++ partOf (a .s .now) (a .f .text) in
+    let rest = spanOf (a .s .now) (a .f .set) ++ spanOf (a .s .now) (a .f .text) in
     equals (ap (λ b. 2 ∷ (writeGroups (formOf 2 .head) numbers ++ length b % 256 ∷ rest)) (bytes .ensures))
     (headed 2 (length (bytes .result .now) % 256 ∷ rest)
     (flags-first 3 flagWidths (w .result) (w .ensures)
     (field-first 2 16 (a .f .«max_length») (field-first 2 16 (a .f .«end_of_data») (field-first 2 16 (a .f .timeout)
     (field-first 2 16 (a .f .«end_of_prompt») (field-first 2 16 (a .f .«start_of_display») (field-first 2 16 (a .f .«low_water») no-more)))))))
-    (joins (p1 .put-byte .ensures) (joins (p2 .put-number .ensures) (joins (p3 .put-words .ensures) (joins (p4 .put-byte2 .ensures) (joins (p5 .put-part .ensures) (p6 .put-part2 .ensures)))))))
+    (joins (p1 .put-byte .ensures) (joins (p2 .put-number .ensures) (joins (p3 .put-words .ensures) (joins (p4 .put-byte2 .ensures) (joins (p5 .put-span .ensures) (p6 .put-span2 .ensures)))))))
 
 pub put-start-read-spec : {M : Type 1} → statement M
 put-start-read-spec =
     tie.close
     (tie.spec
     start-read-flags-requires
-    bytes-of-requires
+    span-of-requires
     cast-count
     put-byte-requires
     put-number-requires
     put-words-requires
     put-byte-requires-2
-    put-part-requires
-    put-part-requires-2
+    put-span-requires
+    put-span-requires-2
     same-length
     returns)

@@ -2,7 +2,7 @@ use mathlib.Core.Path.{refl, ap, _∙_}
 use Rattle.rules.specs.Choice.{pick}
 use Rattle.rules.specs.Calls.{isCarriedBy, carriesQuestions}
 use Rattle.rules.specs.Characteristics.{carriesSettings}
-use Rattle.message.specs.Found.{partOf, heldIn, startReadIn, writeIn}
+use Rattle.message.specs.Found.{spanOf, heldIn, startReadIn, writeIn}
 use Rattle.characteristics.specs.View as host
 use Rattle.characteristics.specs.Lists.{settingsIn, questionsIn}
 use Rattle.characteristics.proofs.Held.{held-settings, held-questions}
@@ -19,7 +19,7 @@ use Rattle.characteristics.proofs.Host.carries_settings.Reads as carries-settin
 use Rattle.line.proofs.Line.characteristics.Reads as characteristics-reads
 use Rattle.line.proofs.refusals.carries_start_read.Reads as carries-start-read-reads
 use Rattle.line.proofs.refusals.carries_write.Reads as carries-write-reads
-use Rattle.message.proofs.bytes_of.Reads as bytes-of-reads
+use Rattle.message.proofs.span_of.Reads as span-of-reads
 
 enum-known-m : tie.Need-enum-known-m
 enum-known-m c = search needs
@@ -39,8 +39,8 @@ enum-known-m-3 c = search needs
 characteristics-requires : tie.Need-characteristics-requires
 characteristics-requires c κs = search needs
 
-bytes-of-requires : tie.Need-bytes-of-requires
-bytes-of-requires c κs = search needs
+span-of-requires : tie.Need-span-of-requires
+span-of-requires c κs = search needs
 
 carries-questions-requires : tie.Need-carries-questions-requires
 carries-questions-requires c κs = search needs
@@ -51,8 +51,8 @@ enum-known-m-4 c = search needs
 characteristics-requires-2 : tie.Need-characteristics-requires-2
 characteristics-requires-2 c κs = search needs
 
-bytes-of-requires-2 : tie.Need-bytes-of-requires-2
-bytes-of-requires-2 c κs = search needs
+span-of-requires-2 : tie.Need-span-of-requires-2
+span-of-requires-2 c κs = search needs
 
 carries-settings-requires : tie.Need-carries-settings-requires
 carries-settings-requires c κs = tt
@@ -73,19 +73,19 @@ returns-3 : tie.Need-returns-3
 unfolding isCarriedBy pick
 returns-3 c =
     let a = c .before .before .before .before .before .before .before .args in
-    carried-as (a .s .now) (view (a .self)) (c .before .before .before .before .m3 .given .1) (questionsIn (partOf (a .s .now) _)) (held-questions _ _)
+    carried-as (a .s .now) (view (a .self)) (c .before .before .before .before .m3 .given .1) (questionsIn (spanOf (a .s .now) _)) (held-questions _ _)
     (c .carries-questions .ensures (view (a .self))
-    ∙ ap (λ h. carriesQuestions (withHost (host.hostOf h) (view (a .self))) (questionsIn (c .before .bytes-of .result .now))) (c .before .before .characteristics .ensures)
-    ∙ ap (λ bs. carriesQuestions (view (a .self)) (questionsIn bs)) (c .before .bytes-of .ensures))
+    ∙ ap (λ h. carriesQuestions (withHost (host.hostOf h) (view (a .self))) (questionsIn (c .before .span-of .result .now))) (c .before .before .characteristics .ensures)
+    ∙ ap (λ bs. carriesQuestions (view (a .self)) (questionsIn bs)) (c .before .span-of .ensures))
 
 returns-4 : tie.Need-returns-4
 unfolding isCarriedBy pick
 returns-4 c =
     let a = c .before .before .before .before .before .before .before .args in
-    carried-as (a .s .now) (view (a .self)) (c .before .before .before .before .m4 .given .1) (settingsIn (partOf (a .s .now) _)) (held-settings _ _)
+    carried-as (a .s .now) (view (a .self)) (c .before .before .before .before .m4 .given .1) (settingsIn (spanOf (a .s .now) _)) (held-settings _ _)
     (c .carries-settings .ensures
-    ∙ ap (λ h. carriesSettings (host.hostOf h) (settingsIn (c .before .bytes-of2 .result .now))) (c .before .before .characteristics2 .ensures)
-    ∙ ap (λ bs. carriesSettings (hostOf (a .self)) (settingsIn bs)) (c .before .bytes-of2 .ensures))
+    ∙ ap (λ h. carriesSettings (host.hostOf h) (settingsIn (c .before .span-of2 .result .now))) (c .before .before .characteristics2 .ensures)
+    ∙ ap (λ bs. carriesSettings (hostOf (a .self)) (settingsIn bs)) (c .before .span-of2 .ensures))
 
 returns-5 : tie.Need-returns-5
 returns-5 c = let a = c .before .before .args in other-carried (a .s .now) (view (a .self)) (a .m) (c .match .keys5)
@@ -100,11 +100,11 @@ carries-spec =
     carries-write-requires
     enum-known-m-3
     characteristics-requires
-    bytes-of-requires
+    span-of-requires
     carries-questions-requires
     enum-known-m-4
     characteristics-requires-2
-    bytes-of-requires-2
+    span-of-requires-2
     carries-settings-requires
     returns
     returns-2

@@ -21,7 +21,7 @@ use Rattle.line.proofs.Line.refuse.Reads as refuse-reads
 use Rattle.line.proofs.events.sender_of.Reads as sender-of-reads
 use Rattle.line.proofs.refusals.early_row.Reads as early-row-reads
 use Rattle.message.proofs.number_of.Reads as number-of-reads
-use Rattle.message.proofs.read.Reads as read-reads
+use Rattle.message.proofs.decode.Reads as decode-reads
 
 early-row-requires : tie.Need-early-row-requires
 early-row-requires c κs = search needs
@@ -40,8 +40,8 @@ returns c =
     let row = c .before .before .early-row .ensures (view l) refl (is-pending (l .flow .pending) (readingOf l (l .flow .reading))) in
     refused (rules.message s) l t m _ (start .pre) (early-refused l t m s row (c .before .if1 .taken)) (c .refuse .ensures)
 
-read-requires : tie.Need-read-requires
-read-requires c κs = search needs
+decode-requires : tie.Need-decode-requires
+decode-requires c κs = search needs
 
 enum-known-f : tie.Need-enum-known-f
 enum-known-f c = search needs
@@ -65,7 +65,7 @@ returns-2 c =
     let m = a .messages .now in
     let row = c .before .before .before .before .before .before .early-row .ensures (view l) refl (is-pending (l .flow .pending) (readingOf l (l .flow .reading))) in
     let told = c .before .before .enum-told .given .1 in
-    let found = ap (foundIn s) (sym told) ∙ c .before .before .before .before .read .ensures .fields in
+    let found = ap (foundIn s) (sym told) ∙ c .before .before .before .before .decode .ensures .fields in
     let number = c .before .number-of .ensures ∙ ap foundNumber told in
     let passed = early-passed l t m s row (c .before .before .before .before .before .if1 .left) in
     refused (rules.message s) l t m _ (start .pre)
@@ -92,7 +92,7 @@ returns-3 c =
     let s = a .s .now in
     let row = c .before .before .before .before .before .before .before .before .before .early-row .ensures (view l) refl (is-pending (l .flow .pending) (readingOf l (l .flow .reading))) in
     let passed = early-passed l (a .terminal .now) (a .messages .now) s row (c .before .before .before .before .before .before .before .before .if1 .left) in
-    let found = ap (foundIn s) (sym (c .before .before .before .before .before .f .given .1)) ∙ c .before .before .before .before .before .before .before .read .ensures .fields in
+    let found = ap (foundIn s) (sym (c .before .before .before .before .before .f .given .1)) ∙ c .before .before .before .before .before .before .before .decode .ensures .fields in
     absurd (server-found s (passed .2) _ (sym (c .before .before .before .sender-of .ensures) ∙ c .before .enum-told2 .given .1) found)
 
 carries-requires : tie.Need-carries-requires
@@ -110,7 +110,7 @@ returns-4 c =
     let t = a .terminal .now in
     let m = a .messages .now in
     let row = c .before .before .before .before .before .before .before .before .before .before .before .before .early-row .ensures (view l) refl (is-pending (l .flow .pending) (readingOf l (l .flow .reading))) in
-    let found = ap (foundIn s) (sym (c .before .before .before .before .before .before .before .before .f .given .1)) ∙ c .before .before .before .before .before .before .before .before .before .before .read .ensures .fields in
+    let found = ap (foundIn s) (sym (c .before .before .before .before .before .before .before .before .f .given .1)) ∙ c .before .before .before .before .before .before .before .before .before .before .decode .ensures .fields in
     let sent = host-sends (c .before .before .before .before .before .before .before .before .f .given .0 .0) (c .before .before .before .before .sender .given .0 .0) (sym (c .before .before .before .before .before .before .sender-of .ensures) ∙ c .before .before .before .before .sender .given .1) in
     refused (rules.message s) l t m notCarried (start .pre)
     (outcome-refused l t m s row (c .before .before .before .before .before .before .before .before .before .before .before .if1 .left) (not-carried l s (c .before .before .before .before .before .before .before .before .f .given .0 .0) (c .before .before .before .before .sender .given .0 .0) sent found (c .before .before .carries .ensures) (not-true _ (c .before .if2 .taken))))
@@ -124,7 +124,7 @@ obeys-requires c κs =
     let s = a .s .now in
     let row = c .before .before .before .before .before .before .before .before .before .before .before .before .before .early-row .ensures (view l) refl (is-pending (l .flow .pending) (readingOf l (l .flow .reading))) in
     let passed = early-passed l (a .terminal .now) (a .messages .now) s row (c .before .before .before .before .before .before .before .before .before .before .before .before .if1 .left) in
-    let found = ap (foundIn s) (sym (c .before .before .before .before .before .before .before .before .before .f .given .1)) ∙ c .before .before .before .before .before .before .before .before .before .before .before .read .ensures .fields in
+    let found = ap (foundIn s) (sym (c .before .before .before .before .before .before .before .before .before .f .given .1)) ∙ c .before .before .before .before .before .before .before .before .before .before .before .decode .ensures .fields in
     let sent = host-sends (c .before .before .before .before .before .before .before .before .before .f .given .0 .0) (c .before .before .before .before .before .sender .given .0 .0) (sym (c .before .before .before .before .before .before .before .sender-of .ensures) ∙ c .before .before .before .before .before .sender .given .1) in
     let bytes = bytes-all s (λ i. omega (arith, c .before .before .before .before .before .before .before .before .before .before .before .before .before .before .before .before .before .shared-slice-known .given i)) in
     (start .pre, (is-accepted l s (c .before .before .before .before .before .before .before .before .before .f .given .0 .0) (c .before .before .before .before .before .sender .given .0 .0) sent found (c .before .before .before .carries .ensures) (not-false _ (c .before .before .if2 .left)) bytes (passed .1), passed .0))
@@ -145,7 +145,7 @@ host-spec =
     early-row-requires
     refuse-requires
     returns
-    read-requires
+    decode-requires
     enum-known-f
     enum-told
     number-of-requires

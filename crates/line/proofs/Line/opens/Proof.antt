@@ -5,7 +5,7 @@ use lib.ListN.{length}
 use lib.Seq.{sets, length-sets}
 use Rattle.line.specs.Starts.{onOpened, Opens}
 use Rattle.rules.proofs.Sizes.{input-word}
-use Rattle.line.proofs.Sizes.{input-size}
+use Rattle.line.proofs.Sizes.{inputNumeral, input-size}
 use Rattle.line.proofs.Opened.{pieces-fit, line-opens}
 use borrow.Author.Needs.{needs}
 use Rattle.line.proofs.Line.opens.Statement.{statement}
@@ -63,7 +63,7 @@ returns c =
     let chosen = c .before .before .before .before .before .chosen-set in
     let last = c .before .before .before .before .last-set in
     let text =
-    c .put-text2 .ensures ∙ ap (λ x. sets x (132 - length shown) shown) (c .before .before .put-text .ensures)
+    c .put-text2 .ensures ∙ ap (λ x. sets x (inputNumeral - length shown) shown) (c .before .before .put-text .ensures)
     ∙ ap (λ n. sets (sets (l .text) 0 typed) (n - length shown) shown) (sym input-size) in
     subst (λ x. Opens (a .s .now) (a .f) l (onOpened (terms .result) (chosen .result) x (last .result) l)) (sym text)
     (line-opens (start .pre .1) l (start .pre .0 .text) shown typed (c .before .before .before .before .before .before .before .before .prompt-of .ensures) (c .before .before .before .before .before .before .before .data-of .ensures) (terms .ensures) (chosen .result) (last .result)

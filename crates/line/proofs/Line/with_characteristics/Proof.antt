@@ -11,13 +11,13 @@ use Rattle.line.proofs.Line.with_characteristics.Lts as lts
 use Rattle.characteristics.proofs.Host.with_settings.Reads as with-settings-reads
 use Rattle.line.proofs.Line.characteristics.Reads as characteristics-reads
 use Rattle.line.proofs.Line.with_host.Reads as with-host-reads
-use Rattle.message.proofs.bytes_of.Reads as bytes-of-reads
+use Rattle.message.proofs.span_of.Reads as span-of-reads
 
 characteristics-requires : tie.Need-characteristics-requires
 characteristics-requires c κs = search needs
 
-bytes-of-requires : tie.Need-bytes-of-requires
-bytes-of-requires c κs = search needs
+span-of-requires : tie.Need-span-of-requires
+span-of-requires c κs = search needs
 
 with-settings-requires : tie.Need-with-settings-requires
 with-settings-requires c κs = tt
@@ -34,8 +34,8 @@ returns c =
       same = c .with-host .ensures;
       settings =
           set .ensures .0
-          ∙ ap (λ h. withParameters (parametersFrom 11 0 (c .before .before .bytes-of .result .now)) (host.hostOf h)) (c .before .before .before .characteristics .ensures)
-          ∙ ap (λ bs. withParameters (parametersFrom 11 0 bs) (hostOf (a .self))) (c .before .before .bytes-of .ensures);
+          ∙ ap (λ h. withParameters (parametersFrom 11 0 (c .before .before .span-of .result .now)) (host.hostOf h)) (c .before .before .before .characteristics .ensures)
+          ∙ ap (λ bs. withParameters (parametersFrom 11 0 bs) (hostOf (a .self))) (c .before .before .span-of .ensures);
       counted = set .ensures .1 .counted (rw (c .before .before .before .characteristics .ensures) (record { table = c .before .before .before .before .before .pre .table; set = c .before .before .before .before .before .pre .lastSet }));
     }
 
@@ -44,7 +44,7 @@ with-characteristics-spec =
     tie.close
     (tie.spec
     characteristics-requires
-    bytes-of-requires
+    span-of-requires
     with-settings-requires
     with-host-requires
     returns)

@@ -2,7 +2,7 @@ use borrow.Author.Needs.{needs}
 use native.Mathlib.Omega.{arith}
 use lib.ListN.{length}
 use Rattle.line.proofs.Joints.{answer-held}
-use Rattle.writing.specs.Parts.{partsOf}
+use Rattle.writing.specs.Spans.{spansOf}
 use Rattle.line.proofs.Sends.{text-inside}
 use Rattle.line.proofs.Work.answer.Statement.{statement}
 use Rattle.line.proofs.Work.answer.Tie as tie
@@ -26,7 +26,7 @@ sub-t14 : tie.Need-sub-t14
 sub-t14 c = search needs
 
 returns : tie.Need-returns
-unfolding partsOf
+unfolding spansOf
 returns c =
     let start = c .before .before .before .before .before .before .before .before .before .before in
     let a = start .args in

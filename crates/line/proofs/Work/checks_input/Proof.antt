@@ -7,7 +7,7 @@ use Rattle.rules.specs.Messages.Codec as codec
 use Rattle.rules.specs.ReadData.{checksInput}
 use Rattle.rules.proofs.Sizes.{waiting-word}
 use Rattle.message.specs.Found.{heldIn}
-use Rattle.writing.specs.Parts.{partsOf, inside}
+use Rattle.writing.specs.Spans.{spansOf, inside}
 use Rattle.line.proofs.Joints.{here-part}
 use Rattle.line.proofs.Obeys.{waiting-count}
 use Rattle.line.proofs.Work.checks_input.Statement.{statement}
@@ -23,7 +23,7 @@ same-length : tie.Need-same-length
 same-length c = search needs
 
 returns : tie.Need-returns
-unfolding checksInput heldIn partsOf inside
+unfolding checksInput heldIn spansOf inside
 returns c =
     let start = c .before .before .before .before .before .before .before .before in
     let sent = c .before .before .sends-plain .ensures in (

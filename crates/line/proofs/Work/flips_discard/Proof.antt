@@ -8,7 +8,7 @@ use Rattle.rules.specs.Messages.Codec as codec
 use Rattle.rules.specs.State.{withDiscarding}
 use Rattle.rules.specs.Arrival.{sendsDiscardState, flipsDiscard}
 use Rattle.message.specs.Found.{heldIn}
-use Rattle.writing.specs.Parts.{partsOf, inside}
+use Rattle.writing.specs.Spans.{spansOf, inside}
 use Rattle.line.proofs.Joints.{here-part}
 use Rattle.line.proofs.Works.{then-does, told-does}
 use Rattle.line.proofs.Arrivals.{terminal-counted, terminal-does}
@@ -28,7 +28,7 @@ same-length : tie.Need-same-length
 same-length c = search needs
 
 returns : tie.Need-returns
-unfolding flipsDiscard sendsDiscardState heldIn partsOf inside
+unfolding flipsDiscard sendsDiscardState heldIn spansOf inside
 returns c =
     let flipped = c .before .before .before .before .with-terminal .ensures in
     let self = c .before .before .before .before .before .before .before .before .before .before .before .args .self in

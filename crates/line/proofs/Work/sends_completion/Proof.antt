@@ -9,7 +9,7 @@ use Rattle.rules.specs.Messages.Codec as codec
 use Rattle.rules.specs.Screen.{change}
 use Rattle.rules.specs.Host.{completion, sendsCompletion}
 use Rattle.message.specs.Found.{heldIn}
-use Rattle.writing.specs.Parts.{partsOf, inside}
+use Rattle.writing.specs.Spans.{spansOf, inside}
 use Rattle.line.proofs.Joints.{here-part}
 use Rattle.line.proofs.Works.{still-does, only-does, not-does}
 use Rattle.line.proofs.Work.sends_completion.Statement.{statement}
@@ -43,7 +43,7 @@ same-length : tie.Need-same-length
 same-length c = search needs
 
 returns : tie.Need-returns
-unfolding sendsCompletion completion heldIn partsOf inside
+unfolding sendsCompletion completion heldIn spansOf inside
 returns c =
     let start = c .before .before .before .before .before .before .before .before .before .before .before .before .before .before .before in
     let now = start .args .self .flow .terminal in

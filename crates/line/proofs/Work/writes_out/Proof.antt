@@ -10,8 +10,8 @@ use Rattle.line.proofs.Obeys.{some-text}
 use Rattle.line.proofs.Work.writes_out.Statement.{statement}
 use Rattle.line.proofs.Work.writes_out.Tie as tie
 
-bytes-of-requires : tie.Need-bytes-of-requires
-bytes-of-requires c κs = search needs
+span-of-requires : tie.Need-span-of-requires
+span-of-requires c κs = search needs
 
 stops-discarding-requires : tie.Need-stops-discarding-requires
 stops-discarding-requires c κs = search needs
@@ -31,7 +31,7 @@ same-length-2 c = search needs
 returns : tie.Need-returns
 unfolding writesOut
 returns c =
-    let text = c .before .before .before .before .before .before .before .before .before .bytes-of .ensures in
+    let text = c .before .before .before .before .before .before .before .before .before .span-of .ensures in
     let start = c .before .before .before .before .before .before .before .before .before .before .before .before .before .before .before .before in
     let said = c .before .before .sends-completion .ensures in (
       said .0,
@@ -47,7 +47,7 @@ pub writes-out-spec : {M : Type 1} → statement M
 writes-out-spec =
     tie.close
     (tie.spec
-    bytes-of-requires
+    span-of-requires
     stops-discarding-requires
     writes-unless-discarding-requires
     sends-completion-requires

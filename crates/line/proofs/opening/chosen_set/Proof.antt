@@ -13,13 +13,13 @@ returns : tie.Need-returns
 unfolding chosenSet startReadIn
 returns c = (sym (pick-true _ _ (eq-eqb _ _ (c .if1 .taken))), c .before .before .pre .0)
 
-bytes-of-requires : tie.Need-bytes-of-requires
-bytes-of-requires c κs = search needs
+span-of-requires : tie.Need-span-of-requires
+span-of-requires c κs = search needs
 
 set-of-requires : tie.Need-set-of-requires
 set-of-requires c κs =
     let start = c .before .before .before .before .before in
-    let same = ap length (c .bytes-of .ensures) in
+    let same = ap length (c .span-of .ensures) in
     omega (arith, start .pre .1)
 
 returns-2 : tie.Need-returns-2
@@ -28,7 +28,7 @@ returns-2 c =
     let given = c .set-of .ensures in
     let other = pick-false _ _ (ne-eqb _ _ (c .before .before .before .before .if1 .left)) in
     let this = pick-true _ _ (eq-eqb _ _ (c .before .before .before .if2 .taken)) in
-    (given .0 ∙ c .before .bytes-of .ensures ∙ sym (other ∙ this), given .1)
+    (given .0 ∙ c .before .span-of .ensures ∙ sym (other ∙ this), given .1)
 
 universal-requires : tie.Need-universal-requires
 universal-requires c κs = search needs
@@ -43,4 +43,4 @@ returns-3 c =
 pub chosen-set-spec : {M : Type 1} → statement M
 chosen-set-spec =
     tie.close
-    (tie.spec returns bytes-of-requires set-of-requires returns-2 universal-requires returns-3)
+    (tie.spec returns span-of-requires set-of-requires returns-2 universal-requires returns-3)

@@ -8,8 +8,8 @@ use Rattle.message.specs.Found.{startReadIn}
 use Rattle.line.proofs.opening.hides_lf.Statement.{statement}
 use Rattle.line.proofs.opening.hides_lf.Tie as tie
 
-bytes-of-requires : tie.Need-bytes-of-requires
-bytes-of-requires c κs = search needs
+span-of-requires : tie.Need-span-of-requires
+span-of-requires c κs = search needs
 
 byte-at-requires : tie.Need-byte-at-requires
 byte-at-requires c κs = search needs
@@ -18,8 +18,8 @@ returns : tie.Need-returns
 unfolding hidesLF startReadIn
 returns c =
     let start = c .before .before .before .before .before in
-    let first = c .before .byte-at .ensures ∙ ap (λ text. byteAt text 0) (c .before .before .bytes-of .ensures) in
+    let first = c .before .byte-at .ensures ∙ ap (λ text. byteAt text 0) (c .before .before .span-of .ensures) in
     ap (λ b. eqb (start .args .f .formats) 1 && eqb b 10) first
 
 pub hides-lf-spec : {M : Type 1} → statement M
-hides-lf-spec = tie.close (tie.spec bytes-of-requires byte-at-requires returns)
+hides-lf-spec = tie.close (tie.spec span-of-requires byte-at-requires returns)

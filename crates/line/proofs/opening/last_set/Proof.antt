@@ -9,24 +9,24 @@ use Rattle.line.proofs.opening.last_set.Tie as tie
 use Rattle.line.proofs.opening.last_set.Reads as reads
 use Rattle.line.proofs.opening.last_set.Lts as lts
 use Rattle.line.proofs.opening.set_of.Reads as set-of-reads
-use Rattle.message.proofs.bytes_of.Reads as bytes-of-reads
+use Rattle.message.proofs.span_of.Reads as span-of-reads
 
-bytes-of-requires : tie.Need-bytes-of-requires
-bytes-of-requires c κs = search needs
+span-of-requires : tie.Need-span-of-requires
+span-of-requires c κs = search needs
 
 set-of-requires : tie.Need-set-of-requires
 set-of-requires c κs =
     let start = c .before .before .before .before .before in
-    let same = ap length (c .bytes-of .ensures) in
+    let same = ap length (c .span-of .ensures) in
     omega (arith, start .pre .1)
 
 returns : tie.Need-returns
 returns c =
     let given = c .set-of .ensures in
-    (given .0 ∙ c .before .bytes-of .ensures ∙ sym (pick-true _ _ (eq-eqb _ _ (c .before .before .before .if1 .taken))), given .1)
+    (given .0 ∙ c .before .span-of .ensures ∙ sym (pick-true _ _ (eq-eqb _ _ (c .before .before .before .if1 .taken))), given .1)
 
 returns-2 : tie.Need-returns-2
 returns-2 c = (sym (pick-false _ _ (ne-eqb _ _ (c .if1 .left))), c .before .before .before .pre .0)
 
 pub last-set-spec : {M : Type 1} → statement M
-last-set-spec = tie.close (tie.spec bytes-of-requires set-of-requires returns returns-2)
+last-set-spec = tie.close (tie.spec span-of-requires set-of-requires returns returns-2)

@@ -11,27 +11,27 @@ use Rattle.line.proofs.opening.prompt_of.Reads as reads
 use Rattle.line.proofs.opening.prompt_of.Lts as lts
 use Rattle.line.proofs.opening.front_of.Reads as front-of-reads
 use Rattle.line.proofs.opening.hides_lf.Reads as hides-lf-reads
-use Rattle.message.proofs.bytes_of.Reads as bytes-of-reads
+use Rattle.message.proofs.span_of.Reads as span-of-reads
 
 hides-lf-requires : tie.Need-hides-lf-requires
 hides-lf-requires c κs = search needs
 
-bytes-of-requires : tie.Need-bytes-of-requires
-bytes-of-requires c κs = search needs
+span-of-requires : tie.Need-span-of-requires
+span-of-requires c κs = search needs
 
 cast-front-of : tie.Need-cast-front-of
 cast-front-of c = search needs
 
 front-of-requires : tie.Need-front-of-requires
-front-of-requires c κs = prompt-within (c .before .before .before .before .before .pre) (c .before .bytes-of .ensures)
+front-of-requires c κs = prompt-within (c .before .before .before .before .before .pre) (c .before .span-of .ensures)
 
 returns : tie.Need-returns
 unfolding shownPrompt startReadIn
 returns c =
     let end = c .before .before .before .before .before .before .args .f .«end_of_prompt» in
-    c .front-of .ensures ∙ ap₂ (λ hidden text. drop (bit hidden) (take end text)) (c .before .before .before .before .hides-lf .ensures) (c .before .before .bytes-of .ensures)
+    c .front-of .ensures ∙ ap₂ (λ hidden text. drop (bit hidden) (take end text)) (c .before .before .before .before .hides-lf .ensures) (c .before .before .span-of .ensures)
 
 pub prompt-of-spec : {M : Type 1} → statement M
 prompt-of-spec =
     tie.close
-    (tie.spec hides-lf-requires bytes-of-requires cast-front-of front-of-requires returns)
+    (tie.spec hides-lf-requires span-of-requires cast-front-of front-of-requires returns)

@@ -1,6 +1,6 @@
 use borrow.Author.Needs.{needs}
-use Rattle.rules.specs.Numbers.{inputSize}
 use Rattle.rules.specs.StartRead.{soundStartRead}
+use Rattle.rules.proofs.Sizes.{input-size}
 use Rattle.message.specs.Found.{startReadIn}
 use Rattle.message.proofs.start_read.start_read_test.Statement.{statement}
 use Rattle.message.proofs.start_read.start_read_test.Tie as tie
@@ -12,8 +12,8 @@ less-requires : tie.Need-less-requires
 less-requires c κs = search needs
 
 returns : tie.Need-returns
-unfolding soundStartRead startReadIn inputSize
-returns c = λ s e. rw (e, c .before .before .before .before .before .before .before .before .before .before .less .ensures)
+unfolding soundStartRead startReadIn
+returns c = λ s e. rw (input-size, e, c .before .before .before .before .before .before .before .before .before .before .less .ensures)
 
 pub start-read-test-spec : {M : Type 1} → statement M
 start-read-test-spec = tie.close (tie.spec cast-largest less-requires returns)

@@ -8,7 +8,7 @@ use Rattle.rules.specs.Messages.Forms.{forms, formOf}
 use Rattle.rules.proofs.Tests.{both}
 use Rattle.message.specs.Found.{heldIn, placesOf}
 use Rattle.message.proofs.Heads.{no-more, bits-first, byte-first, word-first}
-use Rattle.message.proofs.Reading.{rest-lies, text-fields}
+use Rattle.message.proofs.Decoding.{rest-lies, text-fields}
 use Rattle.message.proofs.texts.read_data_fields.Statement.{statement}
 use Rattle.message.proofs.texts.read_data_fields.Tie as tie
 

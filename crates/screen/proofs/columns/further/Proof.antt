@@ -1,11 +1,14 @@
 use native.Mathlib.Omega.{arith}
 use borrow.Author.Needs.{needs}
-use Rattle.screen.proofs.Tops.{top-column}
+use Rattle.rules.proofs.Sizes.{top-column}
 use Rattle.screen.proofs.columns.further.Statement.{statement}
 use Rattle.screen.proofs.columns.further.Tie as tie
 
 add-sum : tie.Need-add-sum
 add-sum c = search needs
+
+cast-if1 : tie.Need-cast-if1
+cast-if1 c = search needs
 
 cast-result : tie.Need-cast-result
 cast-result c = search needs
@@ -13,11 +16,8 @@ cast-result c = search needs
 returns : tie.Need-returns
 returns c = omega (arith, top-column)
 
-cast-result-2 : tie.Need-cast-result-2
-cast-result-2 c = search needs
-
 returns-2 : tie.Need-returns-2
 returns-2 c = omega (arith, top-column)
 
 pub further-spec : {M : Type 1} → statement M
-further-spec = tie.close (tie.spec add-sum cast-result returns cast-result-2 returns-2)
+further-spec = tie.close (tie.spec add-sum cast-if1 cast-result returns returns-2)

@@ -1,8 +1,8 @@
 use native.Mathlib.Omega.{arith}
 use mathlib.Core.Path.{sym}
 use Rattle.message.specs.Found.{heldIn}
-use Rattle.writing.specs.Parts.{partsOf}
-use Rattle.writing.proofs.Lengths.{parts-length}
+use Rattle.writing.specs.Spans.{spansOf}
+use Rattle.writing.proofs.Lengths.{spans-length}
 use Rattle.writing.proofs.Fitting.{bytes-all}
 use Rattle.writing.proofs.WholeLists.{initiate-fits}
 use Rattle.writing.proofs.fits.fits_initiate.Statement.{statement}
@@ -12,7 +12,7 @@ fits-list-requires : tie.Need-fits-list-requires
 fits-list-requires c κs = tt
 
 returns : tie.Need-returns
-unfolding heldIn partsOf
+unfolding heldIn spansOf
 returns c =
     let k = c .before .before .before .before in
     let a = k .before .args in
@@ -22,7 +22,7 @@ returns c =
       same =
           λ e.
           initiate-fits s (f .parameters) (bytes-all s (λ i. omega (arith, k .shared-slice-known .given i))) (f .revision)
-          (omega arith) (omega arith) (omega arith) (sym (parts-length s _ e .3)) (c .before .fits-list .ensures);
+          (omega arith) (omega arith) (omega arith) (sym (spans-length s _ e .3)) (c .before .fits-list .ensures);
     }
 
 pub fits-initiate-spec : {M : Type 1} → statement M

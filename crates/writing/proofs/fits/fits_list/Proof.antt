@@ -3,8 +3,8 @@ use Rattle.parameters.specs.Lists.{soundFrom}
 use Rattle.writing.proofs.fits.fits_list.Statement.{statement}
 use Rattle.writing.proofs.fits.fits_list.Tie as tie
 
-bytes-of-requires : tie.Need-bytes-of-requires
-bytes-of-requires c κs = tt
+span-of-requires : tie.Need-span-of-requires
+span-of-requires c κs = tt
 
 whole-list-requires : tie.Need-whole-list-requires
 whole-list-requires c κs = tt
@@ -12,7 +12,7 @@ whole-list-requires c κs = tt
 returns : tie.Need-returns
 returns c =
     let b = c .before in
-    c .whole-list .ensures ∙ ap (soundFrom (b .before .before .args .kind) 0) (b .bytes-of .ensures)
+    c .whole-list .ensures ∙ ap (soundFrom (b .before .before .args .kind) 0) (b .span-of .ensures)
 
 pub fits-list-spec : {M : Type 1} → statement M
-fits-list-spec = tie.close (tie.spec bytes-of-requires whole-list-requires returns)
+fits-list-spec = tie.close (tie.spec span-of-requires whole-list-requires returns)

@@ -1,7 +1,7 @@
 use mathlib.Core.Path.{refl}
 use native.Mathlib.Omega.{arith}
 use Rattle.message.specs.Found.{heldIn}
-use Rattle.writing.proofs.Fitting.{part-bytes, held-fits, read-data-fits}
+use Rattle.writing.proofs.Fitting.{span-bytes, held-fits, read-data-fits}
 use Rattle.writing.proofs.fits.fits_read_data.Statement.{statement}
 use Rattle.writing.proofs.fits.fits_read_data.Tie as tie
 
@@ -13,7 +13,7 @@ returns c =
       each =
           λ s bytes.
           held-fits s refl
-          (read-data-fits (f .code) (f .more) _ (omega arith) (omega arith) (omega arith) (omega arith) (part-bytes s (f .text) bytes));
+          (read-data-fits (f .code) (f .more) _ (omega arith) (omega arith) (omega arith) (omega arith) (span-bytes s (f .text) bytes));
     }
 
 pub fits-read-data-spec : {M : Type 1} → statement M

@@ -6,8 +6,8 @@ use borrow.Author.Needs.{needs}
 use Rattle.writing.proofs.front.copy.Statement.{statement}
 use Rattle.writing.proofs.front.copy.Tie as tie
 
-read-requires : tie.Need-read-requires
-read-requires c κs = tt
+decode-requires : tie.Need-decode-requires
+decode-requires c κs = tt
 
 enum-known-f : tie.Need-enum-known-f
 enum-known-f c = search needs
@@ -24,28 +24,28 @@ returns c =
     let s = c .before .before .before .before .before .before .args .s .now in
     let e = c .before .enum-told .given .1 in
     refusal
-    (copy-refused _ s (ap (foundIn s) (sym e) ∙ c .before .before .before .read .ensures .fields) ∙ ap refused (sym (c .number-of .ensures ∙ ap foundNumber e)))
+    (copy-refused _ s (ap (foundIn s) (sym e) ∙ c .before .before .before .decode .ensures .fields) ∙ ap refused (sym (c .number-of .ensures ∙ ap foundNumber e)))
 
-write-requires : tie.Need-write-requires
-write-requires c κs = tt
+encode-requires : tie.Need-encode-requires
+encode-requires c κs = tt
 
 same-length : tie.Need-same-length
-same-length c = c .before .before .write .ensures .same
+same-length c = c .before .before .encode .ensures .same
 
 returns-2 : tie.Need-returns-2
 returns-2 c =
     let b = c .before .before .before .before .before in
-    answers-again (b .before .before .read .ensures) (b .f .given .1) (c .before .before .write .ensures)
+    answers-again (b .before .before .decode .ensures) (b .f .given .1) (c .before .before .encode .ensures)
 
 pub copy-spec : {M : Type 1} → statement M
 copy-spec =
     tie.close
     (tie.spec
-    read-requires
+    decode-requires
     enum-known-f
     enum-told
     number-of-requires
     returns
-    write-requires
+    encode-requires
     same-length
     returns-2)

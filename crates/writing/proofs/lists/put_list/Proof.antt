@@ -4,17 +4,17 @@ use Rattle.rules.specs.Choice.{joined}
 use Rattle.rules.proofs.Tests.{pick-true, pick-false}
 use Rattle.parameters.specs.Lists.{soundFrom, parametersFrom}
 use Rattle.areas.proofs.Putting.{equals}
-use Rattle.writing.specs.Parts.{listBytes}
+use Rattle.writing.specs.Spans.{listBytes}
 use Rattle.writing.proofs.lists.put_list.Statement.{statement}
 use Rattle.writing.proofs.lists.put_list.Tie as tie
 
-bytes-of-requires : tie.Need-bytes-of-requires
-bytes-of-requires c κs = tt
+span-of-requires : tie.Need-span-of-requires
+span-of-requires c κs = tt
 
 put-settings-requires : tie.Need-put-settings-requires
 put-settings-requires c κs =
     let b = c .before .before in
-    ap (soundFrom 11 0) (b .bytes-of .ensures) ∙ b .before .before .before .pre (c .before .if1 .taken)
+    ap (soundFrom 11 0) (b .span-of .ensures) ∙ b .before .before .before .pre (c .before .if1 .taken)
 
 same-length : tie.Need-same-length
 same-length c = c .before .before .put-settings .ensures .same
@@ -24,7 +24,7 @@ unfolding listBytes
 returns c =
     let b = c .before .before .before .before in
     let kind = b .before .before .before .before .args .kind in
-    let bytes = ap (λ t. joined (parametersFrom 11 0 t)) (b .before .bytes-of .ensures) in
+    let bytes = ap (λ t. joined (parametersFrom 11 0 t)) (b .before .span-of .ensures) in
     equals (bytes ∙ sym (pick-true _ _ (eq-eqb kind 11 (b .if1 .taken)))) (c .before .before .put-settings .ensures)
 
 put-bytes-requires : tie.Need-put-bytes-requires
@@ -38,13 +38,13 @@ unfolding listBytes
 returns-2 c =
     let b = c .before .before .before .before in
     let kind = b .before .before .before .before .args .kind in
-    equals (b .before .bytes-of .ensures ∙ sym (pick-false _ _ (ne-eqb kind 11 (b .if1 .left)))) (c .before .before .put-bytes .ensures)
+    equals (b .before .span-of .ensures ∙ sym (pick-false _ _ (ne-eqb kind 11 (b .if1 .left)))) (c .before .before .put-bytes .ensures)
 
 pub put-list-spec : {M : Type 1} → statement M
 put-list-spec =
     tie.close
     (tie.spec
-    bytes-of-requires
+    span-of-requires
     put-settings-requires
     same-length
     returns

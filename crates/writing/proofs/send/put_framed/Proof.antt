@@ -1,13 +1,13 @@
 use mathlib.Core.Path.{ap, _∙_}
 use Rattle.rules.specs.Messages.Layout.{bytesOf}
-use Rattle.writing.specs.Parts.{sizeOf}
+use Rattle.writing.specs.Spans.{sizeOf}
 use Rattle.areas.proofs.Putting.{equals, joins}
 use Rattle.writing.proofs.Lengths.{sent-framed}
 use Rattle.writing.proofs.send.put_framed.Statement.{statement}
 use Rattle.writing.proofs.send.put_framed.Tie as tie
 
-parts-of-requires : tie.Need-parts-of-requires
-parts-of-requires c κs = tt
+spans-of-requires : tie.Need-spans-of-requires
+spans-of-requires c κs = tt
 
 size-of-requires : tie.Need-size-of-requires
 size-of-requires c κs = tt
@@ -24,7 +24,7 @@ same-length c = c .before .before .put-message .ensures .same ∙ c .before .bef
 returns : tie.Need-returns
 returns c =
     let p = c .before .before .before .before .before .before in
-    let size = p .before .before .size-of .ensures ∙ ap sizeOf (p .before .before .before .parts-of .ensures) in
+    let size = p .before .before .size-of .ensures ∙ ap sizeOf (p .before .before .before .spans-of .ensures) in
     let front = joins (equals (ap (bytesOf 2) size) (p .put-number .ensures)) (c .before .before .put-message .ensures) in
     record { sent = λ x k. equals (sent-framed k) front; front = front }
 
@@ -32,7 +32,7 @@ pub put-framed-spec : {M : Type 1} → statement M
 put-framed-spec =
     tie.close
     (tie.spec
-    parts-of-requires
+    spans-of-requires
     size-of-requires
     put-number-requires
     put-message-requires

@@ -1,0 +1,26 @@
+use mathlib.Core.Path.{refl}
+use borrow.Author.Needs.{needs}
+use Rattle.rules.specs.Messages.Layout.{sizeOf}
+use Rattle.rules.specs.Messages.Forms.{forms, formOf}
+use Rattle.message.specs.Found.{heldIn, placesOf}
+use Rattle.message.proofs.Heads.{no-more, bit-first}
+use Rattle.message.proofs.Decoding.{isFree, fixed-refused, fixed-sound}
+use Rattle.message.proofs.fixed.decode_input_state.Statement.{statement}
+use Rattle.message.proofs.fixed.decode_input_state.Tie as tie
+
+returns : tie.Need-returns
+unfolding formOf forms sizeOf
+returns c = fixed-refused 14 (c .before .before .args .s .now) refl (c .if1 .taken)
+
+byte-at-requires : tie.Need-byte-at-requires
+byte-at-requires c κs = search needs
+
+returns-2 : tie.Need-returns-2
+unfolding heldIn placesOf formOf forms sizeOf isFree
+returns-2 c =
+    let a = c .before .before .before in
+    fixed-sound 14 (a .args .s .now) refl (a .pre .typed) refl (c .before .if1 .left)
+    (bit-first (c .byte-at .ensures) no-more) refl refl
+
+pub decode-input-state-spec : {M : Type 1} → statement M
+decode-input-state-spec = tie.close (tie.spec returns byte-at-requires returns-2)

@@ -1,0 +1,30 @@
+use mathlib.Core.Path.{refl}
+use native.Mathlib.Omega.{arith}
+use borrow.Author.Needs.{needs}
+use Rattle.rules.specs.Messages.Layout.{sizeOf}
+use Rattle.rules.specs.Messages.Forms.{forms, formOf}
+use Rattle.message.specs.Found.{heldIn, placesOf}
+use Rattle.message.proofs.Heads.{no-more, bit-first, byte-first}
+use Rattle.message.proofs.Decoding.{isFree, fixed-refused, fixed-sound}
+use Rattle.message.proofs.fixed.decode_out_of_band.Statement.{statement}
+use Rattle.message.proofs.fixed.decode_out_of_band.Tie as tie
+
+returns : tie.Need-returns
+unfolding formOf forms sizeOf
+returns c = fixed-refused 4 (c .before .before .args .s .now) refl (c .if1 .taken)
+
+byte-at-requires : tie.Need-byte-at-requires
+byte-at-requires c κs = search needs
+
+byte-at-requires-2 : tie.Need-byte-at-requires-2
+byte-at-requires-2 c κs = search needs
+
+returns-2 : tie.Need-returns-2
+unfolding heldIn placesOf formOf forms sizeOf isFree
+returns-2 c =
+    let a = c .before .before .before .before in
+    fixed-sound 4 (a .args .s .now) refl (a .pre .typed) refl (c .before .before .if1 .left)
+    (bit-first (c .before .byte-at .ensures) (byte-first (c .byte-at2 .ensures) (omega arith) no-more)) refl refl
+
+pub decode-out-of-band-spec : {M : Type 1} → statement M
+decode-out-of-band-spec = tie.close (tie.spec returns byte-at-requires byte-at-requires-2 returns-2)
