@@ -15,7 +15,7 @@ use Rattle.line.specs.declared.acts.Act.{Act}
 use Rattle.line.specs.declared.acts.Act.the-variants.{Nothing, Stores, StoresQuoted, SendsOutOfBand, ClearsAtOnce, Quotes, Clears, FlipsDiscard}
 use Rattle.line.specs.declared.acts.Act.the-variants.{TakesToken, Takes, TimesOut, Idles, Obeys}
 use Rattle.line.specs.View.{keyOf, keysOf}
-use Rattle.line.specs.KeyParts.{shift, keysAfter}
+use Rattle.line.specs.KeyArray.{shift, keysAfter}
 use Rattle.line.proofs.acts.Act.{the-type}
 
 pub keys-length : (n : ℕ) (keys : List ℕ) → length (keysOf n keys) ≡ n

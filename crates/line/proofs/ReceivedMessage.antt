@@ -25,7 +25,7 @@ use Rattle.line.specs.declared.Line.{Line}
 use Rattle.line.specs.View.{pendingOf, view}
 use Rattle.line.specs.Answers.{ruled}
 use Rattle.line.specs.Refusals.{firstRow, earlyRow}
-use Rattle.line.specs.HostMessages.{messageOf, senderOf, Accepted}
+use Rattle.line.specs.Host.{messageOf, senderOf, Accepted}
 use Rattle.line.specs.declared.events.HostMessage.{HostMessage}
 use Rattle.line.specs.declared.events.Sender.the-variants as sender
 

@@ -19,7 +19,7 @@ use Rattle.line.specs.declared.Typed.{Typed}
 use Rattle.line.specs.View.{keysOf, tokenOf}
 use Rattle.line.specs.Bounded.{CountedTyped}
 use Rattle.line.proofs.KeyArrays.{keys-empty}
-use Rattle.line.specs.TokenParts.{codesOf, untokened, tokened, emptied}
+use Rattle.line.specs.TokenChanges.{codesOf, untokened, tokened, emptied}
 
 -- a list counted into an array is empty where its count is 0
 pub empty-take : {A : Type 0} (n : ℕ) (xs : List A) → n ≤ length xs → isEmpty (take n xs) ≡ eqb n 0

@@ -7,7 +7,7 @@ use lib.ListN.{length, getD, drop}
 use Rattle.rules.specs.Numbers.{typeAheadSize, tokenSize}
 use Rattle.rules.specs.State as rules
 use Rattle.rules.specs.State.{State, codes, withIdle}
-use Rattle.rules.specs.Turns.{Turn, Part, still, changes, _then_}
+use Rattle.rules.specs.Turns.{Turn, Rule, still, changes, _then_}
 use Rattle.rules.specs.ReadData.{noEnding, byTimeout, completes}
 use Rattle.rules.specs.Arrival.{stores, storesQuoted, sendsOutOfBand, clearsAtOnce, quoteKey, quotes, rubbingOut, clearRule, discardKey, flipsDiscard}
 use Rattle.rules.specs.Steps as steps
@@ -24,12 +24,12 @@ use Rattle.line.specs.declared.acts.Act.{Act}
 use Rattle.line.specs.declared.acts.Act.the-variants.{Nothing, Stores, StoresQuoted, SendsOutOfBand, ClearsAtOnce, Quotes, Clears, FlipsDiscard}
 use Rattle.line.specs.declared.acts.Act.the-variants.{TakesToken, Takes, TimesOut, Idles, Obeys}
 use Rattle.line.specs.View.{view, keyOf, keysOf, readingOf}
-use Rattle.line.specs.ReadingParts.{HasRoom, idling}
+use Rattle.line.specs.ReadChanges.{HasRoom, idling}
 use Rattle.line.specs.With.{onFlow, onKeys, lent}
-use Rattle.line.specs.KeyParts.{keysAfter, shifted}
+use Rattle.line.specs.KeyArray.{keysAfter, shifted}
 use Rattle.line.specs.Bounded.{CountedFlow}
 use Rattle.line.specs.Promise.{on, Does}
-use Rattle.line.specs.HostMessages.{messageOf, Accepted, obeysHeld, flowPart, Startables, Prompts}
+use Rattle.line.specs.Host.{messageOf, Accepted, obeysHeld, flowRule, Startables, Prompts}
 
 -- the read of a line, with idle at 0
 abbrev pub idleAtZero : Line → rules.Reading ℕ
@@ -39,32 +39,32 @@ idleAtZero l = withIdle 0 (readingOf l (l .flow .reading))
 abbrev pub keyTaken : Line → State ℕ → State ℕ
 keyTaken l = steps.keyTaken (drop 1 (keysOf (l .flow .typed .waiting) (l .keys))) (readingOf l (l .flow .reading))
 
-abbrev pub takesKey : Line → Part ℕ
+abbrev pub takesKey : Line → Rule ℕ
 takesKey l = changes (keyTaken l)
 
 -- the rule that a taken key meets
-abbrev pub takenPart : Taken → rules.Reading ℕ → Part ℕ
-takenPart (Token c) r = addsToToken codes c r
-takenPart (Terminator c) r = terminates codes c r
-takenPart (Edit c) r = edits codes c r
-takenPart (Data c) r = takesData codes c r
+abbrev pub takenRule : Taken → rules.Reading ℕ → Rule ℕ
+takenRule (Token c) r = addsToToken codes c r
+takenRule (Terminator c) r = terminates codes c r
+takenRule (Edit c) r = edits codes c r
+takenRule (Data c) r = takesData codes c r
 
 -- The part of the rules that an act is; `s` is the slice of a host message. `quotes` and `flipsDiscard` want their key only
 -- to say what became of it.
-abbrev pub actPart : List ℕ → Line → Act → Part ℕ
-actPart s l Nothing = still
-actPart s l (Stores c) = stores typeAheadSize false c
-actPart s l (StoresQuoted c) = storesQuoted c
-actPart s l (SendsOutOfBand c) = sendsOutOfBand codes c
-actPart s l (ClearsAtOnce c) = clearsAtOnce codes c
-actPart s l Quotes = quotes quoteKey
-actPart s l Clears = clearRule codes rubbingOut
-actPart s l FlipsDiscard = flipsDiscard discardKey
-actPart s l TakesToken = takesToken codes (readingOf l (l .flow .reading))
-actPart s l (Takes k) = takesKey l then takenPart k (idleAtZero l)
-actPart s l TimesOut = completes codes byTimeout noEnding (readingOf l (l .flow .reading))
-actPart s l (Idles idle) = setsIdle idle (readingOf l (l .flow .reading))
-actPart s l (Obeys m) = obeysHeld (heldIn s (messageOf m))
+abbrev pub actRule : List ℕ → Line → Act → Rule ℕ
+actRule s l Nothing = still
+actRule s l (Stores c) = stores typeAheadSize false c
+actRule s l (StoresQuoted c) = storesQuoted c
+actRule s l (SendsOutOfBand c) = sendsOutOfBand codes c
+actRule s l (ClearsAtOnce c) = clearsAtOnce codes c
+actRule s l Quotes = quotes quoteKey
+actRule s l Clears = clearRule codes rubbingOut
+actRule s l FlipsDiscard = flipsDiscard discardKey
+actRule s l TakesToken = takesToken codes (readingOf l (l .flow .reading))
+actRule s l (Takes k) = takesKey l then takenRule k (idleAtZero l)
+actRule s l TimesOut = completes codes byTimeout noEnding (readingOf l (l .flow .reading))
+actRule s l (Idles idle) = setsIdle idle (readingOf l (l .flow .reading))
+actRule s l (Obeys m) = obeysHeld (heldIn s (messageOf m))
 
 -- a key can be taken: one waits, a read has room for it, and so has a token that is begun
 pub record CanTakeKey (f : Flow) (t : Terms) : Type 0 where
@@ -120,8 +120,8 @@ unfoldable pub effectOf : Turn ℕ → Effect
 effectOf t = record { state = t .state; bytes = t .bytes; messages = messageBytes codes t }
 
 -- from this line a part of the rules does what the act does
-pub record Meets (rule : Part ℕ) (s : List ℕ) (l : Line) (a : Act) : Type 0 where
-  pub same : effectOf (rule (view l)) ≡ effectOf (actPart s l a (view l))
+pub record Meets (rule : Rule ℕ) (s : List ℕ) (l : Line) (a : Act) : Type 0 where
+  pub same : effectOf (rule (view l)) ≡ effectOf (actRule s l a (view l))
   pub ready : Ready s l a
 
 -- how the first key of a line is taken, where it can be
@@ -155,20 +155,20 @@ Fits s f t (Idles idle) = Unit {0}
 Fits s f t (Obeys m) = Startables s m
 
 -- the act's part, but of a host message without what it sets and reports
-abbrev pub flowAct : List ℕ → Line → Act → Part ℕ
-flowAct s l Nothing = actPart s l Nothing
-flowAct s l (Stores c) = actPart s l (Stores c)
-flowAct s l (StoresQuoted c) = actPart s l (StoresQuoted c)
-flowAct s l (SendsOutOfBand c) = actPart s l (SendsOutOfBand c)
-flowAct s l (ClearsAtOnce c) = actPart s l (ClearsAtOnce c)
-flowAct s l Quotes = actPart s l Quotes
-flowAct s l Clears = actPart s l Clears
-flowAct s l FlipsDiscard = actPart s l FlipsDiscard
-flowAct s l TakesToken = actPart s l TakesToken
-flowAct s l (Takes k) = actPart s l (Takes k)
-flowAct s l TimesOut = actPart s l TimesOut
-flowAct s l (Idles idle) = actPart s l (Idles idle)
-flowAct s l (Obeys m) = flowPart s l m
+abbrev pub flowAct : List ℕ → Line → Act → Rule ℕ
+flowAct s l Nothing = actRule s l Nothing
+flowAct s l (Stores c) = actRule s l (Stores c)
+flowAct s l (StoresQuoted c) = actRule s l (StoresQuoted c)
+flowAct s l (SendsOutOfBand c) = actRule s l (SendsOutOfBand c)
+flowAct s l (ClearsAtOnce c) = actRule s l (ClearsAtOnce c)
+flowAct s l Quotes = actRule s l Quotes
+flowAct s l Clears = actRule s l Clears
+flowAct s l FlipsDiscard = actRule s l FlipsDiscard
+flowAct s l TakesToken = actRule s l TakesToken
+flowAct s l (Takes k) = actRule s l (Takes k)
+flowAct s l TimesOut = actRule s l TimesOut
+flowAct s l (Idles idle) = actRule s l (Idles idle)
+flowAct s l (Obeys m) = flowRule s l m
 
 -- `Prompts` of the message that an act obeys
 abbrev pub PromptsBy : Terms → Line → Act → Type 0

@@ -5,7 +5,7 @@ use mathlib.Core.Bool.{Bool}
 use mathlib.Core.List.{List}
 use lib.ListN.{getD}
 use Rattle.rules.specs.State.{codes}
-use Rattle.rules.specs.Turns.{Part}
+use Rattle.rules.specs.Turns.{Rule}
 use Rattle.rules.specs.Arrival.{arrives}
 use Rattle.rules.specs.Token.{isWhole}
 use Rattle.rules.specs.Steps.{steps, ticks}
@@ -15,10 +15,10 @@ use Rattle.line.specs.declared.events.Seen.{Seen}
 use Rattle.line.specs.declared.events.Event.{Event}
 use Rattle.line.specs.declared.events.Event.the-variants.{Key, Tick, Step, Host}
 use Rattle.line.specs.declared.acts.Act.{Act}
-use Rattle.line.specs.TokenParts.{codesOf}
+use Rattle.line.specs.TokenChanges.{codesOf}
 use Rattle.line.specs.Acts.{callsOf, TakesFirst}
 use Rattle.line.specs.Bounded.{Bounded}
-use Rattle.line.specs.HostMessages.{messageOf, Accepted, obeysHeld}
+use Rattle.line.specs.Host.{messageOf, Accepted, obeysHeld}
 
 -- what a step looks at
 pub record SeesStep (s : List ℕ) (l : Line) (seen : Seen) : Type 0 where
@@ -41,8 +41,8 @@ isActOf Step a = callsOf a .step
 isActOf (Host m) a = callsOf a .host
 
 -- the part of the rules that an event is
-unfoldable pub eventPart : List ℕ → Event → Part ℕ
-eventPart s (Key c) = arrives codes c
-eventPart s Tick = ticks codes
-eventPart s Step = steps codes
-eventPart s (Host m) = obeysHeld (heldIn s (messageOf m))
+unfoldable pub eventRule : List ℕ → Event → Rule ℕ
+eventRule s (Key c) = arrives codes c
+eventRule s Tick = ticks codes
+eventRule s Step = steps codes
+eventRule s (Host m) = obeysHeld (heldIn s (messageOf m))

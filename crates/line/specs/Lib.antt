@@ -2,11 +2,11 @@ pub mod View
 pub mod Bounded
 pub mod With
 pub mod Promise
-pub mod TokenParts
-pub mod KeyParts
-pub mod ReadingParts
-pub mod Starts
-pub mod HostMessages
+pub mod TokenChanges
+pub mod KeyArray
+pub mod ReadChanges
+pub mod StartRead
+pub mod Host
 pub mod Acts
 pub mod Events
 pub mod Refusals

@@ -4,7 +4,7 @@ use mathlib.Core.Path.{_≡_}
 use mathlib.Core.List.{List}
 use lib.ListN.{length}
 use Rattle.rules.specs.State.{codes}
-use Rattle.rules.specs.Turns.{Part}
+use Rattle.rules.specs.Turns.{Rule}
 use Rattle.rules.specs.Calls.{messageBytes}
 use Rattle.rules.specs.Area.{puts, spot}
 use Rattle.line.specs.declared.Line.{Line}
@@ -22,7 +22,7 @@ pub record Progress : Type 0 where
 abbrev pub on : Line → Work → Progress
 on l w = record { line = onFlow (w .flow) l; at = w .at; sent = w .sent }
 
-pub record Does (part : Part ℕ) (w : Progress) (terminal messages : List ℕ) (r : Progress) (terminal′ messages′ : List ℕ) : Type 0 where
+pub record Does (part : Rule ℕ) (w : Progress) (terminal messages : List ℕ) (r : Progress) (terminal′ messages′ : List ℕ) : Type 0 where
   pub state : view (r .line) ≡ part (view (w .line)) .state
   pub shows : spot terminal′ (r .at) ≡ puts (part (view (w .line)) .bytes) (spot terminal (w .at))
   pub sends : spot messages′ (r .sent) ≡ puts (messageBytes codes (part (view (w .line)))) (spot messages (w .sent))
@@ -30,11 +30,11 @@ pub record Does (part : Part ℕ) (w : Progress) (terminal messages : List ℕ) 
   pub messagesLength : length messages′ ≡ length messages
 
 -- `Does` for a part that depends on the line, whose arrays it leaves alone
-abbrev pub DoesOn : (Line → Part ℕ) → Line → Work → List ℕ → List ℕ → Work → List ℕ → List ℕ → Type 0
+abbrev pub DoesOn : (Line → Rule ℕ) → Line → Work → List ℕ → List ℕ → Work → List ℕ → List ℕ → Type 0
 DoesOn part l w terminal messages r terminal′ messages′ =
     Does (part l) (on l w) terminal messages (on l r) terminal′ messages′
 
 -- the same, where keys or text change: one line before, another after
-abbrev pub DoesAcross : (Line → Part ℕ) → Line → Work → List ℕ → List ℕ → Line → Work → List ℕ → List ℕ → Type 0
+abbrev pub DoesAcross : (Line → Rule ℕ) → Line → Work → List ℕ → List ℕ → Line → Work → List ℕ → List ℕ → Type 0
 DoesAcross part l w terminal messages l′ r terminal′ messages′ =
     Does (part l) (on l w) terminal messages (on l′ r) terminal′ messages′

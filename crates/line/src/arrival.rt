@@ -11,7 +11,7 @@ ghost use Rattle.line.specs.declared.Line.{Line};
 ghost use Rattle.line.specs.View.{keyOf, readingOf, pendingOf};
 ghost use Rattle.line.specs.Bounded.{CountedFlow, CountedReading};
 ghost use Rattle.line.specs.With.{onFlow, lent};
-ghost use Rattle.line.specs.KeyParts.{stored};
+ghost use Rattle.line.specs.KeyArray.{stored};
 ghost use Rattle.line.specs.Promise.{on, Does, DoesOn};
 ghost use Rattle.line.specs.Acts.{callsOf, Meets};
 use crate::Flow;
@@ -19,7 +19,7 @@ use crate::Reading;
 use crate::Terms;
 use crate::Work;
 use crate::acts::Act;
-use crate::ending;
+use crate::read_data;
 use message::Message;
 
 // Codes that are controls, by arrival rule 3.
@@ -227,7 +227,7 @@ impl Work {
         ensures rule { λ w. ⌜ ((l : Line) (a : List ℕ) → DoesOn (λ k. rules.endsOutOfBand codes (pendingOf pending (readingOf k r))) (lent t (now (text .entry)) l) self a (now (messages .entry)) w a (now (messages .exit))) ⌝ }
     {
         if pending {
-            return self.completes(messages, ending::OUT_OF_BAND, 0, r, text, t);
+            return self.completes(messages, read_data::OUT_OF_BAND, 0, r, text, t);
         }
         self
     }

@@ -3,7 +3,7 @@ ghost use mathlib.Core.Path.{_≡_};
 ghost use Rattle.rules.specs.Calls as rules;
 ghost use Rattle.rules.specs.Calls.{areRoomy};
 ghost use Rattle.line.specs.Bounded.{Bounded};
-ghost use Rattle.line.specs.HostMessages.{Accepted};
+ghost use Rattle.line.specs.Host.{Accepted};
 ghost use Rattle.line.specs.Answers.{Answers};
 ghost use lib.ListN.{length};
 ghost use mathlib.Core.Bool.{true};

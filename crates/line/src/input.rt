@@ -13,7 +13,7 @@ ghost use Rattle.line.specs.declared.Line.{Line};
 ghost use Rattle.line.specs.View.{readingOf};
 ghost use Rattle.line.specs.With.{lent};
 ghost use Rattle.line.specs.Bounded.{CountedReading};
-ghost use Rattle.line.specs.ReadingParts.{Shortened, Appends, ShownFrom, LeftBy23, ofClass, idling, shownAt};
+ghost use Rattle.line.specs.ReadChanges.{Shortened, Appends, ShownFrom, LeftBy23, ofClass, idling, shownAt};
 use crate::Reading;
 use crate::Terms;
 

@@ -4,7 +4,7 @@ ghost use mathlib.Core.Path.{_≡_};
 ghost use lib.ListN.{length, set};
 ghost use Rattle.rules.specs.Numbers.{typeAheadSize};
 ghost use Rattle.line.specs.View.{keyOf};
-ghost use Rattle.line.specs.KeyParts.{shift, keysAfter};
+ghost use Rattle.line.specs.KeyArray.{shift, keysAfter};
 use crate::acts::Act;
 
 // What a quoted key has besides its code.

@@ -11,7 +11,7 @@ ghost use Rattle.rules.specs.Calls.{areRoomy, isHosts, isPending};
 ghost use Rattle.message.specs.Found.{startReadIn, writeIn, heldIn};
 ghost use Rattle.line.specs.View.{view};
 ghost use Rattle.line.specs.Bounded.{Counted};
-ghost use Rattle.line.specs.HostMessages.{messageOf};
+ghost use Rattle.line.specs.Host.{messageOf};
 ghost use Rattle.line.specs.Answers.{refusal};
 ghost use Rattle.line.specs.Refusals.{rowOf, firstRow, earlyRow};
 use crate::Answer;

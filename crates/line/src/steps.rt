@@ -10,13 +10,13 @@ ghost use Rattle.line.specs.declared.Line.{Line};
 ghost use Rattle.line.specs.View.{readingOf};
 ghost use Rattle.line.specs.Bounded.{CountedFlow, CountedReading};
 ghost use Rattle.line.specs.With.{lent};
-ghost use Rattle.line.specs.ReadingParts.{HasRoom};
+ghost use Rattle.line.specs.ReadChanges.{HasRoom};
 ghost use Rattle.line.specs.Promise.{on, Does, DoesAcross};
 use crate::Reading;
 use crate::Terms;
 use crate::Work;
 use crate::arrival::BEL;
-use crate::ending;
+use crate::read_data;
 
 // Codes that edit, by step rule 6.
 pub(crate) const DELETE_CHARACTER: u8 = 127;
@@ -79,7 +79,7 @@ impl Work {
         if r.end(t) + typed.token_len as u32 <= t.max_length as u32 {
             return self.ends_by_token(messages, r, text, t);
         }
-        self.completes(messages, ending::ABSENTEE, 0, r, text, t)
+        self.completes(messages, read_data::ABSENTEE, 0, r, text, t)
     }
 
     // Rules 1 and 3.
@@ -152,7 +152,7 @@ impl Work {
         let ready = self.with_read(next);
         let shown = ready.echoes_if(terminal, t.echoes, c);
         if r.end(t) + 1 == t.max_length as u32 {
-            return shown.completes(messages, ending::BUFFER_FULL, 0, next, text, t);
+            return shown.completes(messages, read_data::BUFFER_FULL, 0, next, text, t);
         }
         shown
     }
@@ -176,7 +176,7 @@ impl Work {
     {
         let next = r.push(text, c);
         let shown = self.echoes_terminator_if(terminal, t.terminator_echo & t.echoes, c);
-        shown.completes(messages, ending::TERMINATOR, 1, next, text, t)
+        shown.completes(messages, read_data::TERMINATOR, 1, next, text, t)
     }
 
     // 127 or 23 with nothing to delete.
@@ -199,7 +199,7 @@ impl Work {
         let underflow = t.underflow;
         if underflow == UNDERFLOW_COMPLETES {
             let next = r.push(text, c);
-            return self.completes(messages, ending::UNDERFLOW, 1, next, text, t);
+            return self.completes(messages, read_data::UNDERFLOW, 1, next, text, t);
         }
         if underflow == UNDERFLOW_RINGS {
             return self.put(terminal, BEL);

@@ -16,10 +16,10 @@ ghost use Rattle.line.specs.declared.acts.Act.the-variants.{Takes};
 ghost use Rattle.line.specs.View.{keyOf, readingOf};
 ghost use Rattle.line.specs.Bounded.{CountedTyped, CountedFlow, Bounded};
 ghost use Rattle.line.specs.With.{onFlow, lent};
-ghost use Rattle.line.specs.TokenParts.{codesOf};
-ghost use Rattle.line.specs.KeyParts.{shifted};
+ghost use Rattle.line.specs.TokenChanges.{codesOf};
+ghost use Rattle.line.specs.KeyArray.{shifted};
 ghost use Rattle.line.specs.Promise.{DoesAcross, DoesOn};
-ghost use Rattle.line.specs.Acts.{CanTakeKey, idleAtZero, takesKey, takenPart, HasTakenKey, callsOf, Meets, TakesFirst};
+ghost use Rattle.line.specs.Acts.{CanTakeKey, idleAtZero, takesKey, takenRule, HasTakenKey, callsOf, Meets, TakesFirst};
 use crate::Flow;
 use crate::Terms;
 use crate::Work;
@@ -163,7 +163,7 @@ impl Work {
         requires { ⌜ CanTakeKey (self .flow) t ⌝ }
         ensures counted { λ w. ⌜ CountedFlow (w .flow) ⌝ }
         ensures sized { λ w. ⌜ length (now (text .exit)) ≡ inputSize ⌝ }
-        ensures rule { λ w. ⌜ ((l : Line) → length (l .keys) ≡ typeAheadSize → DoesAcross (λ j. takesKey (onFlow (self .flow) j) then takenPart k (idleAtZero (onFlow (self .flow) j))) (lent t (now (text .entry)) l) self (now (terminal .entry)) (now (messages .entry)) (lent t (now (text .exit)) (shifted (self .flow) l)) w (now (terminal .exit)) (now (messages .exit))) ⌝ }
+        ensures rule { λ w. ⌜ ((l : Line) → length (l .keys) ≡ typeAheadSize → DoesAcross (λ j. takesKey (onFlow (self .flow) j) then takenRule k (idleAtZero (onFlow (self .flow) j))) (lent t (now (text .entry)) l) self (now (terminal .entry)) (now (messages .entry)) (lent t (now (text .exit)) (shifted (self .flow) l)) w (now (terminal .exit)) (now (messages .exit))) ⌝ }
     {
         let taken = self.takes_key();
         let flow = taken.flow;

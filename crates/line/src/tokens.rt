@@ -2,7 +2,7 @@
 ghost use mathlib.Core.Path.{_≡_};
 ghost use Rattle.rules.specs.Choice.{pick, within};
 ghost use Rattle.rules.specs.Token as rules;
-ghost use Rattle.line.specs.TokenParts.{placeOf};
+ghost use Rattle.line.specs.TokenChanges.{placeOf};
 
 // What begins a token.
 pub(crate) const ESC: u8 = 27;

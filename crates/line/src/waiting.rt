@@ -10,9 +10,9 @@ ghost use Rattle.rules.specs.Token as rules;
 ghost use Rattle.rules.specs.Steps.{tokenCode};
 ghost use Rattle.line.specs.View.{keysOf, tokenOf};
 ghost use Rattle.line.specs.Bounded.{CountedTyped};
-ghost use Rattle.line.specs.TokenParts.{codesOf, untokened, tokened, emptied};
+ghost use Rattle.line.specs.TokenChanges.{codesOf, untokened, tokened, emptied};
 use crate::Typed;
-use crate::ending;
+use crate::read_data;
 use crate::tokens::is_valid;
 use crate::tokens::is_whole;
 
@@ -44,9 +44,9 @@ impl Typed {
         let token = self.token;
         let size = self.token_len as usize;
         if is_valid(&token[..size]) {
-            return ending::VALID_TOKEN;
+            return read_data::VALID_TOKEN;
         }
-        ending::INVALID_TOKEN
+        read_data::INVALID_TOKEN
     }
 
     // Type-ahead or a held token remains.

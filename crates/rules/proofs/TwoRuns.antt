@@ -1,7 +1,7 @@
 -- Two runs that differ in hidden keys: what is proved of demand 3.
 pub mod Printing
 pub mod Twins
-pub mod Parts
+pub mod Rules
 pub mod Fates
 pub mod Reads
 pub mod Bands

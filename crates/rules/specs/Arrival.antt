@@ -13,7 +13,7 @@ use Rattle.rules.specs.StartRead.{disablesControls}
 use Rattle.rules.specs.Screen.{BEL}
 use Rattle.rules.specs.State.{Characters, Reading, State}
 use Rattle.rules.specs.State.{withTerminal, withTyped, withRead, withIdle, withDiscarding, withQuoting, withDropped}
-use Rattle.rules.specs.Turns.{Part, quote, clear, discard, outOfBand, arrived, control, crowdedOut, cleared}
+use Rattle.rules.specs.Turns.{Rule, quote, clear, discard, outOfBand, arrived, control, crowdedOut, cleared}
 use Rattle.rules.specs.Turns.{still, writes, sends, tells, changes, here, _then_}
 use Rattle.rules.specs.ReadData.{noEnding, byOutOfBand, completes}
 use Rattle.rules.specs.Editing.{deletes, deletesUnseen}
@@ -46,39 +46,39 @@ module _ {C : Type 0} where
   idleAgain none = none
   idleAgain (some r) = some (withIdle 0 r)
 
-  unfoldable pub keeps : Bool → C → Part C
+  unfoldable pub keeps : Bool → C → Rule C
   keeps quoted c =
       changes (λ s.
       withRead (idleAgain (s .read))
       (withTyped (s .typed .typeAhead ++ record { char = c; quoted = quoted } ∷ []) (s .typed .token) s))
 
   -- one more dropped, up to where the count stops
-  unfoldable pub countsDropped : Part C
+  unfoldable pub countsDropped : Rule C
   countsDropped = changes (λ s. withTerminal (withDropped (min topDropped (s .terminal .dropped + 1)) (s .terminal)) s)
 
-  unfoldable pub drops : C → Part C
+  unfoldable pub drops : C → Rule C
   drops c = tells (crowdedOut c ∷ []) then writes (BEL ∷ []) then countsDropped
 
   -- rule 4, with the limit of type-ahead
-  unfoldable pub stores : ℕ → Bool → C → Part C
+  unfoldable pub stores : ℕ → Bool → C → Rule C
   stores limit quoted c = here (λ s. pick (ltb (length (s .typed .typeAhead)) limit) (keeps quoted c) (drops c))
 
   -- rule 1
-  unfoldable pub storesQuoted : C → Part C
+  unfoldable pub storesQuoted : C → Rule C
   storesQuoted c =
       changes (λ s. withTerminal (withQuoting false (s .terminal)) s) then stores typeAheadSize true c
 
   -- rule 3, code 22
-  unfoldable pub quotes : C → Part C
+  unfoldable pub quotes : C → Rule C
   quotes c =
       tells (control quote c ∷ []) then changes (λ s. withTerminal (withQuoting true (s .terminal)) s)
 
   -- Discard State says 1 where output is not discarded
-  unfoldable pub sendsDiscardState : Part C
+  unfoldable pub sendsDiscardState : Rule C
   sendsDiscardState = here (λ s. sends (plain forms.discardState (bit (not (s .terminal .discarding)) ∷ [])))
 
   -- rule 3, code 15
-  unfoldable pub flipsDiscard : C → Part C
+  unfoldable pub flipsDiscard : C → Rule C
   flipsDiscard c =
       tells (control discard c ∷ []) then
       changes (λ s. withTerminal (withDiscarding (not (s .terminal .discarding)) (s .terminal)) s) then
@@ -89,7 +89,7 @@ module _ {C : Type 0} where
   passesControls none = false
   passesControls (some r) = eqb (r .terms .disables) disablesControls
 
-  unfoldable pub emptiesTyped : Part C
+  unfoldable pub emptiesTyped : Rule C
   emptiesTyped =
       here (λ s.
       tells (map (λ k. cleared (k .char)) (s .typed .typeAhead) ++ map cleared (s .typed .token)) then
@@ -97,35 +97,35 @@ module _ {C : Type 0} where
 
 module _ {C : Type 0} (chars : Characters C) where
   -- a pending read's input, as 21 deletes it
-  unfoldable pub clearsInput : Rubbing → Option (Reading C) → Part C
+  unfoldable pub clearsInput : Rubbing → Option (Reading C) → Rule C
   clearsInput rubbing none = still
   clearsInput rubbingOut (some r) = deletes chars cleared 0 r
   clearsInput withoutRubbing (some r) = deletesUnseen cleared 0 r
 
   -- The clear rule: empty type-ahead, drop held and partial tokens, delete the pending read's input as 21 does.
-  unfoldable pub clearRule : Rubbing → Part C
+  unfoldable pub clearRule : Rubbing → Rule C
   clearRule rubbing = emptiesTyped then here (λ s. clearsInput rubbing (s .read))
 
   -- rule 3, code 24
-  unfoldable pub clearsBy : C → Part C
+  unfoldable pub clearsBy : C → Rule C
   clearsBy c = tells (control clear c ∷ []) then clearRule rubbingOut
 
   -- rule 2, hello; discard control is 0
-  unfoldable pub sendsOutOfBand : C → Part C
+  unfoldable pub sendsOutOfBand : C → Rule C
   sendsOutOfBand c =
       tells (control outOfBand c ∷ []) then sends (plain forms.outOfBand (0 ∷ chars .code c ∷ []))
 
   -- rule 2, immediate clear: a pending read completes, returning no data
-  unfoldable pub endsOutOfBand : Option (Reading C) → Part C
+  unfoldable pub endsOutOfBand : Option (Reading C) → Rule C
   endsOutOfBand none = still
   endsOutOfBand (some r) = completes chars byOutOfBand noEnding r
 
-  unfoldable pub clearsAtOnce : C → Part C
+  unfoldable pub clearsAtOnce : C → Rule C
   clearsAtOnce c =
       sendsOutOfBand c then clearRule withoutRubbing then here (λ s. endsOutOfBand (s .read))
 
   -- rule 3, then 4
-  unfoldable pub controlled : C → Part C
+  unfoldable pub controlled : C → Rule C
   controlled c =
       pick (eqb (chars .code c) quoteKey) (quotes c)
       (pick (eqb (chars .code c) clearKey) (clearsBy c)
@@ -136,7 +136,7 @@ module _ {C : Type 0} (chars : Characters C) where
   attributeOf c s = getD (s .host .attributes) (chars .code c) 0
 
   -- the first rule that applies is the only one
-  unfoldable pub byFirstRule : C → Part C
+  unfoldable pub byFirstRule : C → Rule C
   byFirstRule c =
       here (λ s.
       pick (s .terminal .quoting) (storesQuoted c)
@@ -146,7 +146,7 @@ module _ {C : Type 0} (chars : Characters C) where
       (controlled c)))))
 
   -- before Initiate only rule 4 applies
-  unfoldable pub arrives : C → Part C
+  unfoldable pub arrives : C → Rule C
   arrives c =
       here (λ s.
       tells (arrived c (isHello (attributeOf c s) || isImmediateClear (attributeOf c s)) ∷ []) then

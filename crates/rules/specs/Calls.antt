@@ -15,7 +15,7 @@ use Rattle.rules.specs.Messages.Codec.{Outcome, refused, sound, soundLen
 use Rattle.rules.specs.Messages.Fields.{lock, newline, prefix, postfix, transparent}
 use Rattle.rules.specs.StartRead.{startOfDisplay, continues, vertical}
 use Rattle.rules.specs.State.{Characters, Reading, State, fresh}
-use Rattle.rules.specs.Turns.{Turn, Part, still}
+use Rattle.rules.specs.Turns.{Turn, Rule, still}
 use Rattle.rules.specs.Arrival.{arrives}
 use Rattle.rules.specs.Steps.{steps, ticks}
 use Rattle.rules.specs.Characteristics.{isCarried, carriesSettings, report}
@@ -131,7 +131,7 @@ module _ {C : Type 0} where
   unfoldable pub refuses : ℕ → State C → Answer C
   refuses n s = record { number = n; turn = still s }
 
-  unfoldable pub does : Part C → State C → Answer C
+  unfoldable pub does : Rule C → State C → Answer C
   does f s = record { number = accepted; turn = f s }
 
 module _ {C : Type 0} (chars : Characters C) where

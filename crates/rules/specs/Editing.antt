@@ -8,7 +8,7 @@ use lib.ListN.{length, take, drop}
 use Rattle.rules.specs.Choice.{pick, within, bit}
 use Rattle.rules.specs.Screen.{CR, LF, echoAll, marksBehind, rubOut}
 use Rattle.rules.specs.State.{Characters, Reading, withRead, withFrom}
-use Rattle.rules.specs.Turns.{Fate, Part, writes, tells, changes, here, _then_}
+use Rattle.rules.specs.Turns.{Fate, Rule, writes, tells, changes, here, _then_}
 
 -- keys that edit, with DEL
 abbrev pub deleteWordKey : ℕ
@@ -58,7 +58,7 @@ module _ {C : Type 0} where
       }
 
   -- delete all but the first characters, without rubbing out; every one deleted meets a fate
-  unfoldable pub deletesUnseen : (C → Fate C) → ℕ → Reading C → Part C
+  unfoldable pub deletesUnseen : (C → Fate C) → ℕ → Reading C → Rule C
   deletesUnseen fate left r = tells (map fate (drop left (r .input))) then changes (withRead (some (shortened left r)))
 
 module _ {C : Type 0} (chars : Characters C) where
@@ -72,20 +72,20 @@ module _ {C : Type 0} (chars : Characters C) where
   unfoldable pub rubbing : ℕ → Reading C → List ℕ
   rubbing left r = pick (r .terms .echoes) (rubOut (marksBehind (left - hiddenCount r) (r .from) (displayed r))) []
 
-  unfoldable pub deletes : (C → Fate C) → ℕ → Reading C → Part C
+  unfoldable pub deletes : (C → Fate C) → ℕ → Reading C → Rule C
   deletes fate left r = writes (rubbing left r) then deletesUnseen fate left r
 
   -- if the read echoes, the echo of what follows the prompt; its display begins here
-  unfoldable pub displaysData : Reading C → Part C
+  unfoldable pub displaysData : Reading C → Rule C
   displaysData r =
       here (λ s.
       changes (withRead (some (withFrom (s .terminal .screen .column) r))) then
       writes (pick (r .terms .echoes) (echoAll (s .terminal .screen .column) (displayed r)) []))
 
   -- the prompt raw, and what follows it
-  unfoldable pub displays : Reading C → Part C
+  unfoldable pub displays : Reading C → Rule C
   displays r = writes (r .terms .prompt) then displaysData r
 
   -- redisplay, as 18 does
-  unfoldable pub redisplays : Reading C → Part C
+  unfoldable pub redisplays : Reading C → Rule C
   redisplays r = writes (CR ∷ LF ∷ []) then displays r

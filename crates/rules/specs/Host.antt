@@ -12,7 +12,7 @@ use Rattle.rules.specs.Messages.Forms.{Message, plain}
 use Rattle.rules.specs.Messages.Fields.{keepsOutput, wantsCompletion}
 use Rattle.rules.specs.Screen.{SP, change}
 use Rattle.rules.specs.State.{Characters, State, withHost, withTerminal, withBegun, withDiscarding}
-use Rattle.rules.specs.Turns.{Part, writes, sends, changes, here, _then_, only}
+use Rattle.rules.specs.Turns.{Rule, writes, sends, changes, here, _then_, only}
 use Rattle.rules.specs.ReadData.{unreads, checksInput}
 use Rattle.rules.specs.Arrival.{rubbingOut, clearRule}
 use Rattle.rules.specs.StartRead.Acceptance.{startsRead}
@@ -30,7 +30,7 @@ ourInitiate =
     }
 
 module _ {C : Type 0} where
-  unfoldable pub initiates : Part C
+  unfoldable pub initiates : Rule C
   initiates = changes (λ s. withHost (withBegun true (s .host)) s) then sends ourInitiate
 
   -- positions are changes since the state before; output is lost when there was some and it was discarded
@@ -43,35 +43,35 @@ module _ {C : Type 0} where
       [])
 
   -- don't-discard turns output discard off, without a message
-  unfoldable pub stopsDiscarding : ℕ → Part C
+  unfoldable pub stopsDiscarding : ℕ → Rule C
   stopsDiscarding keeps = only (isOn keeps) (changes (λ s. withTerminal (withDiscarding false (s .terminal)) s))
 
   -- data, unless output discard is on
-  unfoldable pub writesUnlessDiscarding : List ℕ → Part C
+  unfoldable pub writesUnlessDiscarding : List ℕ → Rule C
   writesUnlessDiscarding text = here (λ s. only (not (s .terminal .discarding)) (writes text))
 
   -- Write Completion, when asked for
-  unfoldable pub sendsCompletion : ℕ → Message ℕ → State C → Part C
+  unfoldable pub sendsCompletion : ℕ → Message ℕ → State C → Rule C
   sendsCompletion wants m before = only (isOn wants) (here (λ s. sends (completion m before s)))
 
   -- Write sends its data unless output discard is on; don't-discard first turns it off. Echo and prompts are never discarded: no other rule that
   -- writes looks at it. The flags for first and last part change nothing: none looks at them.
-  unfoldable pub writesOut : Message ℕ → Part C
+  unfoldable pub writesOut : Message ℕ → Rule C
   writesOut m =
       here (λ before.
       stopsDiscarding (keepsOutput m) then
       writesUnlessDiscarding (m .text) then
       sendsCompletion (wantsCompletion m) m before)
 
-  unfoldable pub reports : Message ℕ → Part C
+  unfoldable pub reports : Message ℕ → Rule C
   reports m = here (λ s. sends (report (s .host) m))
 
-  unfoldable pub setsCharacteristics : Message ℕ → Part C
+  unfoldable pub setsCharacteristics : Message ℕ → Rule C
   setsCharacteristics m = changes (λ s. withHost (withParameters (m .parameters) (s .host)) s)
 
 module _ {C : Type 0} (chars : Characters C) where
   -- by its type
-  unfoldable pub obeys : Message ℕ → Part C
+  unfoldable pub obeys : Message ℕ → Rule C
   obeys m =
       pick (eqb (m .kind) forms.initiate) initiates
       (pick (eqb (m .kind) forms.startRead) (startsRead chars m)

@@ -11,7 +11,7 @@ use Rattle.rules.specs.Messages.Fields.{unreadCondition, unreadAlways}
 use Rattle.rules.specs.Screen.{change}
 use Rattle.rules.specs.State.{Characters, State, Reading, Typed, withRead, withToken}
 use Rattle.rules.specs.Token.{isWhole, isPartial}
-use Rattle.rules.specs.Turns.{Part, lost, still, sends, tells, changes, here, _then_, only}
+use Rattle.rules.specs.Turns.{Rule, lost, still, sends, tells, changes, here, _then_, only}
 
 -- completion codes (000, 4.16.4)
 abbrev pub byTerminator : ℕ
@@ -57,10 +57,10 @@ module _ {C : Type 0} where
   unfoldable pub waitingCount : Typed C → ℕ
   waitingCount t = length (t .typeAhead) + length (t .token)
 
-  unfoldable pub endsRead : Part C
+  unfoldable pub endsRead : Rule C
   endsRead = changes (withRead none)
 
-  unfoldable pub checksInput : Part C
+  unfoldable pub checksInput : Rule C
   checksInput = here (λ s. sends (plain inputCount (waitingCount (s .typed) ∷ [])))
 
 module _ {C : Type 0} (chars : Characters C) where
@@ -90,19 +90,19 @@ module _ {C : Type 0} (chars : Characters C) where
       }
 
   -- a completion drops a partial token
-  unfoldable pub losesPartial : Part C
+  unfoldable pub losesPartial : Rule C
   losesPartial =
       here (λ s.
       only (isPartial (tokenCodes s)) (tells (map lost (s .typed .token)) then changes (withToken [])))
 
-  unfoldable pub sendsReadData : ℕ → ℕ → Reading C → Part C
+  unfoldable pub sendsReadData : ℕ → ℕ → Reading C → Rule C
   sendsReadData code ending r = here (λ s. sends (answerOf code ending r s))
 
-  unfoldable pub completes : ℕ → ℕ → Reading C → Part C
+  unfoldable pub completes : ℕ → ℕ → Reading C → Rule C
   completes code ending r = losesPartial then sendsReadData code ending r then endsRead
 
   -- Unread (always), and Unread (empty), which looks at type-ahead, tokens and input
-  unfoldable pub unreadsWhile : Option (Reading C) → Message ℕ → Part C
+  unfoldable pub unreadsWhile : Option (Reading C) → Message ℕ → Rule C
   unreadsWhile none m = still
   unreadsWhile (some r) m =
       here (λ s.
@@ -110,5 +110,5 @@ module _ {C : Type 0} (chars : Characters C) where
       (eqb (unreadCondition m) unreadAlways || isEmpty (s .typed .typeAhead) && isEmpty (s .typed .token) && isEmpty (r .input))
       (completes byUnread noEnding r))
 
-  unfoldable pub unreads : Message ℕ → Part C
+  unfoldable pub unreads : Message ℕ → Rule C
   unreads m = here (λ s. unreadsWhile (s .read) m)

@@ -10,7 +10,7 @@ use Rattle.rules.specs.Screen.{BEL, DEL, echo, echoTerminator}
 use Rattle.rules.specs.State.{Characters, Key, Reading, State, withTyped, withToken, withRead, withInput, withIdle}
 use Rattle.rules.specs.StartRead.{underflowRings, underflowCompletes, disablesNothing, disablesLines, inSet}
 use Rattle.rules.specs.Token.{ESC, CSI, standing, isValid, isWhole, isPartial}
-use Rattle.rules.specs.Turns.{Part, edit, control, taken, tokened, edited, still, writes, tells, changes, here, _then_, only}
+use Rattle.rules.specs.Turns.{Rule, edit, control, taken, tokened, edited, still, writes, tells, changes, here, _then_, only}
 use Rattle.rules.specs.ReadData.{noEnding, oneEnding, byTerminator, byValidToken, byInvalidToken, byFullBuffer, byTimeout, byUnderflow, byAbsentee}
 use Rattle.rules.specs.ReadData.{tokenCodes, completes}
 use Rattle.rules.specs.Editing.{deleteWordKey, deleteLineKey, redisplayKey, endOf, inputCodes, leftBy23, deletes, redisplays}
@@ -35,7 +35,7 @@ module _ {C : Type 0} where
   abbrev pub keyTaken : List (Key C) → Reading C → State C → State C
   keyTaken left r s = withRead (some (withIdle 0 r)) (withTyped left (s .typed .token) s)
 
-  unfoldable pub setsIdle : ℕ → Reading C → Part C
+  unfoldable pub setsIdle : ℕ → Reading C → Rule C
   setsIdle idle r = changes (withRead (some (withIdle idle r)))
 
 module _ {C : Type 0} (chars : Characters C) where
@@ -43,7 +43,7 @@ module _ {C : Type 0} (chars : Characters C) where
   tokenCode cs = pick (isValid (standing (map (chars .code) cs))) byValidToken byInvalidToken
 
   -- a token that fits the buffer is appended and completes the read
-  unfoldable pub endsByToken : Reading C → Part C
+  unfoldable pub endsByToken : Reading C → Rule C
   endsByToken r =
       here (λ s.
       changes (withToken []) then
@@ -51,57 +51,57 @@ module _ {C : Type 0} (chars : Characters C) where
 
   -- a whole token: where it does not fit the read completes absentee, and it stays held. Tokens never echo: neither this rule nor the next
   -- writes.
-  unfoldable pub takesToken : Reading C → Part C
+  unfoldable pub takesToken : Reading C → Rule C
   takesToken r =
       here (λ s.
       pick (leb (endOf r + length (s .typed .token)) (r .terms .maxLength)) (endsByToken r) (completes chars byAbsentee noEnding r))
 
   -- rules 1 and 3: a key goes into a token, and a finished one is treated as held, in the same step
-  unfoldable pub addsToToken : C → Reading C → Part C
+  unfoldable pub addsToToken : C → Reading C → Rule C
   addsToToken c r =
       tells (tokened c ∷ []) then
       changes (λ s. withToken (s .typed .token ++ c ∷ []) s) then
       here (λ s. only (isWhole (tokenCodes chars s)) (takesToken r))
 
   -- a character's echo, or a terminator's, where it is wanted
-  unfoldable pub echoesIf : Bool → C → Part C
+  unfoldable pub echoesIf : Bool → C → Rule C
   echoesIf wanted c = here (λ s. writes (pick wanted (echo (columnNow s) (chars .code c)) []))
 
-  unfoldable pub echoesTerminatorIf : Bool → C → Part C
+  unfoldable pub echoesTerminatorIf : Bool → C → Rule C
   echoesTerminatorIf wanted c = here (λ s. writes (pick wanted (echoTerminator (columnNow s) (chars .code c)) []))
 
   -- rule 7, data: append, echo; complete, buffer full, at MAX-LENGTH
-  unfoldable pub takesData : C → Reading C → Part C
+  unfoldable pub takesData : C → Reading C → Rule C
   takesData c r =
       changes (withRead (some (appended (c ∷ []) r))) then
       echoesIf (r .terms .echoes) c then
       only (eqb (endOf r + 1) (r .terms .maxLength)) (completes chars byFullBuffer noEnding (appended (c ∷ []) r))
 
   -- rule 5, a terminator: it echoes only with T and in a read that echoes
-  unfoldable pub terminates : C → Reading C → Part C
+  unfoldable pub terminates : C → Reading C → Rule C
   terminates c r =
       echoesTerminatorIf (r .terms .terminatorEcho && r .terms .echoes) c then
       completes chars byTerminator oneEnding (appended (c ∷ []) r)
 
   -- 127 or 23 with nothing to delete, by UU
-  unfoldable pub underflows : C → Reading C → Part C
+  unfoldable pub underflows : C → Reading C → Rule C
   underflows c r =
       pick (eqb (r .terms .underflow) underflowCompletes) (completes chars byUnderflow oneEnding (appended (c ∷ []) r))
       (tells (control edit c ∷ []) then only (eqb (r .terms .underflow) underflowRings) (writes (BEL ∷ [])))
 
   -- 127 and 23, which leave so many characters
-  unfoldable pub erases : ℕ → C → Reading C → Part C
+  unfoldable pub erases : ℕ → C → Reading C → Rule C
   erases left c r =
       pick (isEmpty (r .input)) (underflows c r) (tells (control edit c ∷ []) then deletes chars edited left r)
 
-  unfoldable pub erasesAll : C → Reading C → Part C
+  unfoldable pub erasesAll : C → Reading C → Rule C
   erasesAll c r = tells (control edit c ∷ []) then deletes chars edited 0 r
 
-  unfoldable pub showsAgain : C → Reading C → Part C
+  unfoldable pub showsAgain : C → Reading C → Rule C
   showsAgain c r = tells (control edit c ∷ []) then redisplays chars r
 
   -- rule 6
-  unfoldable pub edits : C → Reading C → Part C
+  unfoldable pub edits : C → Reading C → Rule C
   edits c r =
       pick (eqb (chars .code c) DEL) (erases (length (r .input) - 1) c r)
       (pick (eqb (chars .code c) deleteWordKey) (erases (leftBy23 (inputCodes chars r)) c r)
@@ -109,7 +109,7 @@ module _ {C : Type 0} (chars : Characters C) where
       (showsAgain c r)))
 
   -- rules 5, 6 and 7, after raising
-  unfoldable pub takesPlain : C → Reading C → Part C
+  unfoldable pub takesPlain : C → Reading C → Rule C
   takesPlain c r =
       pick (inSet (r .terms .set) (chars .code c)) (terminates c r)
       (pick (editsBy (chars .code c) r) (edits c r)
@@ -120,7 +120,7 @@ module _ {C : Type 0} (chars : Characters C) where
   raisedBy r c = pick (r .terms .raises) (chars .raise c) c
 
   -- the rules in order
-  unfoldable pub takes : Key C → Reading C → Part C
+  unfoldable pub takes : Key C → Reading C → Rule C
   takes k r =
       here (λ s.
       pick (isPartial (tokenCodes chars s)) (addsToToken (k .char) r)
@@ -129,7 +129,7 @@ module _ {C : Type 0} (chars : Characters C) where
       (takesPlain (raisedBy r (k .char)) r))))
 
   -- one key is taken from type-ahead; with type-ahead empty a read with Q and TIMEOUT 0 completes
-  unfoldable pub takesFirst : List (Key C) → Reading C → Part C
+  unfoldable pub takesFirst : List (Key C) → Reading C → Rule C
   takesFirst [] r = only (r .terms .timed && eqb (r .terms .timeout) 0) (completes chars byTimeout noEnding r)
   takesFirst (k ∷ ks) r =
       tells (taken (k .char) (r .terms) ∷ []) then
@@ -137,18 +137,18 @@ module _ {C : Type 0} (chars : Characters C) where
       takes k (withIdle 0 r)
 
   -- a whole held token goes first
-  unfoldable pub stepsWhile : Option (Reading C) → Part C
+  unfoldable pub stepsWhile : Option (Reading C) → Rule C
   stepsWhile none = still
   stepsWhile (some r) = here (λ s. pick (isWhole (tokenCodes chars s)) (takesToken r) (takesFirst (s .typed .typeAhead) r))
 
-  unfoldable pub steps : Part C
+  unfoldable pub steps : Rule C
   steps = here (λ s. stepsWhile (s .read))
 
   -- Tick: idle rises by one; at TIMEOUT the read completes
-  unfoldable pub idles : Reading C → Part C
+  unfoldable pub idles : Reading C → Rule C
   idles r = pick (leb (r .terms .timeout) (r .idle + 1)) (completes chars byTimeout noEnding r) (setsIdle (r .idle + 1) r)
 
-  unfoldable pub ticksWhile : Option (Reading C) → Part C
+  unfoldable pub ticksWhile : Option (Reading C) → Rule C
   ticksWhile none = still
   ticksWhile (some r) =
       here (λ s.
@@ -159,5 +159,5 @@ module _ {C : Type 0} (chars : Characters C) where
       not (isWhole (tokenCodes chars s)))
       (idles r))
 
-  unfoldable pub ticks : Part C
+  unfoldable pub ticks : Rule C
   ticks = here (λ s. ticksWhile (s .read))

@@ -34,17 +34,17 @@ pub record Turn (C : Type 0) : Type 0 where
   pub fates : List (Fate C)
   pub state : State C
 
-abbrev pub Part : Type 0 → Type 0
-Part C = State C → Turn C
+abbrev pub Rule : Type 0 → Type 0
+Rule C = State C → Turn C
 
 module _ {C : Type 0} where
   infixr 20 _then_
   -- nothing
-  unfoldable pub still : Part C
+  unfoldable pub still : Rule C
   still s = record { bytes = []; messages = []; fates = []; state = s }
 
   -- terminal bytes
-  unfoldable pub writes : List ℕ → Part C
+  unfoldable pub writes : List ℕ → Rule C
   writes bs s =
       record {
         bytes = bs;
@@ -53,17 +53,17 @@ module _ {C : Type 0} where
         state = withTerminal (withScreen (shownAll (s .terminal .screen) bs) (s .terminal)) s;
       }
 
-  unfoldable pub sends : Message C → Part C
+  unfoldable pub sends : Message C → Rule C
   sends m s = record { bytes = []; messages = m ∷ []; fates = []; state = s }
 
-  unfoldable pub tells : List (Fate C) → Part C
+  unfoldable pub tells : List (Fate C) → Rule C
   tells fs s = record { bytes = []; messages = []; fates = fs; state = s }
 
-  unfoldable pub changes : (State C → State C) → Part C
+  unfoldable pub changes : (State C → State C) → Rule C
   changes f s = record { bytes = []; messages = []; fates = []; state = f s }
 
   -- a part that looks at the state it begins with
-  abbrev pub here : (State C → Part C) → Part C
+  abbrev pub here : (State C → Rule C) → Rule C
   here f s = f s s
 
   -- the second's bytes, messages and fates behind the first's
@@ -77,9 +77,9 @@ module _ {C : Type 0} where
       }
 
   -- one part, then the next from the state it left
-  unfoldable pub _then_ : Part C → Part C → Part C
+  unfoldable pub _then_ : Rule C → Rule C → Rule C
   (f then g) s = let t = f s in behind t (g (t .state))
 
   -- a part where a test holds, nothing where it does not
-  unfoldable pub only : Bool → Part C → Part C
+  unfoldable pub only : Bool → Rule C → Rule C
   only test f = pick test f still

@@ -11,7 +11,7 @@ use Rattle.rules.specs.Choice.{pick, joined}
 use Rattle.rules.specs.Numbers.{inputSize, terminalArea, messageArea}
 use Rattle.rules.specs.Messages.Forms.{Message}
 use Rattle.rules.specs.State.{Host, Terminal, Key, Reading, State, withHost, withTerminal, withTyped, withRead}
-use Rattle.rules.specs.Turns.{Fate, Turn, Part, still, writes, sends, tells, changes, behind, _then_, only}
+use Rattle.rules.specs.Turns.{Fate, Turn, Rule, still, writes, sends, tells, changes, behind, _then_, only}
 use Rattle.rules.specs.Bounds.{BoundedHost, BoundedTerminal, BoundedTyped, BoundedRead}
 use Rattle.rules.proofs.Tests.{pick-case}
 use Rattle.rules.proofs.Sizes.{rubbing-room, answer-room}
@@ -77,16 +77,16 @@ module _ {R : OfRead} {bytes area : ℕ} {s : State ℕ} where
       record { state = h; terminal = omega arith; messages = omega arith; fit = (sent .fit, tt) }
 
   -- a part that writes and sends nothing, then another
-  pub tells-then : (fs : List (Fate ℕ)) (g : Part ℕ) → Good R bytes area (g s) → Good R bytes area ((tells fs then g) s)
+  pub tells-then : (fs : List (Fate ℕ)) (g : Rule ℕ) → Good R bytes area (g s) → Good R bytes area ((tells fs then g) s)
   unfolding _then_ behind tells
   tells-then fs g h = record { state = h .state; terminal = h .terminal; messages = h .messages; fit = h .fit }
 
-  pub changes-then : (f : State ℕ → State ℕ) (g : Part ℕ) → Good R bytes area (g (f s)) → Good R bytes area ((changes f then g) s)
+  pub changes-then : (f : State ℕ → State ℕ) (g : Rule ℕ) → Good R bytes area (g (f s)) → Good R bytes area ((changes f then g) s)
   unfolding _then_ behind changes
   changes-then f g h = record { state = h .state; terminal = h .terminal; messages = h .messages; fit = h .fit }
 
 -- A part, then another from any state that it may leave: what they write adds up.
-module _ {P R : OfRead} {bytes area : ℕ} {s : State ℕ} (f g : Part ℕ) where
+module _ {P R : OfRead} {bytes area : ℕ} {s : State ℕ} (f g : Rule ℕ) where
   pub then-good : (b₁ b₂ a₁ a₂ : ℕ) → b₁ + b₂ ≤ bytes → a₁ + a₂ ≤ area →
       Good P b₁ a₁ (f s) → ((s′ : State ℕ) → Steady P s′ → Good R b₂ a₂ (g s′)) → Good R bytes area ((f then g) s)
   unfolding _then_ behind
@@ -120,11 +120,11 @@ roomier b a p q h = record { state = h .state; terminal = omega arith; messages 
 
 -- A choice of parts, and a part under a test.
 module _ {R : OfRead} {bytes area : ℕ} {s : State ℕ} (t : Bool) where
-  pub pick-good : (f g : Part ℕ) → (t ≡ true → Good R bytes area (f s)) → (t ≡ false → Good R bytes area (g s)) →
+  pub pick-good : (f g : Rule ℕ) → (t ≡ true → Good R bytes area (f s)) → (t ≡ false → Good R bytes area (g s)) →
       Good R bytes area (pick t f g s)
-  pick-good f g h k = pick-case (λ (part : Part ℕ). Good R bytes area (part s)) t h k
+  pick-good f g h k = pick-case (λ (part : Rule ℕ). Good R bytes area (part s)) t h k
 
-  pub only-good : (f : Part ℕ) → (t ≡ true → Good R bytes area (f s)) → (t ≡ false → Steady R s) → Good R bytes area (only t f s)
+  pub only-good : (f : Rule ℕ) → (t ≡ true → Good R bytes area (f s)) → (t ≡ false → Steady R s) → Good R bytes area (only t f s)
   unfolding only
   only-good f h k = pick-good f still h (λ e. still-good (k e))
 

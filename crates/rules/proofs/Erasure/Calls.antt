@@ -8,13 +8,13 @@ use Rattle.rules.specs.Numbers.{accepted}
 use Rattle.rules.specs.Messages.Forms.{Message}
 use Rattle.rules.specs.Messages.Codec.{Outcome, refused, sound, read}
 use Rattle.rules.specs.State.{Characters, Reading, State, fresh}
-use Rattle.rules.specs.Turns.{Part, still}
+use Rattle.rules.specs.Turns.{Rule, still}
 use Rattle.rules.specs.Calls.{Event, key, step, tick, message, Call, Answer}
 use Rattle.rules.specs.Calls.{isPending, isTimely, carriesQuestions, isCarriedBy, carries, refusals, received}
 use Rattle.rules.specs.Calls.{refuses, does, answersMessage, answers, answer, runFrom, run}
 use Rattle.rules.proofs.Tests.{pick-both}
 use Rattle.rules.proofs.Erasure.Maps.{Maps, mapReading, mapState, mapEvent, mapCall, mapAnswer}
-use Rattle.rules.proofs.Erasure.Parts.{Erases}
+use Rattle.rules.proofs.Erasure.Rules.{Erases}
 use Rattle.rules.proofs.Erasure.Arrival.{erase-arrives}
 use Rattle.rules.proofs.Erasure.Steps.{erase-steps, erase-ticks}
 use Rattle.rules.proofs.Erasure.Host.{erase-obeys}
@@ -42,7 +42,7 @@ module _ {C D : Type 0} {f : C → D} {cs : Characters C} {ds : Characters D} (m
   unfolding refuses still
   erase-refuses n s = refl
 
-  erase-does : {F : Part C} {G : Part D} → Erases f F G → (s : State C) → mapAnswer f (does F s) ≡ does G (mapState f s)
+  erase-does : {F : Rule C} {G : Rule D} → Erases f F G → (s : State C) → mapAnswer f (does F s) ≡ does G (mapState f s)
   unfolding does
   erase-does p s = λ i. record { number = accepted; turn = p .at s i }
 

@@ -8,7 +8,7 @@ use Rattle.rules.specs.Turns.{Fate}
 use Rattle.rules.specs.Editing.{endOf, hiddenCount, shortened, deletesUnseen, displayed, rubbing, deletes, displaysData, displays, redisplays}
 use Rattle.rules.proofs.Erasure.Maps.{Maps, mapReading, mapFate}
 use Rattle.rules.proofs.Erasure.Lists.{map-take, map-drop, codes-same}
-use Rattle.rules.proofs.Erasure.Parts.{Erases, erases-here, erases-writes, erases-tells, erases-reading, erases-then}
+use Rattle.rules.proofs.Erasure.Rules.{Erases, erases-here, erases-writes, erases-tells, erases-reading, erases-then}
 
 module _ {C D : Type 0} {f : C → D} {cs : Characters C} {ds : Characters D} (m : Maps f cs ds) where
   pub erase-endOf : (r : Reading C) → endOf (mapReading f r) ≡ endOf r

@@ -8,7 +8,7 @@ use Rattle.rules.specs.Choice.{firstOf, allAre}
 use Rattle.rules.specs.Messages.Forms.{Message}
 use Rattle.rules.specs.Messages.Codec.{Outcome, refused, sound}
 use Rattle.rules.specs.State.{Characters, Reading, State, fresh}
-use Rattle.rules.specs.Turns.{Fate, Part}
+use Rattle.rules.specs.Turns.{Fate, Rule}
 use Rattle.rules.specs.Arrival.{rubbingOut, arrives}
 use Rattle.rules.specs.TwoRuns.{preloaded}
 use Rattle.rules.specs.ReadData.{checksInput}
@@ -19,8 +19,8 @@ use Rattle.rules.specs.Host.{ourInitiate, initiates, completion, stopsDi
 use Rattle.rules.specs.Calls.{Event, key, step, tick, message, Call, Answer, refuses, does, received, answersMessage, answers, answer}
 use Rattle.rules.proofs.Tests.{pick-both}
 use Rattle.rules.proofs.TwoRuns.Twins.{Twin, both, isBoth, code₁, code₂, first-chars, second-chars, LevelReading, Level}
-use Rattle.rules.proofs.TwoRuns.Twins.{Spared, isGuarded, Agree, Parts, Agreeing}
-use Rattle.rules.proofs.TwoRuns.Parts.{agrees-terminal, agrees-host, agrees-then, agrees-still, agrees-writes, agrees-sends, agrees-pick, agrees-only}
+use Rattle.rules.proofs.TwoRuns.Twins.{Spared, isGuarded, Agree, Rules, Agreeing}
+use Rattle.rules.proofs.TwoRuns.Rules.{agrees-terminal, agrees-host, agrees-then, agrees-still, agrees-writes, agrees-sends, agrees-pick, agrees-only}
 use Rattle.rules.proofs.TwoRuns.Reads.{completes-agrees, unreads-agrees, displays-agrees}
 use Rattle.rules.proofs.TwoRuns.Bands.{Passed, Begun}
 use Rattle.rules.proofs.TwoRuns.Arrivals.{emptiesTyped-agrees, clearRule-agrees, arrives-agrees}
@@ -115,7 +115,7 @@ module _ {changed : ℕ → Bool} (arrival : (Twin changed → ℕ) → Fate (Tw
   abbrev SameAnswers : (State (Twin changed) → Answer (Twin changed)) → (State (Twin changed) → Answer (Twin changed)) → Type 0
   SameAnswers f g = (s : State (Twin changed)) → Level s → SameAnswer (f s) (g s)
 
-  does-same : {f g : Part (Twin changed)} → Parts f g → SameAnswers (does f) (does g)
+  does-same : {f g : Rule (Twin changed)} → Rules f g → SameAnswers (does f) (does g)
   unfolding does
   does-same p s l = record { number = refl; turn = λ x y. p s l .agreed (x .spared) (y .spared) }
 

@@ -14,9 +14,9 @@ use Rattle.rules.specs.Arrival.{sendsOutOfBand, endsOutOfBand, clearsAtO
 use Rattle.rules.proofs.Tests.{pick-cases}
 use Rattle.rules.proofs.TwoRuns.Printing.{printing}
 use Rattle.rules.proofs.TwoRuns.Twins.{Twin, isBoth, code₁, code₂, first-chars, second-chars, same-code}
-use Rattle.rules.proofs.TwoRuns.Twins.{LevelRead, Level, isGuarded, PartsAt, Agreeing}
-use Rattle.rules.proofs.TwoRuns.Parts.{level-emptied, agrees-terminal, agrees-then, agrees-still, agrees-changes, agrees-writes, agrees-sends, told-at, told}
-use Rattle.rules.proofs.TwoRuns.Parts.{agrees-pick, by-test, by-code}
+use Rattle.rules.proofs.TwoRuns.Twins.{LevelRead, Level, isGuarded, RulesAt, Agreeing}
+use Rattle.rules.proofs.TwoRuns.Rules.{level-emptied, agrees-terminal, agrees-then, agrees-still, agrees-changes, agrees-writes, agrees-sends, told-at, told}
+use Rattle.rules.proofs.TwoRuns.Rules.{agrees-pick, by-test, by-code}
 use Rattle.rules.proofs.TwoRuns.Bands.{attributeAt, Passed, Begun}
 use Rattle.rules.proofs.TwoRuns.Reads.{completes-agrees, deletesUnseen-agrees, deletes-agrees}
 
@@ -108,10 +108,10 @@ module _ {changed : ℕ → Bool} where
     pub second : isBoth c ≡ false → Begun s → Passed s (code₂ c)
 
   byFirstRule-agrees : (c : Twin changed) (s : State (Twin changed)) → s .host .begun ≡ true → Unacted c s → Level s →
-      PartsAt s (byFirstRule first-chars c) (byFirstRule second-chars c)
+      RulesAt s (byFirstRule first-chars c) (byFirstRule second-chars c)
   unfolding byFirstRule
   byFirstRule-agrees c s b unacted l =
-      pick-cases (PartsAt s) (s .terminal .quoting) (λ q. storesQuoted-agrees c s l) (λ q.
+      pick-cases (RulesAt s) (s .terminal .quoting) (λ q. storesQuoted-agrees c s l) (λ q.
       let first : isBoth c ≡ false → Passed s (code₁ c) = λ a. unacted .first a (b, q) in
       let second : isBoth c ≡ false → Passed s (code₂ c) = λ a. unacted .second a (b, q) in
       by-test (λ n. isHello (attributeAt s n)) c (record { first = λ a. first a .hello; second = λ a. second a .hello })
@@ -122,8 +122,8 @@ module _ {changed : ℕ → Bool} where
       (controlled-agrees c))) s l)
 
   pub arrives-agrees : (c : Twin changed) (s : State (Twin changed)) → Unacted c s → Level s →
-      PartsAt s (arrives first-chars c) (arrives second-chars c)
+      RulesAt s (arrives first-chars c) (arrives second-chars c)
   unfolding arrives
   arrives-agrees c s unacted l =
       told-at _ _ _ _ l (λ x y.
-      pick-cases (PartsAt s) (s .host .begun) (λ b. byFirstRule-agrees c s b unacted l) (λ b. stores-agrees _ false c s l))
+      pick-cases (RulesAt s) (s .host .begun) (λ b. byFirstRule-agrees c s b unacted l) (λ b. stores-agrees _ false c s l))

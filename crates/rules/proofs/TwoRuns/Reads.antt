@@ -15,9 +15,9 @@ use Rattle.rules.specs.ReadData.{tokenCodes, moreData, answerOf, losesPa
 use Rattle.rules.specs.Editing.{hiddenCount, shortened, deletesUnseen, displayed, rubbing, deletes, displaysData, displays, redisplays}
 use Rattle.rules.proofs.Tests.{pick-same, all-split}
 use Rattle.rules.proofs.TwoRuns.Twins.{Twin, isBoth, first-chars, second-chars, same-codes, LevelReading, Level}
-use Rattle.rules.proofs.TwoRuns.Twins.{isGuarded, Parts, Agreeing}
-use Rattle.rules.proofs.TwoRuns.Parts.{level-emptied, level-read, agrees-then, agrees-still, agrees-changes, agrees-writes, agrees-sends, told}
-use Rattle.rules.proofs.TwoRuns.Parts.{agrees-only}
+use Rattle.rules.proofs.TwoRuns.Twins.{isGuarded, Rules, Agreeing}
+use Rattle.rules.proofs.TwoRuns.Rules.{level-emptied, level-read, agrees-then, agrees-still, agrees-changes, agrees-writes, agrees-sends, told}
+use Rattle.rules.proofs.TwoRuns.Rules.{agrees-only}
 
 module _ {changed : ℕ → Bool} where
   -- Completion.
@@ -46,7 +46,7 @@ module _ {changed : ℕ → Bool} where
 
   -- a read that completes is not pending: nothing is asked of its input
   pub completes-agrees : {code code′ : ℕ} → code ≡ code′ → (ending : ℕ) (r : Reading (Twin changed)) →
-      Parts (completes first-chars code ending r) (completes second-chars code′ ending r)
+      Rules (completes first-chars code ending r) (completes second-chars code′ ending r)
   unfolding completes sendsReadData endsRead
   completes-agrees e ending r =
       agrees-then losesPartial-agrees

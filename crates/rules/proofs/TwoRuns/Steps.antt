@@ -17,9 +17,9 @@ use Rattle.rules.specs.Steps.{stepsWhile, steps, setsIdle, idles, ticksW
 use Rattle.rules.proofs.Tests.{pick-same, pick-case, all-snoc}
 use Rattle.rules.proofs.TwoRuns.Printing.{printing}
 use Rattle.rules.proofs.TwoRuns.Twins.{Twin, isBoth, raise, code₁, code₂, first-chars, second-chars, same-code, same-codes, same-word}
-use Rattle.rules.proofs.TwoRuns.Twins.{Settled, settled-code, settled-or, settled-and, LevelReading, LevelRead, Parts, Agreeing}
-use Rattle.rules.proofs.TwoRuns.Parts.{level-typed, level-emptied, level-read, agrees-then, agrees-still, agrees-changes, agrees-writes, told}
-use Rattle.rules.proofs.TwoRuns.Parts.{agrees-pick, agrees-only, by-test, by-code}
+use Rattle.rules.proofs.TwoRuns.Twins.{Settled, settled-code, settled-or, settled-and, LevelReading, LevelRead, Rules, Agreeing}
+use Rattle.rules.proofs.TwoRuns.Rules.{level-typed, level-emptied, level-read, agrees-then, agrees-still, agrees-changes, agrees-writes, told}
+use Rattle.rules.proofs.TwoRuns.Rules.{agrees-pick, agrees-only, by-test, by-code}
 use Rattle.rules.proofs.TwoRuns.Fates.{tokened-both, Safe, taken-safe}
 use Rattle.rules.proofs.TwoRuns.Reads.{same-token, completes-agrees, deletes-agrees, redisplays-agrees}
 use Rattle.rules.proofs.TwoRuns.Words.{leftBy23-same}
@@ -78,7 +78,7 @@ module _ {changed : ℕ → Bool} where
       agrees-pick refl (completes-agrees refl 1 _) (told _ _ (λ x y. agrees-only refl (agrees-writes refl)))
 
   erases-agrees : {left left′ : ℕ} → left ≡ left′ → (c : Twin changed) (r : Reading (Twin changed)) → LevelReading r →
-      Parts (erases first-chars left c r) (erases second-chars left′ c r)
+      Rules (erases first-chars left c r) (erases second-chars left′ c r)
   unfolding erases
   erases-agrees {left} e c r h =
       rw (← e) (agrees-pick refl (underflows-agrees c r) (told _ _ (λ x y. deletes-agrees edited left r h)))

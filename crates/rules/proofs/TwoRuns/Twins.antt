@@ -9,7 +9,7 @@ use Rattle.rules.specs.Choice.{allAre}
 use Rattle.rules.specs.Messages.Forms.{Message, readData}
 use Rattle.rules.specs.Editing.{isWord}
 use Rattle.rules.specs.State.{Characters, State, Reading, raised}
-use Rattle.rules.specs.Turns.{Turn, Fate, Part}
+use Rattle.rules.specs.Turns.{Turn, Fate, Rule}
 use Rattle.rules.specs.TwoRuns.{Placed, typedAt, preloaded, codeIn, raisedIn, isPrinting, sameClass}
 use Rattle.rules.specs.TwoRuns.{unechoed, untokened, unset, unsetRaised}
 use Rattle.rules.proofs.Tests.{all-cons}
@@ -152,12 +152,12 @@ module _ {changed : ℕ → Bool} where
     pub agreed : Spared code₁ (t .fates) → Spared code₂ (u .fates) → Agree t u
 
   -- two parts, from one state, and from any level state
-  abbrev pub PartsAt : State (Twin changed) → Part (Twin changed) → Part (Twin changed) → Type 0
-  PartsAt s f g = Agrees (f s) (g s)
+  abbrev pub RulesAt : State (Twin changed) → Rule (Twin changed) → Rule (Twin changed) → Type 0
+  RulesAt s f g = Agrees (f s) (g s)
 
-  abbrev pub Parts : Part (Twin changed) → Part (Twin changed) → Type 0
-  Parts f g = (s : State (Twin changed)) → Level s → PartsAt s f g
+  abbrev pub Rules : Rule (Twin changed) → Rule (Twin changed) → Type 0
+  Rules f g = (s : State (Twin changed)) → Level s → RulesAt s f g
 
   -- a rule, by the first codes and by the second
-  abbrev pub Agreeing : (Characters (Twin changed) → Part (Twin changed)) → Type 0
-  Agreeing rule = Parts (rule first-chars) (rule second-chars)
+  abbrev pub Agreeing : (Characters (Twin changed) → Rule (Twin changed)) → Type 0
+  Agreeing rule = Rules (rule first-chars) (rule second-chars)

@@ -9,7 +9,7 @@ use Rattle.rules.specs.Messages.Layout.{byteAt}
 use Rattle.rules.specs.Messages.Forms.{Message}
 use Rattle.rules.specs.Screen.{SOH, LF}
 use Rattle.rules.specs.State.{Characters, Terms, Reading, State, withHost, withLastSet}
-use Rattle.rules.specs.Turns.{Part, writes, changes, here, _then_, only}
+use Rattle.rules.specs.Turns.{Rule, writes, changes, here, _then_, only}
 use Rattle.rules.specs.ReadData.{noEnding, byFullBuffer, completes}
 use Rattle.rules.specs.Editing.{displays}
 use Rattle.rules.specs.Arrival.{emptiesTyped}
@@ -37,15 +37,15 @@ hidesInput m = hidesLF m && eqb (fields.endOfPrompt m) 0
 
 module _ {C : Type 0} where
   -- C clears type-ahead and any held token
-  unfoldable pub clearsFirst : Message ℕ → Part C
+  unfoldable pub clearsFirst : Message ℕ → Rule C
   clearsFirst m = only (isOn (fields.clears m)) emptiesTyped
 
   -- F writes LF if the last terminal byte was CR
-  unfoldable pub feedsLine : Message ℕ → Part C
+  unfoldable pub feedsLine : Message ℕ → Rule C
   feedsLine m = here (λ s. only (isOn (fields.formats m) && s .terminal .screen .afterCR) (writes (LF ∷ [])))
 
   -- auto prompt writes code 1
-  unfoldable pub autoPrompts : Part C
+  unfoldable pub autoPrompts : Rule C
   autoPrompts = here (λ s. only (s .host .switches .prompting) (writes (SOH ∷ [])))
 
 module _ {C : Type 0} (chars : Characters C) where
@@ -81,15 +81,15 @@ module _ {C : Type 0} (chars : Characters C) where
       }
 
   -- ZZ 1 gives the set that ZZ 0 looks at
-  unfoldable pub remembersSet : Message ℕ → Part C
+  unfoldable pub remembersSet : Message ℕ → Rule C
   remembersSet m = only (eqb (fields.setChoice m) fields.choosesThis) (changes (λ s. withHost (withLastSet (m .set) (s .host)) s))
 
   -- if END-OF-DATA equals MAX-LENGTH the read completes there
-  unfoldable pub completesIfFull : Message ℕ → Reading C → Part C
+  unfoldable pub completesIfFull : Message ℕ → Reading C → Rule C
   completesIfFull m r = only (eqb (fields.endOfData m) (fields.maxLength m)) (completes chars byFullBuffer noEnding r)
 
   -- in page 01's order, the note being in the read that begins here
-  unfoldable pub begins : Message ℕ → Reading C → Part C
+  unfoldable pub begins : Message ℕ → Reading C → Rule C
   begins m r =
       clearsFirst m then
       feedsLine m then
@@ -97,5 +97,5 @@ module _ {C : Type 0} (chars : Characters C) where
       displays chars r then
       completesIfFull m r
 
-  unfoldable pub startsRead : Message ℕ → Part C
+  unfoldable pub startsRead : Message ℕ → Rule C
   startsRead m = here (λ s. begins m (openedRead m s) then remembersSet m)

@@ -1,8 +1,8 @@
 use mathlib.Core.Path.{refl, _∙_}
 use native.Mathlib.Omega.{arith}
 use Rattle.rules.specs.Arrival.{isHello, isImmediateClear, byFirstRule}
-use Rattle.line.proofs.Meeting.{met, meets-first, meets-second}
-use Rattle.line.proofs.Arrivals.{passes-is, band-is, band-not}
+use Rattle.line.proofs.ActChoice.{met, meets-first, meets-second}
+use Rattle.line.proofs.ArrivalLaws.{passes-is, band-is, band-not}
 use borrow.Author.Needs.{needs}
 use Rattle.line.proofs.Flow.act_after_initiate.Statement.{statement}
 use Rattle.line.proofs.Flow.act_after_initiate.Tie as tie

@@ -1,6 +1,6 @@
 use mathlib.Core.Path.{refl, sym, _∙_}
 use Rattle.line.proofs.ReceivedMessage.{true-false}
-use Rattle.line.proofs.Meeting.{none-of}
+use Rattle.line.proofs.ActChoice.{none-of}
 use borrow.Author.Needs.{needs}
 use Rattle.line.proofs.Flow.act_if.Statement.{statement}
 use Rattle.line.proofs.Flow.act_if.Tie as tie

@@ -1,9 +1,9 @@
 use mathlib.Core.Path.{sym, ap, _∙_}
 use Rattle.line.specs.declared.acts.Act.the-variants.{Obeys}
-use Rattle.line.proofs.Evented.{key-host, tick-host, step-host, event-same}
-use Rattle.line.specs.Events.{eventPart}
+use Rattle.line.proofs.EventRules.{key-host, tick-host, step-host, event-same}
+use Rattle.line.specs.Events.{eventRule}
 use Rattle.line.specs.With.{onFlow, lent}
-use Rattle.line.proofs.Meeting.{met, event-meets, kind-as, host-kind}
+use Rattle.line.proofs.ActChoice.{met, event-meets, kind-as, host-kind}
 use borrow.Author.Needs.{needs}
 use Rattle.line.proofs.Flow.act_of.Statement.{statement}
 use Rattle.line.proofs.Flow.act_of.Tie as tie
@@ -35,7 +35,7 @@ enum-known-e-2 : tie.Need-enum-known-e-2
 enum-known-e-2 c = search needs
 
 returns : tie.Need-returns
-unfolding eventPart
+unfolding eventRule
 returns c =
     let a = c .before .before .before .before .args in (
       λ s l h. event-meets s (onFlow (a .self) (lent (a .t) (l .text) l)) (a .seen) (c .before .before .e .given .1) h (λ k. c .act-of-key .ensures .0 s l (k .0) (k .1)),
@@ -43,7 +43,7 @@ returns c =
     )
 
 returns-2 : tie.Need-returns-2
-unfolding eventPart
+unfolding eventRule
 returns-2 c =
     let a = c .before .before .before .args in (
       λ s l h. event-meets s (onFlow (a .self) (lent (a .t) (l .text) l)) (a .seen) (c .before .enum-told .given .1) h (λ k. c .act-of-tick .ensures .0 s l k),
@@ -51,7 +51,7 @@ returns-2 c =
     )
 
 returns-3 : tie.Need-returns-3
-unfolding eventPart
+unfolding eventRule
 returns-3 c =
     let a = c .before .before .before .args in (
       λ s l h. event-meets s (onFlow (a .self) (lent (a .t) (l .text) l)) (a .seen) (c .before .enum-told2 .given .1) h
@@ -60,7 +60,7 @@ returns-3 c =
     )
 
 returns-4 : tie.Need-returns-4
-unfolding eventPart
+unfolding eventRule
 returns-4 c =
     let a = c .before .before .before .args in (
       λ s l h. event-meets s (onFlow (a .self) (lent (a .t) (l .text) l)) (a .seen) (c .before .e2 .given .1) h (λ k. met k),

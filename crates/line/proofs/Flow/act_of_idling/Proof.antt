@@ -1,7 +1,7 @@
 use mathlib.Core.Path.{refl}
 use borrow.Author.Tests.{le-leb, lt-leb}
 use Rattle.rules.specs.Steps.{idles}
-use Rattle.line.proofs.Meeting.{met, meets-first, meets-second}
+use Rattle.line.proofs.ActChoice.{met, meets-first, meets-second}
 use borrow.Author.Needs.{needs}
 use Rattle.line.proofs.Flow.act_of_idling.Statement.{statement}
 use Rattle.line.proofs.Flow.act_of_idling.Tie as tie

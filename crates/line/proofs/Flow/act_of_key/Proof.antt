@@ -2,7 +2,7 @@ use borrow.Author.Needs.{needs}
 use mathlib.Core.Path.{refl, sym, _∙_}
 use native.Mathlib.Omega.{arith}
 use Rattle.rules.specs.Arrival.{arrives}
-use Rattle.line.proofs.Meeting.{met, meets-as, meets-first, meets-second, meets-told}
+use Rattle.line.proofs.ActChoice.{met, meets-as, meets-first, meets-second, meets-told}
 use Rattle.line.proofs.Flow.act_of_key.Statement.{statement}
 use Rattle.line.proofs.Flow.act_of_key.Tie as tie
 

@@ -7,10 +7,10 @@ use Rattle.rules.proofs.Tests.{isEmpty-nil}
 use Rattle.line.specs.View.{view, readingOf}
 use Rattle.line.specs.With.{onFlow, lent}
 use Rattle.line.specs.Acts.{CanTakeKey}
-use Rattle.line.proofs.Meeting.{met, meets-as, meets-pending, meets-none, meets-first, meets-second, meets-told}
+use Rattle.line.proofs.ActChoice.{met, meets-as, meets-pending, meets-none, meets-first, meets-second, meets-told}
 use Rattle.line.proofs.KeyArrays.{keys-empty, first-key}
 use Rattle.line.proofs.TokenBytes.{token-short}
-use Rattle.line.proofs.Room.{pending-room}
+use Rattle.line.proofs.PendingRead.{pending-room}
 use borrow.Author.Needs.{needs}
 use Rattle.line.proofs.Flow.act_of_step.Statement.{statement}
 use Rattle.line.proofs.Flow.act_of_step.Tie as tie

@@ -4,7 +4,7 @@ use borrow.Author.Tests.{not-true, not-false}
 use Rattle.rules.specs.State.{codes}
 use Rattle.rules.specs.Turns.{only}
 use Rattle.rules.specs.Steps.{ticksWhile, ticks}
-use Rattle.line.proofs.Meeting.{met, meets-pending, meets-none, meets-first, meets-second}
+use Rattle.line.proofs.ActChoice.{met, meets-pending, meets-none, meets-first, meets-second}
 use Rattle.line.proofs.TokenBytes.{nothing-waits}
 use borrow.Author.Needs.{needs}
 use Rattle.line.proofs.Flow.act_of_tick.Statement.{statement}

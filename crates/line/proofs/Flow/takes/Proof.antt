@@ -6,7 +6,7 @@ use Rattle.characteristics.specs.View.{setOf}
 use Rattle.line.specs.View.{view, readingOf}
 use Rattle.line.specs.With.{onFlow, lent}
 use Rattle.line.specs.Acts.{idleAtZero, keyTaken}
-use Rattle.line.proofs.Meeting.{met, meets-behind, behind-first, behind-second}
+use Rattle.line.proofs.ActChoice.{met, meets-behind, behind-first, behind-second}
 use borrow.Author.Needs.{needs}
 use Rattle.line.proofs.Flow.takes.Statement.{statement}
 use Rattle.line.proofs.Flow.takes.Tie as tie

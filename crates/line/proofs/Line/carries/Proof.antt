@@ -8,7 +8,7 @@ use Rattle.characteristics.specs.Lists.{settingsIn, questionsIn}
 use Rattle.characteristics.proofs.Held.{held-settings, held-questions}
 use Rattle.line.specs.View.{view, hostOf}
 use Rattle.rules.specs.State.{withHost}
-use Rattle.line.proofs.Accepts.{carried-as, other-carried}
+use Rattle.line.proofs.HostAccepted.{carried-as, other-carried}
 use borrow.Author.Needs.{needs}
 use Rattle.line.proofs.Line.carries.Statement.{statement}
 use Rattle.line.proofs.Line.carries.Tie as tie

@@ -7,8 +7,8 @@ use Rattle.rules.specs.Calls.{refuses}
 use Rattle.message.specs.Found.{foundIn, foundNumber}
 use Rattle.writing.proofs.Fitting.{bytes-all}
 use Rattle.line.specs.View.{view, readingOf}
-use Rattle.line.proofs.Accepts.{host-sends}
-use Rattle.line.proofs.Answering.{refused}
+use Rattle.line.proofs.HostAccepted.{host-sends}
+use Rattle.line.proofs.Answers.{refused}
 use Rattle.line.proofs.ReceivedMessage.{is-pending, early-refused, early-passed, outcome-refused, found-refused, server-found, not-carried, is-accepted}
 use borrow.Author.Needs.{needs}
 use Rattle.line.proofs.Line.host.Statement.{statement}

@@ -2,8 +2,8 @@ use native.Mathlib.Omega.{arith}
 use mathlib.Core.Path.{refl}
 use mathlib.Core.List.{[]}
 use Rattle.line.specs.declared.events.Event.the-variants.{Key}
-use Rattle.line.proofs.Evented.{eventOf}
-use Rattle.line.proofs.Acting.{keyed-answers, keyed-fits, numbered}
+use Rattle.line.proofs.EventRules.{eventOf}
+use Rattle.line.proofs.ActsDone.{keyed-answers, keyed-fits, numbered}
 use borrow.Author.Needs.{needs}
 use Rattle.line.proofs.Line.key.Statement.{statement}
 use Rattle.line.proofs.Line.key.Tie as tie

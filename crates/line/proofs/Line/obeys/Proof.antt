@@ -1,7 +1,7 @@
 use mathlib.Core.Path.{refl, sym, subst}
 use Rattle.line.specs.Acts.{Fits}
-use Rattle.line.proofs.Accepts.{startables}
-use Rattle.line.proofs.HostTurns.{set-counted, host-answers}
+use Rattle.line.proofs.HostAccepted.{startables}
+use Rattle.line.proofs.HostDone.{set-counted, host-answers}
 use borrow.Author.Needs.{needs}
 use Rattle.line.proofs.Line.obeys.Statement.{statement}
 use Rattle.line.proofs.Line.obeys.Tie as tie

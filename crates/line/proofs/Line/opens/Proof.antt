@@ -3,21 +3,21 @@ use Prim.Native.Nat.{_-_}
 use native.Mathlib.Omega.{arith}
 use lib.ListN.{length}
 use lib.Seq.{sets, length-sets}
-use Rattle.line.specs.Starts.{onOpened, Opens}
+use Rattle.line.specs.StartRead.{onOpened, Opens}
 use Rattle.rules.proofs.Sizes.{input-word}
 use Rattle.line.proofs.Sizes.{inputNumeral, input-size}
-use Rattle.line.proofs.Opened.{pieces-fit, line-opens}
+use Rattle.line.proofs.StartRead.{pieces-fit, line-opens}
 use borrow.Author.Needs.{needs}
 use Rattle.line.proofs.Line.opens.Statement.{statement}
 use Rattle.line.proofs.Line.opens.Tie as tie
 use Rattle.line.proofs.Line.opens.Reads as reads
 use Rattle.line.proofs.Line.opens.Lts as lts
-use Rattle.line.proofs.opening.chosen_set.Reads as chosen-set-reads
-use Rattle.line.proofs.opening.data_of.Reads as data-of-reads
-use Rattle.line.proofs.opening.last_set.Reads as last-set-reads
-use Rattle.line.proofs.opening.prompt_of.Reads as prompt-of-reads
-use Rattle.line.proofs.opening.put_text.Reads as put-text-reads
-use Rattle.line.proofs.opening.terms_for.Reads as terms-for-reads
+use Rattle.line.proofs.start_read.chosen_set.Reads as chosen-set-reads
+use Rattle.line.proofs.start_read.data_of.Reads as data-of-reads
+use Rattle.line.proofs.start_read.last_set.Reads as last-set-reads
+use Rattle.line.proofs.start_read.prompt_of.Reads as prompt-of-reads
+use Rattle.line.proofs.start_read.put_text.Reads as put-text-reads
+use Rattle.line.proofs.start_read.terms_for.Reads as terms-for-reads
 
 prompt-of-requires : tie.Need-prompt-of-requires
 prompt-of-requires c κs = search needs

@@ -2,7 +2,7 @@ use mathlib.Core.Path.{ap₂}
 use Rattle.characteristics.specs.View as host
 use Rattle.characteristics.specs.Lists.{reportBytes}
 use Rattle.areas.proofs.Putting.{equals}
-use Rattle.line.proofs.Accepts.{reported-as, nothing-reported}
+use Rattle.line.proofs.HostAccepted.{reported-as, nothing-reported}
 use borrow.Author.Needs.{needs}
 use Rattle.line.proofs.Line.reports.Statement.{statement}
 use Rattle.line.proofs.Line.reports.Tie as tie

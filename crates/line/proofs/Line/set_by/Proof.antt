@@ -1,6 +1,6 @@
 use mathlib.Core.Path.{subst}
-use Rattle.line.specs.HostMessages.{Startables}
-use Rattle.line.proofs.Accepts.{set-as, nothing-set}
+use Rattle.line.specs.Host.{Startables}
+use Rattle.line.proofs.HostAccepted.{set-as, nothing-set}
 use borrow.Author.Needs.{needs}
 use Rattle.line.proofs.Line.set_by.Statement.{statement}
 use Rattle.line.proofs.Line.set_by.Tie as tie

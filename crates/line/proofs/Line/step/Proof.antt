@@ -6,8 +6,8 @@ use Rattle.rules.specs.Steps.{raisedBy}
 use Rattle.characteristics.specs.View.{setOf}
 use Rattle.line.specs.declared.events.Event.the-variants.{Step}
 use Rattle.line.specs.View.{readingOf}
-use Rattle.line.proofs.Evented.{eventOf}
-use Rattle.line.proofs.Acting.{keyed-answers, keyed-fits, numbered}
+use Rattle.line.proofs.EventRules.{eventOf}
+use Rattle.line.proofs.ActsDone.{keyed-answers, keyed-fits, numbered}
 use borrow.Author.Needs.{needs}
 use Rattle.line.proofs.Line.step.Statement.{statement}
 use Rattle.line.proofs.Line.step.Tie as tie

@@ -1,4 +1,4 @@
-use Rattle.line.proofs.Appends.{hidden-first, all-shown}
+use Rattle.line.proofs.InputAppended.{hidden-first, all-shown}
 use Rattle.line.proofs.Reading.first_shown.Statement.{statement}
 use Rattle.line.proofs.Reading.first_shown.Tie as tie
 

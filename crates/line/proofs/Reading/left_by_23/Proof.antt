@@ -1,5 +1,5 @@
 use borrow.Author.Needs.{needs}
-use Rattle.line.proofs.Words.{leaves-23}
+use Rattle.line.proofs.WordDeletion.{leaves-23}
 use Rattle.line.proofs.Reading.left_by_23.Statement.{statement}
 use Rattle.line.proofs.Reading.left_by_23.Tie as tie
 

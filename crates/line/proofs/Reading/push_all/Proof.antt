@@ -3,8 +3,8 @@ use native.Mathlib.Omega.{arith}
 use mathlib.Core.Path.{_∙_}
 use lib.ListN.{length, take}
 use lib.Seq.{take-all, length-take-le}
-use Rattle.line.specs.ReadingParts.{Appends}
-use Rattle.line.proofs.Appends.{appends-none, appends-more}
+use Rattle.line.specs.ReadChanges.{Appends}
+use Rattle.line.proofs.InputAppended.{appends-none, appends-more}
 use Rattle.line.proofs.Reading.push_all.Statement.{statement}
 use Rattle.line.proofs.Reading.push_all.Tie as tie
 

@@ -1,5 +1,5 @@
 use borrow.Author.Needs.{needs}
-use Rattle.line.proofs.Inputs.{left-becomes}
+use Rattle.line.proofs.InputLaws.{left-becomes}
 use Rattle.line.proofs.Reading.shortened.Statement.{statement}
 use Rattle.line.proofs.Reading.shortened.Tie as tie
 

@@ -1,7 +1,7 @@
 use mathlib.Core.Path.{refl}
 use Rattle.rules.specs.Turns.{only}
 use Rattle.rules.specs.Steps.{takesFirst}
-use Rattle.line.proofs.Meeting.{met, meets-first, meets-second}
+use Rattle.line.proofs.ActChoice.{met, meets-first, meets-second}
 use Rattle.line.proofs.Terms.act_without_key.Statement.{statement}
 use Rattle.line.proofs.Terms.act_without_key.Tie as tie
 use Rattle.line.proofs.Terms.act_without_key.Reads as reads

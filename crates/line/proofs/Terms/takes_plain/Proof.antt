@@ -1,6 +1,6 @@
 use mathlib.Core.Path.{refl, sym, _∙_}
 use Rattle.rules.specs.Steps.{takesPlain}
-use Rattle.line.proofs.Meeting.{met, behind-first, behind-second}
+use Rattle.line.proofs.ActChoice.{met, behind-first, behind-second}
 use borrow.Author.Needs.{needs}
 use Rattle.line.proofs.Terms.takes_plain.Statement.{statement}
 use Rattle.line.proofs.Terms.takes_plain.Tie as tie

@@ -1,7 +1,7 @@
 use mathlib.Core.Path.{refl, subst}
 use Rattle.line.specs.Acts.{Fits}
-use Rattle.line.proofs.Works.{still-does}
-use Rattle.line.proofs.Acting.{done-as, rest}
+use Rattle.line.proofs.Turns.{still-does}
+use Rattle.line.proofs.ActsDone.{done-as, rest}
 use borrow.Author.Needs.{needs}
 use Rattle.line.proofs.Work.acts_on_host.Statement.{statement}
 use Rattle.line.proofs.Work.acts_on_host.Tie as tie

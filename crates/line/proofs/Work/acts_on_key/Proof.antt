@@ -4,9 +4,9 @@ use Rattle.rules.specs.Numbers.{typeAheadSize}
 use Rattle.rules.specs.Arrival.{stores}
 use Rattle.line.specs.With.{lent}
 use Rattle.line.specs.Acts.{Fits}
-use Rattle.line.proofs.Works.{still-does}
-use Rattle.line.proofs.Arrivals.{plain-key}
-use Rattle.line.proofs.Acting.{done-as, moved, rest}
+use Rattle.line.proofs.Turns.{still-does}
+use Rattle.line.proofs.ArrivalLaws.{plain-key}
+use Rattle.line.proofs.ActsDone.{done-as, moved, rest}
 use borrow.Author.Needs.{needs}
 use Rattle.line.proofs.Work.acts_on_key.Statement.{statement}
 use Rattle.line.proofs.Work.acts_on_key.Tie as tie

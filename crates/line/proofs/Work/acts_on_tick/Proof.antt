@@ -1,8 +1,8 @@
 use mathlib.Core.Path.{refl}
 use mathlib.Core.List.{[]}
 use Rattle.line.specs.With.{lent}
-use Rattle.line.proofs.Works.{still-does}
-use Rattle.line.proofs.Acting.{done-as, moved, rest}
+use Rattle.line.proofs.Turns.{still-does}
+use Rattle.line.proofs.ActsDone.{done-as, moved, rest}
 use borrow.Author.Needs.{needs}
 use Rattle.line.proofs.Work.acts_on_tick.Statement.{statement}
 use Rattle.line.proofs.Work.acts_on_tick.Tie as tie

@@ -2,11 +2,11 @@ use mathlib.Core.Path.{refl, sym, ap, _∙_}
 use borrow.Author.Needs.{needs}
 use Rattle.rules.specs.Token.{isWhole}
 use Rattle.rules.specs.Steps.{addsToToken}
-use Rattle.line.specs.TokenParts.{codesOf}
+use Rattle.line.specs.TokenChanges.{codesOf}
 use Rattle.line.specs.With.{lent}
-use Rattle.line.proofs.Works.{told-does, then-does}
+use Rattle.line.proofs.Turns.{told-does, then-does}
 use Rattle.line.proofs.TokenBytes.{grown-counted}
-use Rattle.line.proofs.Joints.{here-only, here-not, typed-counted, tokened-does}
+use Rattle.line.proofs.FlowChanges.{here-only, here-not, typed-counted, tokened-does}
 use borrow.Author.Needs.{needs}
 use Rattle.line.proofs.Work.adds_to_token.Statement.{statement}
 use Rattle.line.proofs.Work.adds_to_token.Tie as tie

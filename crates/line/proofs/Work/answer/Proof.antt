@@ -1,9 +1,9 @@
 use borrow.Author.Needs.{needs}
 use native.Mathlib.Omega.{arith}
 use lib.ListN.{length}
-use Rattle.line.proofs.Joints.{answer-held}
+use Rattle.line.proofs.FlowChanges.{answer-held}
 use Rattle.writing.specs.Spans.{spansOf}
-use Rattle.line.proofs.Sends.{text-inside}
+use Rattle.line.proofs.SentMessages.{text-inside}
 use Rattle.line.proofs.Work.answer.Statement.{statement}
 use Rattle.line.proofs.Work.answer.Tie as tie
 

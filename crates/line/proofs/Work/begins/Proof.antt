@@ -7,8 +7,8 @@ use Rattle.rules.specs.StartRead.Acceptance.{clearsFirst, feedsLine, autoPrompt
 use Rattle.message.specs.Found.{startReadIn}
 use Rattle.line.specs.View.{readingOf}
 use Rattle.line.specs.With.{lent}
-use Rattle.line.proofs.Works.{then-does}
-use Rattle.line.proofs.Joints.{here-part, for-equal}
+use Rattle.line.proofs.Turns.{then-does}
+use Rattle.line.proofs.FlowChanges.{here-rule, for-equal}
 use borrow.Author.Needs.{needs}
 use Rattle.line.proofs.Work.begins.Statement.{statement}
 use Rattle.line.proofs.Work.begins.Tie as tie
@@ -18,7 +18,7 @@ use Rattle.line.proofs.Work.completes_if.Reads as completes-if-reads
 use Rattle.line.proofs.Work.displays.Reads as displays-reads
 use Rattle.line.proofs.Work.empties_typed_if.Reads as empties-typed-if-reads
 use Rattle.line.proofs.Work.puts_if.Reads as puts-if-reads
-use Rattle.line.proofs.opening.reading_at.Reads as reading-at-reads
+use Rattle.line.proofs.start_read.reading_at.Reads as reading-at-reads
 
 reading-at-requires : tie.Need-reading-at-requires
 reading-at-requires c κs = c .before .before .before .before .before .before .before .pre .1 .1 .1 .prompt
@@ -64,9 +64,9 @@ returns c =
           let line = lent (a .t) (a .text .now) l in
           for-equal (λ e. begins codes (startReadIn (a .s .now) f) e) (ap (readingOf line) r)
           (then-does (c .before .before .before .before .before .before .before .before .before .before .before .before .before .before .before .before .before .before .before .before .before .before .empties-typed-if .ensures .1 line _ _)
-          (then-does (here-part refl (c .before .before .before .before .before .before .before .before .before .before .before .before .before .before .before .puts-if .ensures .1 line _))
+          (then-does (here-rule refl (c .before .before .before .before .before .before .before .before .before .before .before .before .before .before .before .puts-if .ensures .1 line _))
           (then-does
-          (here-part refl (for-equal (λ p. only p (writes (1 ∷ []))) prompting (c .before .before .before .before .before .before .before .before .before .before .before .puts-if2 .ensures .1 line _)))
+          (here-rule refl (for-equal (λ p. only p (writes (1 ∷ []))) prompting (c .before .before .before .before .before .before .before .before .before .before .before .puts-if2 .ensures .1 line _)))
           (then-does (c .before .before .before .before .before .before .before .displays .ensures .1 l _) (done .1 l _))))),
     )
 

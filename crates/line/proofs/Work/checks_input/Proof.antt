@@ -8,8 +8,8 @@ use Rattle.rules.specs.ReadData.{checksInput}
 use Rattle.rules.proofs.Sizes.{waiting-word}
 use Rattle.message.specs.Found.{heldIn}
 use Rattle.writing.specs.Spans.{spansOf, inside}
-use Rattle.line.proofs.Joints.{here-part}
-use Rattle.line.proofs.Obeys.{waiting-count}
+use Rattle.line.proofs.FlowChanges.{here-rule}
+use Rattle.line.proofs.HostLaws.{waiting-count}
 use Rattle.line.proofs.Work.checks_input.Statement.{statement}
 use Rattle.line.proofs.Work.checks_input.Tie as tie
 
@@ -30,7 +30,7 @@ returns c =
       sent .0,
       λ l t.
           let count = waiting-count (l .keys) (start .args .self .flow .typed) (start .pre .typed) in
-          here-part refl
+          here-rule refl
           (sent .1 _ _ (λ s. ap (λ n. codec.message (plain inputCount (n ∷ []))) count) refl l t),
     )
 

@@ -2,8 +2,8 @@ use Rattle.line.specs.With.{lent}
 use borrow.Author.Needs.{needs}
 use Rattle.rules.specs.Arrival.{clearRule}
 use mathlib.Core.Path.{refl}
-use Rattle.line.proofs.Joints.{here-part}
-use Rattle.line.proofs.Works.{then-does}
+use Rattle.line.proofs.FlowChanges.{here-rule}
+use Rattle.line.proofs.Turns.{then-does}
 use Rattle.line.proofs.Work.clears.Statement.{statement}
 use Rattle.line.proofs.Work.clears.Tie as tie
 
@@ -27,7 +27,7 @@ returns c =
       cleared .0,
       λ l m.
           then-does (c .before .before .before .before .before .before .empties-typed .ensures .1 (lent (a .t) (a .text .now) l) _ m)
-          (here-part refl (cleared .1 l m)),
+          (here-rule refl (cleared .1 l m)),
     )
 
 pub clears-spec : {M : Type 1} → statement M

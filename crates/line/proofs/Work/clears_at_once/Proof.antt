@@ -2,8 +2,8 @@ use Rattle.line.specs.With.{lent}
 use borrow.Author.Needs.{needs}
 use Rattle.rules.specs.Arrival.{clearRule, clearsAtOnce}
 use mathlib.Core.Path.{refl}
-use Rattle.line.proofs.Joints.{here-part}
-use Rattle.line.proofs.Works.{then-does}
+use Rattle.line.proofs.FlowChanges.{here-rule}
+use Rattle.line.proofs.Turns.{then-does}
 use Rattle.line.proofs.Work.clears_at_once.Statement.{statement}
 use Rattle.line.proofs.Work.clears_at_once.Tie as tie
 
@@ -36,8 +36,8 @@ returns c =
       λ l x.
           let line = lent (a .t) (a .text .now) l in
           then-does (sent .1 line x)
-          (then-does (then-does (emptied .1 line x _) (here-part refl (unseen .1 (a .text .now) l x _)))
-          (here-part refl (ended .1 l x))),
+          (then-does (then-does (emptied .1 line x _) (here-rule refl (unseen .1 (a .text .now) l x _)))
+          (here-rule refl (ended .1 l x))),
     )
 
 pub clears-at-once-spec : {M : Type 1} → statement M

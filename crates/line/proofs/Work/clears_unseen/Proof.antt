@@ -4,8 +4,8 @@ use borrow.Author.Needs.{needs}
 use Rattle.rules.specs.State.{codes}
 use Rattle.rules.specs.Arrival.{withoutRubbing, clearsInput}
 use Rattle.rules.specs.Turns.{cleared}
-use Rattle.line.proofs.Works.{still-does}
-use Rattle.line.proofs.Arrivals.{pending-does, idle-does}
+use Rattle.line.proofs.Turns.{still-does}
+use Rattle.line.proofs.ArrivalLaws.{pending-does, idle-does}
 use Rattle.line.proofs.Work.clears_unseen.Statement.{statement}
 use Rattle.line.proofs.Work.clears_unseen.Tie as tie
 

@@ -1,8 +1,8 @@
 use mathlib.Core.Path.{ap}
 use borrow.Author.Needs.{needs}
 use Rattle.rules.specs.ReadData.{completes}
-use Rattle.line.proofs.Works.{then-does}
-use Rattle.line.proofs.Joints.{goes-counted, off-does}
+use Rattle.line.proofs.Turns.{then-does}
+use Rattle.line.proofs.FlowChanges.{goes-counted, off-does}
 use Rattle.line.proofs.Work.completes.Statement.{statement}
 use Rattle.line.proofs.Work.completes.Tie as tie
 

@@ -1,6 +1,6 @@
 use Rattle.line.specs.With.{lent}
 use borrow.Author.Needs.{needs}
-use Rattle.line.proofs.Works.{only-does, not-does, still-does}
+use Rattle.line.proofs.Turns.{only-does, not-does, still-does}
 use Rattle.line.proofs.Work.completes_if.Statement.{statement}
 use Rattle.line.proofs.Work.completes_if.Tie as tie
 

@@ -5,8 +5,8 @@ use borrow.Author.Needs.{needs}
 use Rattle.rules.specs.Screen.{rubOut}
 use Rattle.rules.specs.Editing.{hiddenCount, rubbing, deletes}
 use Rattle.rules.proofs.Tests.{pick-true, pick-false}
-use Rattle.line.proofs.Works.{then-does}
-use Rattle.line.proofs.Joints.{same-writes, unwritten-does}
+use Rattle.line.proofs.Turns.{then-does}
+use Rattle.line.proofs.FlowChanges.{same-writes, unwritten-does}
 use Rattle.line.proofs.Work.deletes.Statement.{statement}
 use Rattle.line.proofs.Work.deletes.Tie as tie
 

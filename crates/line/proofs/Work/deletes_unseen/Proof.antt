@@ -1,7 +1,7 @@
 use borrow.Author.Needs.{needs}
 use Rattle.rules.specs.Editing.{deletesUnseen}
-use Rattle.line.proofs.Works.{told-does}
-use Rattle.line.proofs.Joints.{read-counted, read-does}
+use Rattle.line.proofs.Turns.{told-does}
+use Rattle.line.proofs.FlowChanges.{read-counted, read-does}
 use Rattle.line.specs.With.{lent}
 use native.Mathlib.Omega.{arith}
 use Rattle.line.proofs.Work.deletes_unseen.Statement.{statement}

@@ -9,8 +9,8 @@ use Rattle.fields.proofs.Pieces.{all-behind}
 use Rattle.line.specs.View.{promptOf}
 use Rattle.line.specs.With.{lent}
 use Rattle.line.proofs.Sizes.{inputNumeral, input-size}
-use Rattle.line.proofs.Works.{then-does}
-use Rattle.line.proofs.Joints.{same-writes}
+use Rattle.line.proofs.Turns.{then-does}
+use Rattle.line.proofs.FlowChanges.{same-writes}
 use Rattle.line.proofs.Work.displays.Statement.{statement}
 use Rattle.line.proofs.Work.displays.Tie as tie
 use Rattle.line.proofs.Work.displays.Reads as reads

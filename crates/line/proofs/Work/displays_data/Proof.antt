@@ -7,8 +7,8 @@ use Rattle.rules.specs.Screen.{echoAll}
 use Rattle.rules.proofs.Tests.{pick-true, pick-false}
 use Rattle.rules.specs.Editing.{displaysData}
 use Rattle.line.specs.With.{lent}
-use Rattle.line.proofs.Works.{then-does}
-use Rattle.line.proofs.Joints.{same-writes, blank-does, here-part, read-counted, read-does, from-same, from-count}
+use Rattle.line.proofs.Turns.{then-does}
+use Rattle.line.proofs.FlowChanges.{same-writes, blank-does, here-rule, read-counted, read-does, from-same, from-count}
 use Rattle.line.proofs.Work.displays_data.Statement.{statement}
 use Rattle.line.proofs.Work.displays_data.Tie as tie
 
@@ -61,7 +61,7 @@ returns c =
           let shown =
           ap (λ x. echoAll (x .flow .terminal .screen .column) part) begun
           ∙ ap (echoAll (a .self .flow .terminal .screen .column)) (c .before .before .before .before .before .before .first-shown .ensures .text line) ∙ sym (pick-true _ [] (c .before .before .before .before .before .before .before .if1 .taken)) in
-          here-part refl
+          here-rule refl
           (then-does (read-does (a .self) (next .result) begun line (from-same r (next .ensures) line) _ m)
           (same-writes shown (echoed .1 line m))),
     )
@@ -76,7 +76,7 @@ returns-2 c =
       read-counted (a .self) (next .result) begun (start .pre .0) (from-count (a .r) (next .ensures) (start .pre .1 .within)),
       λ l m.
           let line = lent (a .t) (a .text .now) l in
-          here-part refl
+          here-rule refl
           (then-does (read-does (a .self) (next .result) begun line (from-same (a .r) (next .ensures) line) _ m)
           (blank-does _ _ m (pick-false _ _ (c .if1 .left)))),
     )

@@ -1,7 +1,7 @@
 use borrow.Author.Needs.{needs}
 use Rattle.rules.specs.Arrival.{drops}
-use Rattle.line.proofs.Works.{then-does, told-does}
-use Rattle.line.proofs.Arrivals.{terminal-counted, count-does}
+use Rattle.line.proofs.Turns.{then-does, told-does}
+use Rattle.line.proofs.ArrivalLaws.{terminal-counted, count-does}
 use Rattle.line.proofs.Work.drops.Statement.{statement}
 use Rattle.line.proofs.Work.drops.Tie as tie
 

@@ -8,9 +8,9 @@ use Rattle.rules.specs.Turns.{edited}
 use Rattle.rules.specs.Steps.{erases, erasesAll, showsAgain, edits}
 use Rattle.line.specs.View.{readingOf}
 use Rattle.line.specs.With.{lent}
-use Rattle.line.proofs.Appends.{input-length}
-use Rattle.line.proofs.Works.{first-does, second-does, told-does}
-use Rattle.line.proofs.Joints.{for-equal}
+use Rattle.line.proofs.InputAppended.{input-length}
+use Rattle.line.proofs.Turns.{first-does, second-does, told-does}
+use Rattle.line.proofs.FlowChanges.{for-equal}
 use borrow.Author.Needs.{needs}
 use Rattle.line.proofs.Work.edits.Statement.{statement}
 use Rattle.line.proofs.Work.edits.Tie as tie

@@ -1,10 +1,10 @@
 use mathlib.Core.Path.{refl}
 use Rattle.line.proofs.TokenBytes.{emptied-counted}
-use Rattle.line.proofs.Joints.{here-part, typed-counted}
+use Rattle.line.proofs.FlowChanges.{here-rule, typed-counted}
 use borrow.Author.Needs.{needs}
 use Rattle.rules.specs.Arrival.{emptiesTyped}
-use Rattle.line.proofs.Works.{told-does}
-use Rattle.line.proofs.Arrivals.{emptied-does}
+use Rattle.line.proofs.Turns.{told-does}
+use Rattle.line.proofs.ArrivalLaws.{emptied-does}
 use Rattle.line.proofs.Work.empties_typed.Statement.{statement}
 use Rattle.line.proofs.Work.empties_typed.Tie as tie
 
@@ -23,7 +23,7 @@ returns c =
     let next = c .with-typed .ensures in (
       typed-counted self next (start .pre) (emptied-counted (self .flow .typed) (start .pre .typed) e),
       λ l t m.
-          here-part refl (told-does _ (emptied-does self next e l t m)),
+          here-rule refl (told-does _ (emptied-does self next e l t m)),
     )
 
 pub empties-typed-spec : {M : Type 1} → statement M

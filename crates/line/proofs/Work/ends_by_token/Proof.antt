@@ -5,9 +5,9 @@ use Rattle.line.specs.View.{tokenOf}
 use Rattle.line.specs.With.{lent}
 use Rattle.rules.specs.Steps.{endsByToken}
 use Rattle.line.proofs.Sizes.{token-byte}
-use Rattle.line.proofs.Works.{then-does}
+use Rattle.line.proofs.Turns.{then-does}
 use Rattle.line.proofs.TokenBytes.{token-length, token-counted, untokened-counted}
-use Rattle.line.proofs.Joints.{here-part, completes-as, typed-counted, cleared-does, ended-does}
+use Rattle.line.proofs.FlowChanges.{here-rule, completes-as, typed-counted, cleared-does, ended-does}
 use borrow.Author.Needs.{needs}
 use Rattle.line.proofs.Work.ends_by_token.Statement.{statement}
 use Rattle.line.proofs.Work.ends_by_token.Tie as tie
@@ -75,7 +75,7 @@ returns c =
         λ l x.
             let line = lent (a .t) (a .text .now) l in
             ended-does (done .result) (a .t) (a .text .now) _ l (done .ensures .1 .1)
-            (here-part refl
+            (here-rule refl
             (then-does (cleared-does (a .self) (c .before .before .before .before .before .before .with-typed .ensures) (c .before .before .before .before .before .before .before .without-token .ensures) line x _)
             (completes-as (c .before .before .before .before .before .before .before .before .token-code .ensures) (sym (token-counted typed (start .pre .0 .typed)))
             (next .same (a .t) l (omega (arith, start .pre .1 .1))) (done .ensures .1 .0 line l x)))),

@@ -3,8 +3,8 @@ use Rattle.line.specs.With.{lent}
 use borrow.Author.Needs.{needs}
 use Rattle.rules.specs.State.{codes}
 use Rattle.rules.specs.Arrival.{endsOutOfBand}
-use Rattle.line.proofs.Works.{still-does}
-use Rattle.line.proofs.Arrivals.{pending-does, idle-does}
+use Rattle.line.proofs.Turns.{still-does}
+use Rattle.line.proofs.ArrivalLaws.{pending-does, idle-does}
 use Rattle.line.proofs.Work.ends_out_of_band.Statement.{statement}
 use Rattle.line.proofs.Work.ends_out_of_band.Tie as tie
 

@@ -3,8 +3,8 @@ use borrow.Author.Needs.{needs}
 use borrow.Author.Tests.{eq-eqb, ne-eqb}
 use Rattle.rules.specs.Turns.{edited}
 use Rattle.rules.specs.Steps.{erases}
-use Rattle.line.proofs.Works.{first-does, second-does, told-does}
-use Rattle.line.proofs.Appends.{input-empty}
+use Rattle.line.proofs.Turns.{first-does, second-does, told-does}
+use Rattle.line.proofs.InputAppended.{input-empty}
 use borrow.Author.Needs.{needs}
 use Rattle.line.proofs.Work.erases.Statement.{statement}
 use Rattle.line.proofs.Work.erases.Tie as tie

@@ -9,9 +9,9 @@ use Rattle.rules.specs.State.{withDiscarding}
 use Rattle.rules.specs.Arrival.{sendsDiscardState, flipsDiscard}
 use Rattle.message.specs.Found.{heldIn}
 use Rattle.writing.specs.Spans.{spansOf, inside}
-use Rattle.line.proofs.Joints.{here-part}
-use Rattle.line.proofs.Works.{then-does, told-does}
-use Rattle.line.proofs.Arrivals.{terminal-counted, terminal-does}
+use Rattle.line.proofs.FlowChanges.{here-rule}
+use Rattle.line.proofs.Turns.{then-does, told-does}
+use Rattle.line.proofs.ArrivalLaws.{terminal-counted, terminal-does}
 use Rattle.line.proofs.Work.flips_discard.Statement.{statement}
 use Rattle.line.proofs.Work.flips_discard.Tie as tie
 
@@ -38,7 +38,7 @@ returns c =
       λ k l t.
           told-does _
           (then-does (terminal-does self _ flipped (λ x. withDiscarding (not (x .discarding)) x) refl l t _)
-          (here-part refl
+          (here-rule refl
           (sent .1 _ _ (λ s. ap (λ n. codec.message (plain discardState (n ∷ []))) kept) refl l t))),
     )
 

@@ -1,11 +1,11 @@
-use Rattle.line.proofs.Sends.{sent-does, sent-counted}
+use Rattle.line.proofs.SentMessages.{sent-does, sent-counted}
 use borrow.Author.Needs.{needs}
 use Rattle.line.proofs.Work.initiates.Statement.{statement}
 use Rattle.line.proofs.Work.initiates.Tie as tie
 use Rattle.line.proofs.Work.initiates.Reads as reads
 use Rattle.line.proofs.Work.initiates.Lts as lts
 use Rattle.line.proofs.Work.sent_up_to.Reads as sent-up-to-reads
-use Rattle.line.proofs.initiating.put_initiate.Reads as put-initiate-reads
+use Rattle.line.proofs.initiate.put_initiate.Reads as put-initiate-reads
 
 put-initiate-requires : tie.Need-put-initiate-requires
 put-initiate-requires c κs = search needs

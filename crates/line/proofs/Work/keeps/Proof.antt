@@ -1,6 +1,6 @@
 use native.Mathlib.Omega.{arith}
 use Rattle.line.proofs.Sizes.{waiting-byte}
-use Rattle.line.proofs.Arrivals.{kept-counted, keeps-does}
+use Rattle.line.proofs.ArrivalLaws.{kept-counted, keeps-does}
 use Rattle.line.proofs.Work.keeps.Statement.{statement}
 use Rattle.line.proofs.Work.keeps.Tie as tie
 use Rattle.line.proofs.Work.keeps.Reads as reads

@@ -1,9 +1,9 @@
 use mathlib.Core.Path.{refl, sym, _∙_}
 use borrow.Author.Needs.{needs}
 use Rattle.rules.specs.ReadData.{losesPartial}
-use Rattle.line.proofs.Works.{told-does}
+use Rattle.line.proofs.Turns.{told-does}
 use Rattle.line.proofs.TokenBytes.{untokened-counted}
-use Rattle.line.proofs.Joints.{here-only, here-not, typed-counted, cleared-does}
+use Rattle.line.proofs.FlowChanges.{here-only, here-not, typed-counted, cleared-does}
 use Rattle.line.proofs.Work.loses_partial.Statement.{statement}
 use Rattle.line.proofs.Work.loses_partial.Tie as tie
 

@@ -1,8 +1,8 @@
 use mathlib.Core.Path.{subst}
-use Rattle.line.specs.HostMessages.{Startables}
+use Rattle.line.specs.Host.{Startables}
 use Rattle.line.specs.With.{lent}
-use Rattle.line.proofs.Works.{still-does}
-use Rattle.line.proofs.Accepts.{obeys-as}
+use Rattle.line.proofs.Turns.{still-does}
+use Rattle.line.proofs.HostAccepted.{obeys-as}
 use borrow.Author.Needs.{needs}
 use Rattle.line.proofs.Work.obeys.Statement.{statement}
 use Rattle.line.proofs.Work.obeys.Tie as tie

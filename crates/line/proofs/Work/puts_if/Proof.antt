@@ -1,5 +1,5 @@
 use borrow.Author.Needs.{needs}
-use Rattle.line.proofs.Works.{only-does, not-does, still-does}
+use Rattle.line.proofs.Turns.{only-does, not-does, still-does}
 use Rattle.line.proofs.Work.puts_if.Statement.{statement}
 use Rattle.line.proofs.Work.puts_if.Tie as tie
 

@@ -3,8 +3,8 @@ use mathlib.Core.Path.{refl}
 use mathlib.Core.Bool.{true}
 use Rattle.rules.specs.State.{withQuoting}
 use Rattle.rules.specs.Arrival.{quotes}
-use Rattle.line.proofs.Works.{told-does}
-use Rattle.line.proofs.Arrivals.{terminal-counted, terminal-does}
+use Rattle.line.proofs.Turns.{told-does}
+use Rattle.line.proofs.ArrivalLaws.{terminal-counted, terminal-does}
 use Rattle.line.proofs.Work.quotes.Statement.{statement}
 use Rattle.line.proofs.Work.quotes.Tie as tie
 

@@ -1,7 +1,7 @@
 use Rattle.line.specs.With.{lent}
 use borrow.Author.Needs.{needs}
 use Rattle.rules.specs.Editing.{redisplays}
-use Rattle.line.proofs.Works.{then-does}
+use Rattle.line.proofs.Turns.{then-does}
 use Rattle.line.proofs.Work.redisplays.Statement.{statement}
 use Rattle.line.proofs.Work.redisplays.Tie as tie
 

@@ -1,5 +1,5 @@
 use borrow.Author.Needs.{needs}
-use Rattle.line.proofs.Works.{writes-does}
+use Rattle.line.proofs.Turns.{writes-does}
 use Rattle.line.proofs.Work.rub_out.Statement.{statement}
 use Rattle.line.proofs.Work.rub_out.Tie as tie
 

@@ -1,5 +1,5 @@
 use borrow.Author.Needs.{needs}
-use Rattle.line.proofs.Sends.{sent-does, sent-counted}
+use Rattle.line.proofs.SentMessages.{sent-does, sent-counted}
 use Rattle.line.proofs.Work.send.Statement.{statement}
 use Rattle.line.proofs.Work.send.Tie as tie
 

@@ -10,8 +10,8 @@ use Rattle.rules.specs.Screen.{change}
 use Rattle.rules.specs.Host.{completion, sendsCompletion}
 use Rattle.message.specs.Found.{heldIn}
 use Rattle.writing.specs.Spans.{spansOf, inside}
-use Rattle.line.proofs.Joints.{here-part}
-use Rattle.line.proofs.Works.{still-does, only-does, not-does}
+use Rattle.line.proofs.FlowChanges.{here-rule}
+use Rattle.line.proofs.Turns.{still-does, only-does, not-does}
 use Rattle.line.proofs.Work.sends_completion.Statement.{statement}
 use Rattle.line.proofs.Work.sends_completion.Tie as tie
 
@@ -54,7 +54,7 @@ returns c =
           let across = c .before .before .before .before .before .before .before .change .ensures ∙ ap (λ s. change (now .screen .column) (s .column)) before in
           let down = c .before .before .before .before .change2 .ensures ∙ ap (λ s. change (now .screen .line) (s .line)) before in
           only-does _ (eq-eqb (start .args .wants) 1 (c .before .before .before .before .before .before .before .before .before .before .before .before .before .if1 .taken))
-          (here-part refl
+          (here-rule refl
           (sent .1 _ _ (λ s i. codec.message (plain writeCompletion (lost i ∷ across i ∷ down i ∷ []))) refl l t)),
     )
 

@@ -3,7 +3,7 @@ use mathlib.Core.Path.{refl}
 use Rattle.rules.specs.Arrival.{sendsOutOfBand}
 use Rattle.message.specs.Found.{heldIn}
 use Rattle.writing.specs.Spans.{spansOf, inside}
-use Rattle.line.proofs.Works.{told-does}
+use Rattle.line.proofs.Turns.{told-does}
 use Rattle.line.proofs.Work.sends_out_of_band.Statement.{statement}
 use Rattle.line.proofs.Work.sends_out_of_band.Tie as tie
 

@@ -2,7 +2,7 @@ use mathlib.Core.Path.{refl}
 use native.Mathlib.Omega.{arith}
 use borrow.Author.Needs.{needs}
 use Rattle.rules.specs.ReadData.{sendsReadData, answerOf}
-use Rattle.line.proofs.Joints.{here-part}
+use Rattle.line.proofs.FlowChanges.{here-rule}
 use Rattle.line.proofs.Work.sends_read_data.Statement.{statement}
 use Rattle.line.proofs.Work.sends_read_data.Tie as tie
 
@@ -24,7 +24,7 @@ returns c =
       sent .0,
       λ k l x.
           let answer = c .before .before .before .before .answer .ensures (a .text .now) k l (start .pre .1 .0) in
-          here-part refl (sent .1 _ (record { held = answer .0; listless = refl; set = omega arith; lie = answer .1 }) k x),
+          here-rule refl (sent .1 _ (record { held = answer .0; listless = refl; set = omega arith; lie = answer .1 }) k x),
     )
 
 pub sends-read-data-spec : {M : Type 1} → statement M

@@ -1,7 +1,7 @@
 use borrow.Author.Needs.{needs}
 use Rattle.rules.specs.Steps.{setsIdle}
-use Rattle.line.proofs.Joints.{read-counted, read-does}
-use Rattle.line.proofs.Joints.{idle-same, idle-count}
+use Rattle.line.proofs.FlowChanges.{read-counted, read-does}
+use Rattle.line.proofs.FlowChanges.{idle-same, idle-count}
 use Rattle.line.proofs.Work.sets_idle.Statement.{statement}
 use Rattle.line.proofs.Work.sets_idle.Tie as tie
 

@@ -4,8 +4,8 @@ use borrow.Author.Needs.{needs}
 use borrow.Author.Tests.{eq-eqb, ne-eqb}
 use Rattle.rules.specs.State.{withDiscarding}
 use Rattle.rules.specs.Host.{stopsDiscarding}
-use Rattle.line.proofs.Works.{still-does, only-does, not-does}
-use Rattle.line.proofs.Arrivals.{terminal-counted, terminal-does}
+use Rattle.line.proofs.Turns.{still-does, only-does, not-does}
+use Rattle.line.proofs.ArrivalLaws.{terminal-counted, terminal-does}
 use Rattle.line.proofs.Work.stops_discarding.Statement.{statement}
 use Rattle.line.proofs.Work.stops_discarding.Tie as tie
 

@@ -1,4 +1,4 @@
-use Rattle.line.proofs.Arrivals.{dropped-key}
+use Rattle.line.proofs.ArrivalLaws.{dropped-key}
 use borrow.Author.Needs.{needs}
 use mathlib.Core.Path.{refl}
 use Prim.Native.Nat.{_≤_}
@@ -6,7 +6,7 @@ use Rattle.line.specs.View.{keyOf}
 use native.Mathlib.Omega.{arith}
 use Rattle.rules.specs.Numbers.{typeAheadSize}
 use Rattle.rules.specs.Arrival.{stores}
-use Rattle.line.proofs.Joints.{here-first, here-second}
+use Rattle.line.proofs.FlowChanges.{here-first, here-second}
 use Rattle.line.proofs.Sizes.{type-ahead-size}
 use Rattle.line.proofs.KeyArrays.{has-room, no-room}
 use Rattle.line.proofs.Work.stores.Statement.{statement}

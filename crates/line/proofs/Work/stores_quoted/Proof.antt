@@ -5,8 +5,8 @@ use mathlib.Core.Path.{refl, ap}
 use mathlib.Core.Bool.{false}
 use Rattle.rules.specs.State.{withQuoting}
 use Rattle.rules.specs.Arrival.{stores, storesQuoted}
-use Rattle.line.proofs.Works.{then-does}
-use Rattle.line.proofs.Arrivals.{terminal-counted, terminal-does, quoted-key, waited-key}
+use Rattle.line.proofs.Turns.{then-does}
+use Rattle.line.proofs.ArrivalLaws.{terminal-counted, terminal-does, quoted-key, waited-key}
 use Rattle.line.proofs.Work.stores_quoted.Statement.{statement}
 use Rattle.line.proofs.Work.stores_quoted.Tie as tie
 

@@ -1,6 +1,6 @@
 use native.Mathlib.Omega.{arith}
-use Rattle.line.specs.KeyParts.{shifted}
-use Rattle.line.proofs.Room.{key-room, key-text, key-then}
+use Rattle.line.specs.KeyArray.{shifted}
+use Rattle.line.proofs.PendingRead.{key-room, key-text, key-then}
 use borrow.Author.Needs.{needs}
 use Rattle.line.proofs.Work.takes.Statement.{statement}
 use Rattle.line.proofs.Work.takes.Tie as tie

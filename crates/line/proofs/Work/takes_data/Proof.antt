@@ -6,9 +6,9 @@ use borrow.Author.Tests.{eq-eqb, ne-eqb}
 use Rattle.rules.specs.Steps.{takesData}
 use Rattle.rules.proofs.Sizes.{input-word}
 use Rattle.line.specs.With.{lent}
-use Rattle.line.proofs.Appends.{end-is}
-use Rattle.line.proofs.Works.{then-does, only-does, not-does, still-does}
-use Rattle.line.proofs.Joints.{completes-as, read-counted, text-does}
+use Rattle.line.proofs.InputAppended.{end-is}
+use Rattle.line.proofs.Turns.{then-does, only-does, not-does, still-does}
+use Rattle.line.proofs.FlowChanges.{completes-as, read-counted, text-does}
 use borrow.Author.Needs.{needs}
 use Rattle.line.proofs.Work.takes_data.Statement.{statement}
 use Rattle.line.proofs.Work.takes_data.Tie as tie

@@ -1,4 +1,4 @@
-use Rattle.line.proofs.Room.{has-taken}
+use Rattle.line.proofs.PendingRead.{has-taken}
 use borrow.Author.Needs.{needs}
 use Rattle.line.proofs.Work.takes_key.Statement.{statement}
 use Rattle.line.proofs.Work.takes_key.Tie as tie

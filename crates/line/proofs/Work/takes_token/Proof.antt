@@ -10,9 +10,9 @@ use Rattle.rules.proofs.Sizes.{input-word}
 use Rattle.line.specs.View.{readingOf, tokenOf}
 use Rattle.line.specs.With.{lent}
 use Rattle.line.proofs.Sizes.{token-byte}
-use Rattle.line.proofs.Appends.{end-is}
+use Rattle.line.proofs.InputAppended.{end-is}
 use Rattle.line.proofs.TokenBytes.{token-counted}
-use Rattle.line.proofs.Joints.{here-first, here-second}
+use Rattle.line.proofs.FlowChanges.{here-first, here-second}
 use borrow.Author.Needs.{needs}
 use Rattle.line.proofs.Work.takes_token.Statement.{statement}
 use Rattle.line.proofs.Work.takes_token.Tie as tie

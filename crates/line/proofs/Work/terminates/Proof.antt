@@ -3,8 +3,8 @@ use native.Mathlib.Omega.{arith}
 use borrow.Author.Needs.{needs}
 use Rattle.rules.specs.Steps.{terminates}
 use Rattle.line.specs.With.{lent}
-use Rattle.line.proofs.Works.{then-does}
-use Rattle.line.proofs.Joints.{completes-as, ended-does}
+use Rattle.line.proofs.Turns.{then-does}
+use Rattle.line.proofs.FlowChanges.{completes-as, ended-does}
 use borrow.Author.Needs.{needs}
 use Rattle.line.proofs.Work.terminates.Statement.{statement}
 use Rattle.line.proofs.Work.terminates.Tie as tie

@@ -4,8 +4,8 @@ use borrow.Author.Needs.{needs}
 use borrow.Author.Tests.{eq-eqb, ne-eqb}
 use Rattle.rules.specs.Steps.{underflows}
 use Rattle.line.specs.With.{lent}
-use Rattle.line.proofs.Works.{first-does, second-does, told-does, only-does, not-does, still-does}
-use Rattle.line.proofs.Joints.{completes-as, ended-does}
+use Rattle.line.proofs.Turns.{first-does, second-does, told-does, only-does, not-does, still-does}
+use Rattle.line.proofs.FlowChanges.{completes-as, ended-does}
 use borrow.Author.Needs.{needs}
 use Rattle.line.proofs.Work.underflows.Statement.{statement}
 use Rattle.line.proofs.Work.underflows.Tie as tie

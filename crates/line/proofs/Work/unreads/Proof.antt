@@ -11,9 +11,9 @@ use Rattle.rules.specs.State.{codes}
 use Rattle.rules.specs.Messages.Forms.{plain, unread}
 use Rattle.rules.specs.ReadData.{byUnread, completes, unreadsWhile, unreads}
 use Rattle.line.specs.View.{view, pendingOf, readingOf}
-use Rattle.line.proofs.Works.{still-does}
-use Rattle.line.proofs.Joints.{here-part, here-only, here-not}
-use Rattle.line.proofs.Obeys.{nothing-typed}
+use Rattle.line.proofs.Turns.{still-does}
+use Rattle.line.proofs.FlowChanges.{here-rule, here-only, here-not}
+use Rattle.line.proofs.HostLaws.{nothing-typed}
 use Rattle.line.proofs.Work.unreads.Statement.{statement}
 use Rattle.line.proofs.Work.unreads.Tie as tie
 
@@ -27,7 +27,7 @@ returns c =
       start .pre .0,
       λ l x.
           let line = onFlow f (lent (a .t) (a .text .now) l) in
-          here-part (ap (λ p. unreadsWhile codes (pendingOf p (readingOf line (f .reading))) message (view line)) (not-true (f .pending) (c .if1 .taken)))
+          here-rule (ap (λ p. unreadsWhile codes (pendingOf p (readingOf line (f .reading))) message (view line)) (not-true (f .pending) (c .if1 .taken)))
           (still-does _ x _),
     )
 
@@ -52,7 +52,7 @@ returns-2 c =
           let line = onFlow f (lent (a .t) text l) in
           let now = ap (λ p. unreadsWhile codes (pendingOf p (readingOf line (f .reading))) message (view line)) (not-false (f .pending) (c .before .before .before .before .before .before .before .before .before .before .if1 .left)) in
           let test = ap (λ n. eqb (a .condition) 0 || n) (nothing-typed (l .keys) text f (start .pre .0) full) in
-          here-part {f = unreadsWhile codes (some (readingOf line (f .reading))) message} now
+          here-rule {f = unreadsWhile codes (some (readingOf line (f .reading))) message} now
           (here-only _ refl (sym test ∙ c .before .before .before .before .if2 .taken) (done .1 .0 (lent (a .t) text l) l x)),
     )
 
@@ -70,7 +70,7 @@ returns-3 c =
           let line = onFlow f (lent (a .t) text l) in
           let now = ap (λ p. unreadsWhile codes (pendingOf p (readingOf line (f .reading))) message (view line)) (not-false (f .pending) (c .before .before .before .before .before .before .if1 .left)) in
           let test = ap (λ n. eqb (a .condition) 0 || n) (nothing-typed (l .keys) text f (start .pre .0) full) in
-          here-part {f = unreadsWhile codes (some (readingOf line (f .reading))) message} now
+          here-rule {f = unreadsWhile codes (some (readingOf line (f .reading))) message} now
           (here-not (completes codes byUnread 0 (readingOf line (f .reading))) x _ refl (sym test ∙ c .if2 .left)),
     )
 

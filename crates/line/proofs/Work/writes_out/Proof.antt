@@ -4,9 +4,9 @@ use borrow.Author.Needs.{needs}
 use Rattle.rules.specs.Choice.{isEmpty}
 use Rattle.rules.specs.Host.{writesUnlessDiscarding, writesOut}
 use Rattle.message.specs.Found.{writeIn}
-use Rattle.line.proofs.Works.{then-does}
-use Rattle.line.proofs.Joints.{here-part, for-equal}
-use Rattle.line.proofs.Obeys.{some-text}
+use Rattle.line.proofs.Turns.{then-does}
+use Rattle.line.proofs.FlowChanges.{here-rule, for-equal}
+use Rattle.line.proofs.HostLaws.{some-text}
 use Rattle.line.proofs.Work.writes_out.Statement.{statement}
 use Rattle.line.proofs.Work.writes_out.Tie as tie
 
@@ -36,7 +36,7 @@ returns c =
     let said = c .before .before .sends-completion .ensures in (
       said .0,
       λ l.
-          here-part refl
+          here-rule refl
           (then-does (c .before .before .before .before .before .before .before .before .stops-discarding .ensures .1 l _ _)
           (then-does
           (for-equal writesUnlessDiscarding text (c .before .before .before .before .before .before .writes-unless-discarding .ensures .1 l _))

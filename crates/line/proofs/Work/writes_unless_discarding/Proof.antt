@@ -2,7 +2,7 @@ use mathlib.Core.Path.{refl, ap}
 use mathlib.Core.Bool.{not}
 use borrow.Author.Needs.{needs}
 use Rattle.rules.specs.Host.{writesUnlessDiscarding}
-use Rattle.line.proofs.Joints.{here-only, here-not}
+use Rattle.line.proofs.FlowChanges.{here-only, here-not}
 use Rattle.line.proofs.Work.writes_unless_discarding.Statement.{statement}
 use Rattle.line.proofs.Work.writes_unless_discarding.Tie as tie
 

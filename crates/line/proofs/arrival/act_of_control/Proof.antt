@@ -3,7 +3,7 @@ use native.Mathlib.Omega.{arith}
 use borrow.Author.Tests.{eq-eqb, ne-eqb}
 use Rattle.rules.specs.Arrival.{quotes, flipsDiscard, clearsBy, controlled}
 use Rattle.line.specs.View.{view}
-use Rattle.line.proofs.Meeting.{met, meets-as, meets-first, meets-second, meets-told}
+use Rattle.line.proofs.ActChoice.{met, meets-as, meets-first, meets-second, meets-told}
 use Rattle.line.proofs.arrival.act_of_control.Statement.{statement}
 use Rattle.line.proofs.arrival.act_of_control.Tie as tie
 

@@ -1,6 +1,6 @@
 use mathlib.Core.Path.{sym, ap}
-use Rattle.line.specs.HostMessages.{senderOf}
-use Rattle.line.proofs.Accepts.{server-sends}
+use Rattle.line.specs.Host.{senderOf}
+use Rattle.line.proofs.HostAccepted.{server-sends}
 use borrow.Author.Needs.{needs}
 use Rattle.line.proofs.events.sender_of.Statement.{statement}
 use Rattle.line.proofs.events.sender_of.Tie as tie

@@ -3,8 +3,8 @@ use Prim.Native.Nat.{suc, _-_, _≤_}
 use native.Mathlib.Omega.{arith}
 use borrow.Author.Tests.{not-true, not-false}
 use lib.ListN.{length}
-use Rattle.line.specs.ReadingParts.{ofClass}
-use Rattle.line.proofs.Words.{before, before-more, before-stop}
+use Rattle.line.specs.ReadChanges.{ofClass}
+use Rattle.line.proofs.WordDeletion.{before, before-more, before-stop}
 use Rattle.line.proofs.input.end_before.Statement.{statement}
 use Rattle.line.proofs.input.end_before.Tie as tie
 

@@ -1,5 +1,5 @@
 use mathlib.Core.Path.{sym, ap, _∙_}
-use Rattle.line.specs.KeyParts.{keysAfter}
+use Rattle.line.specs.KeyArray.{keysAfter}
 use Rattle.line.proofs.KeyArrays.{others-keep}
 use borrow.Author.Needs.{needs}
 use Rattle.line.proofs.keys.move_keys.Statement.{statement}

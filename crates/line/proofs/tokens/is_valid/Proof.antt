@@ -1,6 +1,6 @@
 use mathlib.Core.Path.{sym, ap, _∙_}
 use Rattle.rules.specs.Token.{isValid}
-use Rattle.line.proofs.Places.{valid-number}
+use Rattle.line.proofs.TokenPlaces.{valid-number}
 use Rattle.line.proofs.tokens.is_valid.Statement.{statement}
 use Rattle.line.proofs.tokens.is_valid.Tie as tie
 

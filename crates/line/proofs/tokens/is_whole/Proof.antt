@@ -1,6 +1,6 @@
 use mathlib.Core.Path.{sym, ap, _∙_}
 use Rattle.rules.specs.Token.{isFinished, isWhole}
-use Rattle.line.proofs.Places.{finished-number}
+use Rattle.line.proofs.TokenPlaces.{finished-number}
 use Rattle.line.proofs.tokens.is_whole.Statement.{statement}
 use Rattle.line.proofs.tokens.is_whole.Tie as tie
 

@@ -1,8 +1,8 @@
 use mathlib.Core.Path.{sym}
 use native.Mathlib.Omega.{arith}
 use Rattle.rules.specs.Token.{next}
-use Rattle.line.specs.TokenParts.{placeOf}
-use Rattle.line.proofs.Places.{place-as, next-ended}
+use Rattle.line.specs.TokenChanges.{placeOf}
+use Rattle.line.proofs.TokenPlaces.{place-as, next-ended}
 use Rattle.line.proofs.tokens.next_place.Statement.{statement}
 use Rattle.line.proofs.tokens.next_place.Tie as tie
 

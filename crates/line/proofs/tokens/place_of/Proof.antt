@@ -3,8 +3,8 @@ use Prim.Native.Nat.{_≤_, _-_}
 use native.Mathlib.Omega.{arith}
 use lib.ListN.{length, drop}
 use Rattle.rules.specs.Token.{empty, placeFrom}
-use Rattle.line.specs.TokenParts.{placeOf}
-use Rattle.line.proofs.Places.{place-turn, place-end}
+use Rattle.line.specs.TokenChanges.{placeOf}
+use Rattle.line.proofs.TokenPlaces.{place-turn, place-end}
 use Rattle.line.proofs.tokens.place_of.Statement.{statement}
 use Rattle.line.proofs.tokens.place_of.Tie as tie
 

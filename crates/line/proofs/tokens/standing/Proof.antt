@@ -1,7 +1,7 @@
 use mathlib.Core.Path.{sym}
-use Rattle.line.specs.TokenParts.{placeOf}
+use Rattle.line.specs.TokenChanges.{placeOf}
 use Rattle.line.proofs.Sizes.{token-size}
-use Rattle.line.proofs.Places.{standing-cut, standing-kept}
+use Rattle.line.proofs.TokenPlaces.{standing-cut, standing-kept}
 use Rattle.line.proofs.tokens.standing.Statement.{statement}
 use Rattle.line.proofs.tokens.standing.Tie as tie
 

@@ -1,0 +1,38 @@
+-- What the parts of an accepted host message look at, as the rules have it.
+use mathlib.Core.Path.{_≡_, refl, sym, ap, ap₂}
+use Prim.Native.Nat.{ℕ, _+_}
+use native.Mathlib.Omega.{arith}
+use mathlib.Core.Bool.{not, _&&_}
+use mathlib.Core.List.{List, [], _∷_}
+use lib.Dec.{eqb}
+use lib.ListN.{length}
+use borrow.Author.Tests.{ne-eqb}
+use Rattle.rules.specs.Choice.{isEmpty}
+use Rattle.rules.specs.ReadData.{waitingCount}
+use Rattle.line.specs.declared.Typed.{Typed}
+use Rattle.line.specs.declared.Flow.{Flow}
+use Rattle.line.specs.View.{keysOf, tokenOf, typedOf, inputOf}
+use Rattle.line.specs.Bounded.{CountedTyped, CountedFlow, CountedReading}
+use Rattle.line.proofs.KeyArrays.{keys-length, keys-empty}
+use Rattle.line.proofs.TokenBytes.{empty-take, token-counted}
+use Rattle.line.proofs.InputAppended.{input-empty}
+
+pub waiting-count : (keys : List ℕ) (t : Typed) → CountedTyped t → t .waiting + t .«token_len» ≡ waitingCount (typedOf keys t)
+unfolding waitingCount
+waiting-count keys t c = sym (ap₂ _+_ (keys-length (t .waiting) keys) (token-counted t c))
+
+-- nothing typed, and nothing in the read
+pub nothing-typed : (keys text : List ℕ) (f : Flow) → CountedFlow f → CountedReading (f .reading) text →
+    eqb (f .typed .waiting) 0 && eqb (f .typed .«token_len») 0 && eqb (f .reading .count) 0
+    ≡ isEmpty (keysOf (f .typed .waiting) keys) && isEmpty (tokenOf (f .typed)) && isEmpty (inputOf (f .reading .count) text)
+unfolding tokenOf
+nothing-typed keys text f c full =
+    let t = f .typed in
+    sym (ap₂ _&&_
+    (ap₂ _&&_ (keys-empty (t .waiting) keys) (empty-take (t .«token_len») (t .token) (omega (arith, c .typed .begun, c .typed .token))))
+    (input-empty (f .reading) text full))
+
+pub some-text : (text : List ℕ) → not (eqb (length text) 0) ≡ not (isEmpty text)
+unfolding isEmpty
+some-text [] = refl
+some-text (b ∷ bs) = ap not (ne-eqb (length (b ∷ bs)) 0 (λ e. omega arith))
