@@ -20,7 +20,7 @@ use Prim.Native.Nat.{ℕ}
 use mathlib.Core.Path.{_≡_, refl}
 use mathlib.Core.List.{List, [], _∷_}
 use Rattle.rules.specs.Calls.{key, step, tick, message}
-use Rattle.rules.specs.Bench.{Row, runs, copies, failures, asked}
+use Rattle.rules.specs.Bench.{Case, runs, copies, failures, asked}
 use Rattle.rules.specs.Whole.{whole}
 
 ";
@@ -141,7 +141,7 @@ fn lay_out(repository: &Path, scratch: &Path, scripts: &[Script]) -> io::Result<
     for (number, script) in scripts.iter().enumerate() {
         let (rows, count) = rows(script);
         let text = format!(
-            "{HEADER}rows : List Row\nrows =\n{rows}    []\n\nhold : failures 0 rows ≡ []\nunfolding whole rows\nhold = refl\n"
+            "{HEADER}rows : List Case\nrows =\n{rows}    []\n\nhold : failures 0 rows ≡ []\nunfolding whole rows\nhold = refl\n"
         );
         fs::write(specs.join(format!("Script{number}.antt")), text)?;
         writeln!(root, "pub mod Script{number}").unwrap();
