@@ -75,13 +75,13 @@ pub struct Reading {
     idle: u16,
 }
 
-// What the rules change besides the arrays.
+// What the rules change besides the arrays. In this order it is copied fastest (docs/PERFORMANCE.md).
 pub struct Flow {
-    terminal: Terminal,
-    typed: Typed,
+    reading: Reading,
     // a read is pending; if not, `reading` stands for nothing
     pending: bool,
-    reading: Reading,
+    typed: Typed,
+    terminal: Terminal,
 }
 
 // The line between calls. What lies behind a count is left over.
