@@ -5,7 +5,9 @@ pub const MSGTYPE: usize = 0;
 
 pub const FLAGS: usize = 1;
 
-// MSGTYPE and FLAGS of one byte, with or without a list
+// MSGTYPE alone, and with FLAGS of one byte
+pub const TYPE_ALONE: u16 = 1;
+
 pub const BARE: u16 = 2;
 
 pub const INITIATE: u16 = 13;
