@@ -13,9 +13,10 @@ ghost use Rattle.line.specs.Promise.{DoesOn};
 use crate::Reading;
 use crate::Terms;
 use crate::Work;
+use rules::characters;
 
 // The carriage return and line feed of a redisplay.
-const NEW_LINE: [u8; 2] = [13, 10];
+const NEW_LINE: [u8; 2] = [characters::CR, characters::LF];
 
 impl Work {
     // Deletes all but the first characters, without rubbing out.

@@ -24,7 +24,7 @@ impl Work {
         ensures counted { λ w. ⌜ CountedFlow (w .flow) ⌝ }
         ensures rule { λ w. ⌜ ((l : Line) (t m : List ℕ) → Does (rules.stopsDiscarding keeps) (on l self) t m (on l w) t m) ⌝ }
     {
-        if keeps == 1 {
+        if keeps == fields::ON {
             let flow = self.flow;
             let mut known = flow.terminal;
             known.discarding = false;
@@ -53,7 +53,7 @@ impl Work {
         ensures counted { λ w. ⌜ CountedFlow (w .flow) ⌝ }
         ensures rule { λ w. ⌜ ((x : forms.Message ℕ) (b : State ℕ) → some ≡ not (isEmpty (x .text)) → screen.view before ≡ b .terminal .screen → (l : Line) (t : List ℕ) → Does (rules.sendsCompletion wants x b) (on l self) t (now (messages .entry)) (on l w) t (now (messages .exit))) ⌝ }
     {
-        if wants == 1 {
+        if wants == fields::ON {
             let flow = self.flow;
             let known = flow.terminal;
             let cursor = known.screen;

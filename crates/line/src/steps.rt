@@ -15,11 +15,11 @@ ghost use Rattle.line.specs.Promise.{on, Does, DoesAcross};
 use crate::Reading;
 use crate::Terms;
 use crate::Work;
-use crate::arrival::BEL;
 use crate::read_data;
+use rules::characters;
 
 // Codes that edit, by step rule 6.
-pub(crate) const DELETE_CHARACTER: u8 = 127;
+pub(crate) const DELETE_CHARACTER: u8 = characters::DEL;
 
 pub(crate) const DELETE_WORD: u8 = 23;
 
@@ -202,7 +202,7 @@ impl Work {
             return self.completes(messages, read_data::UNDERFLOW, 1, next, text, t);
         }
         if underflow == UNDERFLOW_RINGS {
-            return self.put(terminal, BEL);
+            return self.put(terminal, characters::BEL);
         }
         self
     }
