@@ -50,7 +50,9 @@ impl Work {
         requires { ⌜ CountedFlow (self .flow) ⌝ }
         requires { ⌜ self .flow .typed .waiting < typeAheadSize ⌝ }
         ensures counted { λ w. ⌜ CountedFlow (w .flow) ⌝ }
-        ensures rule { λ w. ⌜ ((k : ℕ) (l : Line) → length (l .keys) ≡ typeAheadSize → (t m : List ℕ) → Does (rules.keeps (keyOf k .quoted) (keyOf k .char)) (on l self) t m (on (stored k (self .flow) l) w) t m) ⌝ }
+        ensures rule { λ w.
+            ⌜ ((k : ℕ) (l : Line) → length (l .keys) ≡ typeAheadSize → (t m : List ℕ) →
+            Does (rules.keeps (keyOf k .quoted) (keyOf k .char)) (on l self) t m (on (stored k (self .flow) l) w) t m) ⌝ }
     {
         let mut flow = self.flow;
         let mut typed = flow.typed;
@@ -83,7 +85,10 @@ impl Work {
     pub(crate) fn stores(self, terminal: &mut [u8]) -> Work
         requires { ⌜ CountedFlow (self .flow) ⌝ }
         ensures counted { λ w. ⌜ CountedFlow (w .flow) ⌝ }
-        ensures rule { λ w. ⌜ ((k : ℕ) (l : Line) → length (l .keys) ≡ typeAheadSize → (m : List ℕ) → Does (rules.stores typeAheadSize (keyOf k .quoted) (keyOf k .char)) (on l self) (now (terminal .entry)) m (on (stored k (self .flow) l) w) (now (terminal .exit)) m) ⌝ }
+        ensures rule { λ w.
+            ⌜ ((k : ℕ) (l : Line) → length (l .keys) ≡ typeAheadSize → (m : List ℕ) →
+            Does (rules.stores typeAheadSize (keyOf k .quoted) (keyOf k .char)) (on l self) (now (terminal .entry)) m (on (stored k (self .flow) l) w)
+            (now (terminal .exit)) m) ⌝ }
     {
         let flow = self.flow;
         let typed = flow.typed;
@@ -97,7 +102,9 @@ impl Work {
     pub(crate) fn stores_quoted(self, terminal: &mut [u8]) -> Work
         requires { ⌜ CountedFlow (self .flow) ⌝ }
         ensures counted { λ w. ⌜ CountedFlow (w .flow) ⌝ }
-        ensures rule { λ w. ⌜ ((c : ℕ) → c < codeCount → (l : Line) → length (l .keys) ≡ typeAheadSize → (m : List ℕ) → Does (rules.storesQuoted c) (on l self) (now (terminal .entry)) m (on (stored (c + 256) (self .flow) l) w) (now (terminal .exit)) m) ⌝ }
+        ensures rule { λ w.
+            ⌜ ((c : ℕ) → c < codeCount → (l : Line) → length (l .keys) ≡ typeAheadSize → (m : List ℕ) →
+            Does (rules.storesQuoted c) (on l self) (now (terminal .entry)) m (on (stored (c + 256) (self .flow) l) w) (now (terminal .exit)) m) ⌝ }
     {
         let flow = self.flow;
         let mut known = flow.terminal;
@@ -149,7 +156,9 @@ impl Work {
         requires { ⌜ CountedFlow (self .flow) ⌝ }
         requires { ⌜ r .count ≤ inputSize ⌝ }
         ensures counted { λ w. ⌜ CountedFlow (w .flow) ⌝ }
-        ensures rule { λ w. ⌜ ((text : List ℕ) (l : Line) (a m : List ℕ) → DoesOn (λ k. rules.clearsInput codes rules.withoutRubbing (pendingOf pending (readingOf k r))) (lent t text l) self a m w a m) ⌝ }
+        ensures rule { λ w.
+            ⌜ ((text : List ℕ) (l : Line) (a m : List ℕ) →
+            DoesOn (λ k. rules.clearsInput codes rules.withoutRubbing (pendingOf pending (readingOf k r))) (lent t text l) self a m w a m) ⌝ }
     {
         if pending {
             return self.deletes_unseen(0, r, t);
@@ -169,7 +178,10 @@ impl Work {
         requires { ⌜ CountedFlow (self .flow) ⌝ }
         requires { ⌜ CountedReading r (now text) ⌝ }
         ensures counted { λ w. ⌜ CountedFlow (w .flow) ⌝ }
-        ensures rule { λ w. ⌜ ((l : Line) (m : List ℕ) → DoesOn (λ k. rules.clearsInput codes rules.rubbingOut (pendingOf pending (readingOf k r))) (lent t (now (text .entry)) l) self (now (terminal .entry)) m w (now (terminal .exit)) m) ⌝ }
+        ensures rule { λ w.
+            ⌜ ((l : Line) (m : List ℕ) →
+            DoesOn (λ k. rules.clearsInput codes rules.rubbingOut (pendingOf pending (readingOf k r))) (lent t (now (text .entry)) l) self (now (terminal .entry))
+            m w (now (terminal .exit)) m) ⌝ }
     {
         if pending {
             return self.deletes(terminal, 0, r, text, t);
@@ -182,7 +194,9 @@ impl Work {
         requires { ⌜ CountedFlow (self .flow) ⌝ }
         requires { ⌜ length (now text) ≡ inputSize ⌝ }
         ensures counted { λ w. ⌜ CountedFlow (w .flow) ⌝ }
-        ensures rule { λ w. ⌜ ((l : Line) (m : List ℕ) → DoesOn (λ k. rules.clearRule codes rules.rubbingOut) (lent t (now (text .entry)) l) self (now (terminal .entry)) m w (now (terminal .exit)) m) ⌝ }
+        ensures rule { λ w.
+            ⌜ ((l : Line) (m : List ℕ) →
+            DoesOn (λ k. rules.clearRule codes rules.rubbingOut) (lent t (now (text .entry)) l) self (now (terminal .entry)) m w (now (terminal .exit)) m) ⌝ }
     {
         let next = self.empties_typed();
         let flow = next.flow;
@@ -217,7 +231,10 @@ impl Work {
         requires { ⌜ CountedFlow (self .flow) ⌝ }
         requires { ⌜ CountedReading r (now text) ⌝ }
         ensures counted { λ w. ⌜ CountedFlow (w .flow) ⌝ }
-        ensures rule { λ w. ⌜ ((l : Line) (a : List ℕ) → DoesOn (λ k. rules.endsOutOfBand codes (pendingOf pending (readingOf k r))) (lent t (now (text .entry)) l) self a (now (messages .entry)) w a (now (messages .exit))) ⌝ }
+        ensures rule { λ w.
+            ⌜ ((l : Line) (a : List ℕ) →
+            DoesOn (λ k. rules.endsOutOfBand codes (pendingOf pending (readingOf k r))) (lent t (now (text .entry)) l) self a (now (messages .entry)) w a
+            (now (messages .exit))) ⌝ }
     {
         if pending {
             return self.completes(messages, read_data::OUT_OF_BAND, 0, r, text, t);

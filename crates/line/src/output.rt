@@ -51,7 +51,9 @@ impl Work {
     fn sends_completion(self, messages: &mut [u8], wants: u8, some: bool, before: Screen) -> Work
         requires { ⌜ CountedFlow (self .flow) ⌝ }
         ensures counted { λ w. ⌜ CountedFlow (w .flow) ⌝ }
-        ensures rule { λ w. ⌜ ((x : forms.Message ℕ) (b : State ℕ) → some ≡ not (isEmpty (x .text)) → screen.view before ≡ b .terminal .screen → (l : Line) (t : List ℕ) → Does (rules.sendsCompletion wants x b) (on l self) t (now (messages .entry)) (on l w) t (now (messages .exit))) ⌝ }
+        ensures rule { λ w.
+            ⌜ ((x : forms.Message ℕ) (b : State ℕ) → some ≡ not (isEmpty (x .text)) → screen.view before ≡ b .terminal .screen → (l : Line) (t : List ℕ) →
+            Does (rules.sendsCompletion wants x b) (on l self) t (now (messages .entry)) (on l w) t (now (messages .exit))) ⌝ }
     {
         if wants == fields::ON {
             let flow = self.flow;
@@ -82,7 +84,10 @@ impl Work {
     ) -> Work
         requires { ⌜ CountedFlow (self .flow) ⌝ }
         ensures counted { λ w. ⌜ CountedFlow (w .flow) ⌝ }
-        ensures rule { λ w. ⌜ ((l : Line) → Does (rules.writesOut (writeIn (now (s .entry)) f)) (on l self) (now (terminal .entry)) (now (messages .entry)) (on l w) (now (terminal .exit)) (now (messages .exit))) ⌝ }
+        ensures rule { λ w.
+            ⌜ ((l : Line) →
+            Does (rules.writesOut (writeIn (now (s .entry)) f)) (on l self) (now (terminal .entry)) (now (messages .entry)) (on l w) (now (terminal .exit))
+            (now (messages .exit))) ⌝ }
     {
         let flow = self.flow;
         let known = flow.terminal;

@@ -252,7 +252,10 @@ impl Work {
         requires { ⌜ CountedFlow (self .flow) ⌝ }
         requires { ⌜ CountedReading r (now text) ⌝ }
         ensures counted { λ w. ⌜ CountedFlow (w .flow) ⌝ }
-        ensures rule { λ w. ⌜ ((l : Line) (a : List ℕ) → DoesOn (λ k. only full (completes codes byFullBuffer noEnding (readingOf k r))) (lent t (now (text .entry)) l) self a (now (messages .entry)) w a (now (messages .exit))) ⌝ }
+        ensures rule { λ w.
+            ⌜ ((l : Line) (a : List ℕ) →
+            DoesOn (λ k. only full (completes codes byFullBuffer noEnding (readingOf k r))) (lent t (now (text .entry)) l) self a (now (messages .entry)) w a
+            (now (messages .exit))) ⌝ }
     {
         if full {
             return self.completes(messages, read_data::BUFFER_FULL, 0, r, text, t);
@@ -275,7 +278,10 @@ impl Work {
         requires { ⌜ t .«prompt_len» ≤ inputSize ⌝ }
         requires { ⌜ Startable (now s) f ⌝ }
         ensures counted { λ w. ⌜ CountedFlow (w .flow) ⌝ }
-        ensures rule { λ w. ⌜ ((l : Line) → t .«auto_prompt» ≡ l .switches .prompting → DoesOn (λ k. rules.begins codes (startReadIn (now (s .entry)) f) (readingOf k (readingAt (now (s .entry)) f (self .flow .terminal .screen .column)))) (lent t (now (text .entry)) l) self (now (terminal .entry)) (now (messages .entry)) w (now (terminal .exit)) (now (messages .exit))) ⌝ }
+        ensures rule { λ w.
+            ⌜ ((l : Line) → t .«auto_prompt» ≡ l .switches .prompting →
+            DoesOn (λ k. rules.begins codes (startReadIn (now (s .entry)) f) (readingOf k (readingAt (now (s .entry)) f (self .flow .terminal .screen .column))))
+            (lent t (now (text .entry)) l) self (now (terminal .entry)) (now (messages .entry)) w (now (terminal .exit)) (now (messages .exit))) ⌝ }
     {
         let flow = self.flow;
         let known = flow.terminal;
