@@ -8,7 +8,7 @@ ghost use Rattle.rules.specs.Numbers.{inputSize, typeAheadSize, codeCount, topD
 ghost use Rattle.rules.specs.State.{codes};
 ghost use Rattle.rules.specs.Arrival as rules;
 ghost use Rattle.line.specs.declared.Line.{Line};
-ghost use Rattle.line.specs.View.{keyOf, readingOf, pendingOf};
+ghost use Rattle.line.specs.View.{quotedMark, keyOf, readingOf, pendingOf};
 ghost use Rattle.line.specs.Bounded.{CountedFlow, CountedReading};
 ghost use Rattle.line.specs.With.{onFlow, lent};
 ghost use Rattle.line.specs.KeyArray.{stored};
@@ -104,7 +104,7 @@ impl Work {
         ensures counted { λ w. ⌜ CountedFlow (w .flow) ⌝ }
         ensures rule { λ w.
             ⌜ ((c : ℕ) → c < codeCount → (l : Line) → length (l .keys) ≡ typeAheadSize → (m : List ℕ) →
-            Does (rules.storesQuoted c) (on l self) (now (terminal .entry)) m (on (stored (c + 256) (self .flow) l) w) (now (terminal .exit)) m) ⌝ }
+            Does (rules.storesQuoted c) (on l self) (now (terminal .entry)) m (on (stored (c + quotedMark) (self .flow) l) w) (now (terminal .exit)) m) ⌝ }
     {
         let flow = self.flow;
         let mut known = flow.terminal;

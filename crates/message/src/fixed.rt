@@ -6,6 +6,7 @@ use crate::Message;
 use crate::sizes;
 use fields::byte_at;
 use fields::word_at;
+use rules::bits;
 use rules::layout::FLAGS;
 
 // Out-of-Band's CHARACTER, Write Completion's HORIZONTAL-POS and VERTICAL-POS, and Input Count's COUNT.
@@ -27,7 +28,7 @@ pub(crate) fn decode_out_of_band(s: &[u8]) -> Found
     let flags = byte_at(s, FLAGS);
     let character = byte_at(s, CHARACTER);
     Found::Message(Message::OutOfBand {
-        discard: flags % 2,
+        discard: flags % bits::ONE,
         character,
     })
 }
@@ -41,7 +42,7 @@ pub(crate) fn decode_unread(s: &[u8]) -> Found
     }
     let flags = byte_at(s, FLAGS);
     Found::Message(Message::Unread {
-        condition: flags % 2,
+        condition: flags % bits::ONE,
     })
 }
 
@@ -66,7 +67,7 @@ pub(crate) fn decode_write_completion(s: &[u8]) -> Found
     let horizontal = word_at(s, HORIZONTAL);
     let vertical = word_at(s, VERTICAL);
     Found::Message(Message::WriteCompletion {
-        lost: flags % 2,
+        lost: flags % bits::ONE,
         horizontal,
         vertical,
     })
@@ -80,7 +81,9 @@ pub(crate) fn decode_discard_state(s: &[u8]) -> Found
         return Found::Refused(rules::UNSOUND);
     }
     let flags = byte_at(s, FLAGS);
-    Found::Message(Message::DiscardState { kept: flags % 2 })
+    Found::Message(Message::DiscardState {
+        kept: flags % bits::ONE,
+    })
 }
 
 pub(crate) fn decode_check_input(s: &[u8]) -> Found
@@ -112,5 +115,7 @@ pub(crate) fn decode_input_state(s: &[u8]) -> Found
         return Found::Refused(rules::UNSOUND);
     }
     let flags = byte_at(s, FLAGS);
-    Found::Message(Message::InputState { nonzero: flags % 2 })
+    Found::Message(Message::InputState {
+        nonzero: flags % bits::ONE,
+    })
 }
