@@ -53,5 +53,5 @@ pub fn put_bytes(s: &[u8], area: &mut [u8], at: usize) -> usize
 pub fn put_word(n: u16, area: &mut [u8], at: usize) -> usize
     ensures { λ r. ⌜ Puts (bytesOf 2 n) (now (area .entry)) at r (now (area .exit)) ⌝ }
 {
-    put_number(2, n as u32, area, at)
+    put_number(rules::layout::WORD, n as u32, area, at)
 }

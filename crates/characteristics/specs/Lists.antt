@@ -12,15 +12,15 @@ use Rattle.parameters.specs.Lists.{parametersFrom}
 -- a message of each type, by its list
 abbrev pub settingsIn : List ℕ → Message ℕ
 settingsIn list =
-    record { kind = forms.characteristics; numbers = []; set = []; parameters = parametersFrom 11 0 list; text = [] }
+    record { kind = forms.characteristics; numbers = []; set = []; parameters = parametersFrom forms.characteristics 0 list; text = [] }
 
 abbrev pub questionsIn : List ℕ → Message ℕ
 questionsIn list =
-    record { kind = forms.readCharacteristics; numbers = []; set = []; parameters = parametersFrom 10 0 list; text = [] }
+    record { kind = forms.readCharacteristics; numbers = []; set = []; parameters = parametersFrom forms.readCharacteristics 0 list; text = [] }
 
 -- the answers to the questions from a place on
 unfoldable pub answersFrom : ℕ → List ℕ → Host → List ℕ
-answersFrom at list h = joined (map (reported h) (parametersFrom 10 at list))
+answersFrom at list h = joined (map (reported h) (parametersFrom forms.readCharacteristics at list))
 
 -- the answer behind its length
 unfoldable pub answerTo : List ℕ → Host → List ℕ

@@ -4,6 +4,8 @@ use Prim.Native.Nat.{ℕ, _≤_}
 use mathlib.Core.Path.{_≡_}
 use mathlib.Core.List.{List}
 use lib.ListN.{length, take}
+use Rattle.rules.specs.Numbers.{codeCount}
+use Rattle.rules.specs.Messages.Codec.{setSize}
 use Rattle.rules.specs.State as rules
 use Rattle.characteristics.specs.declared.Switches.{Switches}
 use Rattle.characteristics.specs.declared.Set.{Set}
@@ -21,11 +23,11 @@ hostOf h =
     record { begun = h .begun; switches = switchesOf (h .switches); attributes = h .attributes; lastSet = setOf (h .«last_set») }
 
 pub record CountedSet (s : Set) : Type 0 where
-  pub size : length (s .bytes) ≡ 32
-  pub within : s .len ≤ 32
+  pub size : length (s .bytes) ≡ setSize
+  pub within : s .len ≤ setSize
 
 pub record CountedHost (h : Host) : Type 0 where
-  pub table : length (h .attributes) ≡ 256
+  pub table : length (h .attributes) ≡ codeCount
   pub set : CountedSet (h .«last_set»)
 
 -- what settings leave as it is

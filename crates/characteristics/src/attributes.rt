@@ -4,6 +4,11 @@ ghost use lib.ListN.{getD, set};
 ghost use Rattle.rules.specs.Choice.{anyIs};
 ghost use Rattle.rules.specs.Characteristics as rules;
 use crate::Host;
+use crate::out_of_band;
+use rules::bits;
+
+// The used bits of an attribute.
+pub(crate) const WHOLE_MASK: u8 = bits::SEVEN - 1;
 
 impl Host {
     // What a character's attribute is.
@@ -17,14 +22,19 @@ impl Host {
 
 // Of the seven used bits, the new one where the mask has 1, the old one where it has 0.
 fn masked(mask: u8, old: u8, new: u8) -> u8
-    ensures { λ r. ⌜ r ≡ rules.masked 7 mask old new ⌝ }
+    ensures { λ r. ⌜ r ≡ rules.masked rules.attributeBits mask old new ⌝ }
 {
-    ((old & !mask) | (new & mask)) & 127
+    ((old & !mask) | (new & mask)) & WHOLE_MASK
 }
 
 // CHARACTER, MASK and ATTRIBUTES act on one place of the table.
-pub(crate) fn with_attribute(table: [u8; 256], character: u8, mask: u8, attributes: u8) -> [u8; 256]
-    ensures { λ r. ⌜ r ≡ set table character (rules.masked 7 mask (getD table character 0) attributes) ⌝ }
+pub(crate) fn with_attribute(
+    table: [u8; rules::CODES],
+    character: u8,
+    mask: u8,
+    attributes: u8,
+) -> [u8; rules::CODES]
+    ensures { λ r. ⌜ r ≡ set table character (rules.masked rules.attributeBits mask (getD table character 0) attributes) ⌝ }
 {
     let at = character as usize;
     let old = table[at];
@@ -39,7 +49,7 @@ pub(crate) fn any_deferred_clear(table: &[u8]) -> bool
 {
     let mut i = 0;
     while i < table.len() {
-        if table[i] % 4 == 2 {
+        if table[i] % out_of_band::VALUES == out_of_band::DEFERRED_CLEAR {
             return true;
         }
         i += 1;

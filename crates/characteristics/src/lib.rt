@@ -1,5 +1,6 @@
 // What the host sets: characteristics, character attributes and termination sets.
 mod attributes;
+pub mod out_of_band;
 mod reports;
 mod sets;
 mod settings;
@@ -14,7 +15,7 @@ pub struct Switches {
 
 // A termination set: its first bytes.
 pub struct Set {
-    pub bytes: [u8; 32],
+    pub bytes: [u8; rules::SET],
     pub len: u8,
 }
 
@@ -23,7 +24,7 @@ pub struct Host {
     // Initiate was accepted
     pub begun: bool,
     pub switches: Switches,
-    pub attributes: [u8; 256],
+    pub attributes: [u8; rules::CODES],
     // the last set given with ZZ 1
     pub last_set: Set,
 }

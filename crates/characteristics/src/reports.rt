@@ -4,6 +4,7 @@ ghost use mathlib.Core.List.{List};
 ghost use Prim.Native.Nat.{ℕ, _+_, _≤_, min};
 ghost use lib.ListN.{length};
 ghost use Rattle.rules.specs.Numbers.{messageArea};
+ghost use Rattle.rules.specs.Messages.Forms.{readCharacteristics};
 ghost use Rattle.rules.specs.Messages.Parameters.{selector};
 ghost use Rattle.rules.specs.State as rules;
 ghost use Rattle.rules.specs.State.{State, withHost};
@@ -15,6 +16,7 @@ ghost use Rattle.characteristics.specs.View.{switchesOf, hostOf};
 ghost use Rattle.characteristics.specs.Lists.{questionsIn, answersFrom, answerTo, reportBytes};
 use crate::Host;
 use crate::Switches;
+use crate::attributes::WHOLE_MASK;
 use crate::settings::all_carried;
 use crate::settings::chosen;
 use message::Message;
@@ -22,21 +24,29 @@ use message::Span;
 use parameters::Parameter;
 use parameters::selectors;
 
+// Bytes of an answer for character attributes, and of a switch.
+const ATTRIBUTE_ANSWER: usize = parameters::HEAD + parameters::LONGEST_VALUE;
+
+const SWITCH_ANSWER: usize = parameters::HEAD + 1;
+
+// Bytes in front of the answers: the message's length, MSGTYPE and FLAGS.
+const FRONT: usize = 4;
+
 // How many bytes the answer to one question takes.
 fn size_of_one(n: u16) -> usize
     ensures { λ r. ⌜ ((h : rules.Host) (p : List ℕ) → n ≡ selector p → r ≡ length (reported h p)) × (r ≤ 5) ⌝ }
 {
     if n == selectors::CHARACTER_ATTRIBUTES {
-        return 5;
+        return ATTRIBUTE_ANSWER;
     }
-    3
+    SWITCH_ANSWER
 }
 
 // How many bytes the answer takes with its length; one more than the area has where it does not fit.
 fn answer_size(list: &[u8]) -> usize
     ensures { λ r. ⌜ ((h : rules.Host) → r ≡ min (messageArea + 1) (length (answerTo (now (list .entry)) h))) ⌝ }
 {
-    let mut size = 4;
+    let mut size = FRONT;
     let mut at = 0;
     while at < list.len() {
         let p = parameters::parameter_at(rules::READ_CHARACTERISTICS, list, at);
@@ -78,12 +88,20 @@ impl Host {
     // The answer to one question: CHARACTER, a MASK of the seven used bits and ATTRIBUTES, or a switch.
     fn put_answer(self, p: Parameter, area: &mut [u8], at: usize) -> usize
         ensures { λ r.
-            ⌜ ((i : ℕ) (s : List ℕ) → ParameterIs 10 i s p →
-            Puts (reported (hostOf self) (usedAt 10 i s)) (now (area .entry)) at r (now (area .exit))) ⌝ }
+            ⌜ ((i : ℕ) (s : List ℕ) → ParameterIs readCharacteristics i s p →
+            Puts (reported (hostOf self) (usedAt readCharacteristics i s)) (now (area .entry)) at r (now (area .exit))) ⌝ }
     {
         if p.selector == selectors::CHARACTER_ATTRIBUTES {
             let attributes = self.attribute(p.first);
-            return parameters::put_setting(p.selector, p.first, 127, attributes, 3, area, at);
+            return parameters::put_setting(
+                p.selector,
+                p.first,
+                WHOLE_MASK,
+                attributes,
+                parameters::LONGEST_VALUE,
+                area,
+                at,
+            );
         }
         let switches = self.switches;
         let value = fields::bit_of(switches.value(p.selector));
@@ -115,7 +133,7 @@ impl Host {
         let size = answer_size(list);
         let parameters = Span {
             start: 0,
-            len: (size - 4) as u16,
+            len: (size - FRONT) as u16,
         };
         let next = writing::put_framed(Message::Characteristics { parameters }, list, area, at);
         self.put_answers(list, area, next)

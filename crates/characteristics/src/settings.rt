@@ -3,6 +3,7 @@ ghost use mathlib.Core.Path.{_≡_};
 ghost use mathlib.Core.List.{List};
 ghost use Prim.Native.Nat.{ℕ};
 ghost use Rattle.rules.specs.Choice.{pick, allAre};
+ghost use Rattle.rules.specs.Messages.Forms.{characteristics};
 ghost use Rattle.rules.specs.Messages.Parameters.{selector};
 ghost use Rattle.rules.specs.Characteristics.{isCarried, withSwitch, withParameter, withParameters, carriesSettings};
 ghost use Rattle.parameters.specs.Lists.{ParameterIs, parametersFrom, usedAt};
@@ -76,7 +77,7 @@ impl Switches {
 impl Host {
     // One parameter of a Characteristics message, wherever it stood.
     fn with_setting(self, p: Parameter) -> Host
-        ensures same { λ r. ⌜ ((at : ℕ) (s : List ℕ) → ParameterIs 11 at s p → hostOf r ≡ withParameter (usedAt 11 at s) (hostOf self)) ⌝ }
+        ensures same { λ r. ⌜ ((at : ℕ) (s : List ℕ) → ParameterIs characteristics at s p → hostOf r ≡ withParameter (usedAt characteristics at s) (hostOf self)) ⌝ }
         ensures kept { λ r. ⌜ Kept self r ⌝ }
     {
         let mut next = self;
@@ -87,14 +88,14 @@ impl Host {
             return next;
         }
         let switches = self.switches;
-        let changed = switches.with_switch(p.selector, p.first == 1);
+        let changed = switches.with_switch(p.selector, p.first == fields::ON);
         next.switches = changed;
         next
     }
 
     // All parameters of a Characteristics message, in order.
     pub fn with_settings(self, list: &[u8]) -> Host
-        ensures { λ r. ⌜ (hostOf r ≡ withParameters (parametersFrom 11 0 (now (list .entry))) (hostOf self)) × Kept self r ⌝ }
+        ensures { λ r. ⌜ (hostOf r ≡ withParameters (parametersFrom characteristics 0 (now (list .entry))) (hostOf self)) × Kept self r ⌝ }
     {
         let mut host = self;
         let mut at = 0;

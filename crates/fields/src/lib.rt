@@ -34,11 +34,15 @@ pub fn three_at(s: &[u8], at: usize) -> u32
 }
 
 // A flag as a number.
+pub const OFF: u8 = 0;
+
+pub const ON: u8 = 1;
+
 pub fn bit_of(test: bool) -> u8
     ensures { λ r. ⌜ r ≡ bit test ⌝ }
 {
     if test {
-        return 1;
+        return ON;
     }
-    0
+    OFF
 }

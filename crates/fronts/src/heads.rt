@@ -8,6 +8,7 @@ ghost use Rattle.message.specs.Found.{heldIn, spanOf};
 ghost use Rattle.areas.specs.Puts.{Puts};
 ghost use Rattle.fronts.specs.Front.{frontBytes, writeWidths, writeFlags};
 use crate::put::put_span;
+use crate::start_read::LOW_FLAGS;
 use crate::start_read::low_flags;
 use areas::put_byte;
 use areas::put_number;
@@ -17,6 +18,18 @@ use message::InitiateFields;
 use message::ReadDataFields;
 use message::Span;
 use message::WriteFields;
+use rules::bits;
+use rules::layout;
+
+// Bytes of Initiate's REVISION.
+const REVISION: usize = layout::REVISION as usize;
+
+// Fields of FLAGS, by how many values they have.
+const CODES: u32 = bits::FOUR as u32;
+
+const ONE_BIT: u16 = bits::ONE as u16;
+
+const TWO_BITS: u16 = bits::TWO as u16;
 
 // Eight bytes of a span; 0 for those that it does not have.
 fn put_eight(s: &[u8], p: Span, area: &mut [u8], at: usize) -> usize
@@ -25,7 +38,7 @@ fn put_eight(s: &[u8], p: Span, area: &mut [u8], at: usize) -> usize
     let t = message::span_of(s, p);
     let mut next = at;
     let mut i = 0;
-    while i < 8 {
+    while i < REVISION {
         next = put_byte(fields::byte_at(t, i), area, next);
         i += 1;
     }
@@ -46,7 +59,7 @@ pub(crate) fn put_read_data(f: ReadDataFields, s: &[u8], area: &mut [u8], at: us
     ensures { λ r. ⌜ Puts (frontBytes (heldIn (now (s .entry)) (variants.ReadData f))) (now (area .entry)) at r (now (area .exit)) ⌝ }
 {
     let text = f.text;
-    let flags = f.code as u32 + 16 * (f.more as u32);
+    let flags = f.code as u32 + CODES * (f.more as u32);
     let next = put_byte(rules::READ_DATA, area, at);
     let next = put_number(1, flags, area, next);
     let next = put_word(f.low_water, area, next);
@@ -73,8 +86,8 @@ pub(crate) fn put_out_of_band(
 fn high_flags(last: u8, prefix: u8, postfix: u8, wants_completion: u8, transparent: u8) -> u16
     ensures { λ r. ⌜ r ≡ last + 2 * (prefix + 4 * (postfix + 4 * («wants_completion» + 2 * transparent))) ⌝ }
 {
-    let completion = wants_completion as u16 + 2 * (transparent as u16);
-    last as u16 + 2 * (prefix as u16 + 4 * (postfix as u16 + 4 * completion))
+    let completion = wants_completion as u16 + ONE_BIT * (transparent as u16);
+    last as u16 + ONE_BIT * (prefix as u16 + TWO_BITS * (postfix as u16 + TWO_BITS * completion))
 }
 
 fn write_flags(f: WriteFields) -> u32
@@ -88,7 +101,7 @@ fn write_flags(f: WriteFields) -> u32
         f.wants_completion,
         f.transparent,
     );
-    low as u32 + 32 * (high as u32)
+    low as u32 + LOW_FLAGS * (high as u32)
 }
 
 pub(crate) fn put_write(f: WriteFields, s: &[u8], area: &mut [u8], at: usize) -> usize
@@ -97,7 +110,7 @@ pub(crate) fn put_write(f: WriteFields, s: &[u8], area: &mut [u8], at: usize) ->
     let text = f.text;
     let flags = write_flags(f);
     let next = put_byte(rules::WRITE, area, at);
-    let next = put_number(2, flags, area, next);
+    let next = put_number(layout::WRITE_FLAGS, flags, area, next);
     let next = put_pair(f.prefix_value, f.postfix_value, area, next);
     put_span(s, text, area, next)
 }

@@ -11,24 +11,40 @@ use areas::put_byte;
 use areas::put_number;
 use areas::put_word;
 use message::StartReadFields;
+use rules::bits;
+use rules::layout;
+
+// Fields of FLAGS, by how many values they have.
+const ONE_BIT: u16 = bits::ONE as u16;
+
+const TWO_BITS: u16 = bits::TWO as u16;
+
+const THREE_BITS: u16 = bits::THREE as u16;
+
+// How many values the first four fields have together, and the four behind them.
+pub(crate) const LOW_FLAGS: u32 = 32;
+
+const MIDDLE_FLAGS: u32 = 128;
 
 // The flags of a Start Read, four at a time. A Write begins alike: two bits, and three flags of one.
 pub(crate) fn low_flags(first: u8, second: u8, third: u8, fourth: u8) -> u16
     ensures { λ r. ⌜ r ≡ first + 4 * (second + 2 * (third + 2 * fourth)) ⌝ }
 {
-    first as u16 + 4 * (second as u16 + 2 * (third as u16 + 2 * (fourth as u16)))
+    first as u16 + TWO_BITS * (second as u16 + ONE_BIT * (third as u16 + ONE_BIT * (fourth as u16)))
 }
 
 fn middle_flags(continues: u8, raises: u8, disables: u8, silent: u8) -> u16
     ensures { λ r. ⌜ r ≡ continues + 2 * (raises + 4 * (disables + 8 * silent)) ⌝ }
 {
-    continues as u16 + 2 * (raises as u16 + 4 * (disables as u16 + 8 * (silent as u16)))
+    continues as u16
+        + ONE_BIT * (raises as u16 + TWO_BITS * (disables as u16 + THREE_BITS * (silent as u16)))
 }
 
 fn high_flags(terminator_echo: u8, timed: u8, set_choice: u8, escapes: u8) -> u16
     ensures { λ r. ⌜ r ≡ «terminator_echo» + 2 * (timed + 2 * («set_choice» + 4 * escapes)) ⌝ }
 {
-    terminator_echo as u16 + 2 * (timed as u16 + 2 * (set_choice as u16 + 4 * (escapes as u16)))
+    terminator_echo as u16
+        + ONE_BIT * (timed as u16 + ONE_BIT * (set_choice as u16 + TWO_BITS * (escapes as u16)))
 }
 
 fn start_read_flags(f: StartReadFields) -> u32
@@ -37,7 +53,7 @@ fn start_read_flags(f: StartReadFields) -> u32
     let low = low_flags(f.underflow, f.clears, f.formats, f.vertical);
     let middle = middle_flags(f.continues, f.raises, f.disables, f.silent);
     let high = high_flags(f.terminator_echo, f.timed, f.set_choice, f.escapes);
-    low as u32 + 32 * (middle as u32 + 128 * (high as u32))
+    low as u32 + LOW_FLAGS * (middle as u32 + MIDDLE_FLAGS * (high as u32))
 }
 
 // The words of the head.
@@ -61,7 +77,7 @@ pub(crate) fn put_start_read(f: StartReadFields, s: &[u8], area: &mut [u8], at: 
     let bytes = message::span_of(s, set);
     let count = (bytes.len() % 256) as u8;
     let next = put_byte(rules::START_READ, area, at);
-    let next = put_number(3, flags, area, next);
+    let next = put_number(layout::START_READ_FLAGS, flags, area, next);
     let next = put_words(f, area, next);
     let next = put_byte(count, area, next);
     let next = put_span(s, set, area, next);

@@ -4,7 +4,7 @@ use mathlib.Core.Path.{_≡_}
 use mathlib.Core.Bool.{Bool, true, false}
 use mathlib.Core.List.{List}
 use lib.ListN.{length, getD, drop}
-use Rattle.rules.specs.Numbers.{typeAheadSize, tokenSize}
+use Rattle.rules.specs.Numbers.{codeCount, typeAheadSize, tokenSize}
 use Rattle.rules.specs.State as rules
 use Rattle.rules.specs.State.{State, codes, withIdle}
 use Rattle.rules.specs.Turns.{Turn, Rule, still, changes, _then_}
@@ -97,8 +97,8 @@ callsOf (Obeys m) = record { key = false; step = false; tick = false; host = tru
 -- what is known of the line once an act is chosen
 abbrev pub Ready : List ℕ → Line → Act → Type 0
 Ready s l Nothing = Unit {0}
-Ready s l (Stores c) = c < 256
-Ready s l (StoresQuoted c) = c < 256
+Ready s l (Stores c) = c < codeCount
+Ready s l (StoresQuoted c) = c < codeCount
 Ready s l (SendsOutOfBand c) = Unit {0}
 Ready s l (ClearsAtOnce c) = Unit {0}
 Ready s l Quotes = Unit {0}
@@ -141,8 +141,8 @@ pub record HasTakenKey (w v : Work) : Type 0 where
 -- what the acts of a call ask: `Ready`, of a message only the Start Read test
 abbrev pub Fits : List ℕ → Flow → Terms → Act → Type 0
 Fits s f t Nothing = Unit {0}
-Fits s f t (Stores c) = c < 256
-Fits s f t (StoresQuoted c) = c < 256
+Fits s f t (Stores c) = c < codeCount
+Fits s f t (StoresQuoted c) = c < codeCount
 Fits s f t (SendsOutOfBand c) = Unit {0}
 Fits s f t (ClearsAtOnce c) = Unit {0}
 Fits s f t Quotes = Unit {0}

@@ -140,7 +140,7 @@ onHost h l =
 pub record Sets (parameters : List ℕ) (l next : Line) : Type 0 where
   pub host : Host
   pub same : next ≡ onHost host l
-  pub settings : hostView host ≡ withParameters (parametersFrom 11 0 parameters) (hostOf l)
+  pub settings : hostView host ≡ withParameters (parametersFrom forms.characteristics 0 parameters) (hostOf l)
   pub counted : CountedHost host
 
 abbrev pub SetBy : List ℕ → HostMessage → Line → Line → Type 0

@@ -4,11 +4,11 @@ ghost use mathlib.Core.Path.{_≡_};
 ghost use mathlib.Core.Bool.{true};
 ghost use lib.ListN.{length, getD};
 ghost use Prim.Native.Nat.{ℕ, _+_, _≤_, _<_, min};
-ghost use Rattle.rules.specs.Numbers.{inputSize, typeAheadSize, topDropped};
+ghost use Rattle.rules.specs.Numbers.{inputSize, typeAheadSize, codeCount, topDropped};
 ghost use Rattle.rules.specs.State.{codes};
 ghost use Rattle.rules.specs.Arrival as rules;
 ghost use Rattle.line.specs.declared.Line.{Line};
-ghost use Rattle.line.specs.View.{keyOf, readingOf, pendingOf};
+ghost use Rattle.line.specs.View.{quotedMark, keyOf, readingOf, pendingOf};
 ghost use Rattle.line.specs.Bounded.{CountedFlow, CountedReading};
 ghost use Rattle.line.specs.With.{onFlow, lent};
 ghost use Rattle.line.specs.KeyArray.{stored};
@@ -20,7 +20,9 @@ use crate::Terms;
 use crate::Work;
 use crate::acts::Act;
 use crate::read_data;
+use characteristics::out_of_band;
 use message::Message;
+use rules::characters;
 
 // Codes that are controls, by arrival rule 3.
 const DISCARD: u8 = 15;
@@ -29,17 +31,8 @@ const QUOTE: u8 = 22;
 
 const CLEAR: u8 = 24;
 
-pub(crate) const BEL: u8 = 7;
-
-// The out-of-band field of an attribute: what it has of its byte, and what it says.
-const OUT_OF_BAND_VALUES: u8 = 4;
-
-const IMMEDIATE_CLEAR: u8 = 1;
-
-const HELLO: u8 = 3;
-
 // DDD 3: no key is a control.
-const PASSES_CONTROLS: u8 = 3;
+const DISABLES_CONTROLS: u8 = 3;
 
 // A count that stops at its top.
 fn one_more(n: u16) -> u16
@@ -57,7 +50,9 @@ impl Work {
         requires { ⌜ CountedFlow (self .flow) ⌝ }
         requires { ⌜ self .flow .typed .waiting < typeAheadSize ⌝ }
         ensures counted { λ w. ⌜ CountedFlow (w .flow) ⌝ }
-        ensures rule { λ w. ⌜ ((k : ℕ) (l : Line) → length (l .keys) ≡ typeAheadSize → (t m : List ℕ) → Does (rules.keeps (keyOf k .quoted) (keyOf k .char)) (on l self) t m (on (stored k (self .flow) l) w) t m) ⌝ }
+        ensures rule { λ w.
+            ⌜ ((k : ℕ) (l : Line) → length (l .keys) ≡ typeAheadSize → (t m : List ℕ) →
+            Does (rules.keeps (keyOf k .quoted) (keyOf k .char)) (on l self) t m (on (stored k (self .flow) l) w) t m) ⌝ }
     {
         let mut flow = self.flow;
         let mut typed = flow.typed;
@@ -79,7 +74,7 @@ impl Work {
         ensures counted { λ w. ⌜ CountedFlow (w .flow) ⌝ }
         ensures rule { λ w. ⌜ ((c : ℕ) (l : Line) (m : List ℕ) → Does (rules.drops c) (on l self) (now (terminal .entry)) m (on l w) (now (terminal .exit)) m) ⌝ }
     {
-        let belled = self.put(terminal, BEL);
+        let belled = self.put(terminal, characters::BEL);
         let flow = belled.flow;
         let mut known = flow.terminal;
         known.dropped = one_more(known.dropped);
@@ -90,7 +85,10 @@ impl Work {
     pub(crate) fn stores(self, terminal: &mut [u8]) -> Work
         requires { ⌜ CountedFlow (self .flow) ⌝ }
         ensures counted { λ w. ⌜ CountedFlow (w .flow) ⌝ }
-        ensures rule { λ w. ⌜ ((k : ℕ) (l : Line) → length (l .keys) ≡ typeAheadSize → (m : List ℕ) → Does (rules.stores typeAheadSize (keyOf k .quoted) (keyOf k .char)) (on l self) (now (terminal .entry)) m (on (stored k (self .flow) l) w) (now (terminal .exit)) m) ⌝ }
+        ensures rule { λ w.
+            ⌜ ((k : ℕ) (l : Line) → length (l .keys) ≡ typeAheadSize → (m : List ℕ) →
+            Does (rules.stores typeAheadSize (keyOf k .quoted) (keyOf k .char)) (on l self) (now (terminal .entry)) m (on (stored k (self .flow) l) w)
+            (now (terminal .exit)) m) ⌝ }
     {
         let flow = self.flow;
         let typed = flow.typed;
@@ -104,7 +102,9 @@ impl Work {
     pub(crate) fn stores_quoted(self, terminal: &mut [u8]) -> Work
         requires { ⌜ CountedFlow (self .flow) ⌝ }
         ensures counted { λ w. ⌜ CountedFlow (w .flow) ⌝ }
-        ensures rule { λ w. ⌜ ((c : ℕ) → c < 256 → (l : Line) → length (l .keys) ≡ typeAheadSize → (m : List ℕ) → Does (rules.storesQuoted c) (on l self) (now (terminal .entry)) m (on (stored (c + 256) (self .flow) l) w) (now (terminal .exit)) m) ⌝ }
+        ensures rule { λ w.
+            ⌜ ((c : ℕ) → c < codeCount → (l : Line) → length (l .keys) ≡ typeAheadSize → (m : List ℕ) →
+            Does (rules.storesQuoted c) (on l self) (now (terminal .entry)) m (on (stored (c + quotedMark) (self .flow) l) w) (now (terminal .exit)) m) ⌝ }
     {
         let flow = self.flow;
         let mut known = flow.terminal;
@@ -156,7 +156,9 @@ impl Work {
         requires { ⌜ CountedFlow (self .flow) ⌝ }
         requires { ⌜ r .count ≤ inputSize ⌝ }
         ensures counted { λ w. ⌜ CountedFlow (w .flow) ⌝ }
-        ensures rule { λ w. ⌜ ((text : List ℕ) (l : Line) (a m : List ℕ) → DoesOn (λ k. rules.clearsInput codes rules.withoutRubbing (pendingOf pending (readingOf k r))) (lent t text l) self a m w a m) ⌝ }
+        ensures rule { λ w.
+            ⌜ ((text : List ℕ) (l : Line) (a m : List ℕ) →
+            DoesOn (λ k. rules.clearsInput codes rules.withoutRubbing (pendingOf pending (readingOf k r))) (lent t text l) self a m w a m) ⌝ }
     {
         if pending {
             return self.deletes_unseen(0, r, t);
@@ -176,7 +178,10 @@ impl Work {
         requires { ⌜ CountedFlow (self .flow) ⌝ }
         requires { ⌜ CountedReading r (now text) ⌝ }
         ensures counted { λ w. ⌜ CountedFlow (w .flow) ⌝ }
-        ensures rule { λ w. ⌜ ((l : Line) (m : List ℕ) → DoesOn (λ k. rules.clearsInput codes rules.rubbingOut (pendingOf pending (readingOf k r))) (lent t (now (text .entry)) l) self (now (terminal .entry)) m w (now (terminal .exit)) m) ⌝ }
+        ensures rule { λ w.
+            ⌜ ((l : Line) (m : List ℕ) →
+            DoesOn (λ k. rules.clearsInput codes rules.rubbingOut (pendingOf pending (readingOf k r))) (lent t (now (text .entry)) l) self (now (terminal .entry))
+            m w (now (terminal .exit)) m) ⌝ }
     {
         if pending {
             return self.deletes(terminal, 0, r, text, t);
@@ -189,7 +194,9 @@ impl Work {
         requires { ⌜ CountedFlow (self .flow) ⌝ }
         requires { ⌜ length (now text) ≡ inputSize ⌝ }
         ensures counted { λ w. ⌜ CountedFlow (w .flow) ⌝ }
-        ensures rule { λ w. ⌜ ((l : Line) (m : List ℕ) → DoesOn (λ k. rules.clearRule codes rules.rubbingOut) (lent t (now (text .entry)) l) self (now (terminal .entry)) m w (now (terminal .exit)) m) ⌝ }
+        ensures rule { λ w.
+            ⌜ ((l : Line) (m : List ℕ) →
+            DoesOn (λ k. rules.clearRule codes rules.rubbingOut) (lent t (now (text .entry)) l) self (now (terminal .entry)) m w (now (terminal .exit)) m) ⌝ }
     {
         let next = self.empties_typed();
         let flow = next.flow;
@@ -206,7 +213,7 @@ impl Work {
         self.sends_plain(
             messages,
             Message::OutOfBand {
-                discard: 0,
+                discard: fields::OFF,
                 character: c,
             },
         )
@@ -224,7 +231,10 @@ impl Work {
         requires { ⌜ CountedFlow (self .flow) ⌝ }
         requires { ⌜ CountedReading r (now text) ⌝ }
         ensures counted { λ w. ⌜ CountedFlow (w .flow) ⌝ }
-        ensures rule { λ w. ⌜ ((l : Line) (a : List ℕ) → DoesOn (λ k. rules.endsOutOfBand codes (pendingOf pending (readingOf k r))) (lent t (now (text .entry)) l) self a (now (messages .entry)) w a (now (messages .exit))) ⌝ }
+        ensures rule { λ w.
+            ⌜ ((l : Line) (a : List ℕ) →
+            DoesOn (λ k. rules.endsOutOfBand codes (pendingOf pending (readingOf k r))) (lent t (now (text .entry)) l) self a (now (messages .entry)) w a
+            (now (messages .exit))) ⌝ }
     {
         if pending {
             return self.completes(messages, read_data::OUT_OF_BAND, 0, r, text, t);
@@ -277,14 +287,14 @@ impl Flow {
         if known.quoting {
             return Act::StoresQuoted(c);
         }
-        let band = attribute % OUT_OF_BAND_VALUES;
-        if band == HELLO {
+        let band = attribute % out_of_band::VALUES;
+        if band == out_of_band::HELLO {
             return Act::SendsOutOfBand(c);
         }
-        if band == IMMEDIATE_CLEAR {
+        if band == out_of_band::IMMEDIATE_CLEAR {
             return Act::ClearsAtOnce(c);
         }
-        if self.pending & (t.disables == PASSES_CONTROLS) {
+        if self.pending & (t.disables == DISABLES_CONTROLS) {
             return Act::Stores(c);
         }
         act_of_control(c)

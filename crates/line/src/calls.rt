@@ -18,7 +18,6 @@ use crate::events::Sender;
 use crate::events::sender_of;
 use crate::keys::code_of;
 use crate::keys::move_keys;
-use crate::refusals;
 use crate::refusals::are_roomy;
 use crate::refusals::early_row;
 use crate::refusals::row_of;
@@ -163,7 +162,7 @@ impl Line {
         next.flow = after;
         Answer {
             line: next,
-            number: 0,
+            number: rules::ACCEPTED,
             terminal: done.at,
             messages: done.sent,
         }
@@ -182,7 +181,7 @@ impl Line {
             self.initiated,
             flow.pending,
         );
-        if row != 0 {
+        if row != rules::ACCEPTED {
             return self.refuse(row);
         }
         let f = message::decode(s);
@@ -192,10 +191,10 @@ impl Line {
         };
         let sender = sender_of(m);
         let Sender::Host(h) = sender else {
-            return self.refuse(refusals::WRONG_TYPE);
+            return self.refuse(rules::WRONG_TYPE);
         };
         if !self.carries(h, s) {
-            return self.refuse(refusals::NOT_CARRIED);
+            return self.refuse(rules::NOT_CARRIED);
         }
         self.obeys(h, s, terminal, messages)
     }

@@ -13,15 +13,22 @@ use crate::steps::DELETE_CHARACTER;
 use crate::steps::DELETE_LINE;
 use crate::steps::DELETE_WORD;
 use crate::steps::REDISPLAY;
-use crate::tokens::CSI;
-use crate::tokens::ESC;
+use rules::characters;
 
-// 97 to 122 less 32.
+// From a small letter to the capital.
+const SMALL_SHIFT: u8 = b'a' - b'A';
+
+// DDD: the most with which 127 and 23 still edit, and 21 and 18.
+const DISABLES_LINES: u8 = 1;
+
+const DISABLES_NOTHING: u8 = 0;
+
+// A small letter of ASCII as its capital.
 fn raised(c: u8) -> u8
     ensures { λ r. ⌜ r ≡ rules.raised c ⌝ }
 {
-    if (97 <= c) & (c <= 122) {
-        return c - 32;
+    if (b'a' <= c) & (c <= b'z') {
+        return c - SMALL_SHIFT;
     }
     c
 }
@@ -32,14 +39,14 @@ impl Terms {
         ensures { λ b. ⌜ ((text : List ℕ) (l : Line) (r : Reading) → b ≡ editsBy c (readingOf (lent self text l) r)) ⌝ }
     {
         let disables = self.disables;
-        ((c == DELETE_CHARACTER) | (c == DELETE_WORD)) & (disables <= 1)
-            | ((c == DELETE_LINE) | (c == REDISPLAY)) & (disables == 0)
+        ((c == DELETE_CHARACTER) | (c == DELETE_WORD)) & (disables <= DISABLES_LINES)
+            | ((c == DELETE_LINE) | (c == REDISPLAY)) & (disables == DISABLES_NOTHING)
     }
 
     pub(crate) fn begins_token(self, c: u8) -> bool
         ensures { λ b. ⌜ ((text : List ℕ) (l : Line) (r : Reading) → b ≡ beginsToken c (readingOf (lent self text l) r)) ⌝ }
     {
-        ((c == ESC) | (c == CSI)) & self.recognises
+        ((c == characters::ESC) | (c == characters::CSI)) & self.recognises
     }
 
     pub(crate) fn raised_by(self, c: u8) -> u8

@@ -13,9 +13,10 @@ ghost use Rattle.line.specs.Promise.{DoesOn};
 use crate::Reading;
 use crate::Terms;
 use crate::Work;
+use rules::characters;
 
 // The carriage return and line feed of a redisplay.
-const NEW_LINE: [u8; 2] = [13, 10];
+const NEW_LINE: [u8; 2] = [characters::CR, characters::LF];
 
 impl Work {
     // Deletes all but the first characters, without rubbing out.
@@ -43,7 +44,9 @@ impl Work {
         requires { ⌜ CountedReading r (now text) ⌝ }
         requires { ⌜ left ≤ r .count ⌝ }
         ensures counted { λ w. ⌜ CountedFlow (w .flow) ⌝ }
-        ensures rule { λ w. ⌜ ((fate : ℕ → Fate ℕ) (l : Line) (m : List ℕ) → DoesOn (λ k. rules.deletes codes fate left (readingOf k r)) (lent t (now (text .entry)) l) self (now (terminal .entry)) m w (now (terminal .exit)) m) ⌝ }
+        ensures rule { λ w.
+            ⌜ ((fate : ℕ → Fate ℕ) (l : Line) (m : List ℕ) →
+            DoesOn (λ k. rules.deletes codes fate left (readingOf k r)) (lent t (now (text .entry)) l) self (now (terminal .entry)) m w (now (terminal .exit)) m) ⌝ }
     {
         if t.echoes {
             let marks = r.marks(left, text);
@@ -58,7 +61,9 @@ impl Work {
         requires { ⌜ CountedFlow (self .flow) ⌝ }
         requires { ⌜ CountedReading r (now text) ⌝ }
         ensures counted { λ w. ⌜ CountedFlow (w .flow) ⌝ }
-        ensures rule { λ w. ⌜ ((l : Line) (m : List ℕ) → DoesOn (λ k. rules.displaysData codes (readingOf k r)) (lent t (now (text .entry)) l) self (now (terminal .entry)) m w (now (terminal .exit)) m) ⌝ }
+        ensures rule { λ w.
+            ⌜ ((l : Line) (m : List ℕ) →
+            DoesOn (λ k. rules.displaysData codes (readingOf k r)) (lent t (now (text .entry)) l) self (now (terminal .entry)) m w (now (terminal .exit)) m) ⌝ }
     {
         let flow = self.flow;
         let known = flow.terminal;
@@ -79,7 +84,9 @@ impl Work {
         requires { ⌜ CountedReading r (now text) ⌝ }
         requires { ⌜ t .«prompt_len» ≤ inputSize ⌝ }
         ensures counted { λ w. ⌜ CountedFlow (w .flow) ⌝ }
-        ensures rule { λ w. ⌜ ((l : Line) (m : List ℕ) → DoesOn (λ k. rules.displays codes (readingOf k r)) (lent t (now (text .entry)) l) self (now (terminal .entry)) m w (now (terminal .exit)) m) ⌝ }
+        ensures rule { λ w.
+            ⌜ ((l : Line) (m : List ℕ) →
+            DoesOn (λ k. rules.displays codes (readingOf k r)) (lent t (now (text .entry)) l) self (now (terminal .entry)) m w (now (terminal .exit)) m) ⌝ }
     {
         let start = rules::INPUT - t.prompt_len as usize;
         let prompted = self.write(terminal, &text[start..]);
@@ -92,7 +99,9 @@ impl Work {
         requires { ⌜ CountedReading r (now text) ⌝ }
         requires { ⌜ t .«prompt_len» ≤ inputSize ⌝ }
         ensures counted { λ w. ⌜ CountedFlow (w .flow) ⌝ }
-        ensures rule { λ w. ⌜ ((l : Line) (m : List ℕ) → DoesOn (λ k. rules.redisplays codes (readingOf k r)) (lent t (now (text .entry)) l) self (now (terminal .entry)) m w (now (terminal .exit)) m) ⌝ }
+        ensures rule { λ w.
+            ⌜ ((l : Line) (m : List ℕ) →
+            DoesOn (λ k. rules.redisplays codes (readingOf k r)) (lent t (now (text .entry)) l) self (now (terminal .entry)) m w (now (terminal .exit)) m) ⌝ }
     {
         let ends = NEW_LINE;
         let next = self.write(terminal, &ends);

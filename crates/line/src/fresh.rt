@@ -83,7 +83,7 @@ impl Line {
         let terms = no_terms();
         let flow = fresh_flow();
         Line {
-            attributes: [0u8; 256],
+            attributes: [0u8; rules::CODES],
             keys: [0u16; rules::TYPE_AHEAD],
             text: [0u8; rules::INPUT],
             set,

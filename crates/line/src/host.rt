@@ -39,7 +39,10 @@ impl Work {
         requires { ⌜ CountedFlow (self .flow) ⌝ }
         requires { ⌜ length (now text) ≡ inputSize ⌝ }
         ensures counted { λ w. ⌜ CountedFlow (w .flow) ⌝ }
-        ensures rule { λ w. ⌜ ((l : Line) (a : List ℕ) → DoesOn (λ k. reads.unreads codes (plain unread (condition ∷ []))) (lent t (now (text .entry)) l) self a (now (messages .entry)) w a (now (messages .exit))) ⌝ }
+        ensures rule { λ w.
+            ⌜ ((l : Line) (a : List ℕ) →
+            DoesOn (λ k. reads.unreads codes (plain unread (condition ∷ []))) (lent t (now (text .entry)) l) self a (now (messages .entry)) w a
+            (now (messages .exit))) ⌝ }
     {
         let flow = self.flow;
         if !flow.pending {
@@ -69,7 +72,10 @@ impl Work {
         requires { ⌜ t .«prompt_len» ≤ inputSize ⌝ }
         requires { ⌜ Startables (now s) m ⌝ }
         ensures counted { λ w. ⌜ CountedFlow (w .flow) ⌝ }
-        ensures rule { λ w. ⌜ ((l : Line) → Prompts t l m → DoesOn (λ k. flowRule (now (s .entry)) (onFlow (self .flow) k) m) (lent t (now (text .entry)) l) self (now (terminal .entry)) (now (messages .entry)) w (now (terminal .exit)) (now (messages .exit))) ⌝ }
+        ensures rule { λ w.
+            ⌜ ((l : Line) → Prompts t l m →
+            DoesOn (λ k. flowRule (now (s .entry)) (onFlow (self .flow) k) m) (lent t (now (text .entry)) l) self (now (terminal .entry)) (now (messages .entry))
+            w (now (terminal .exit)) (now (messages .exit))) ⌝ }
     {
         match m {
             HostMessage::Initiate(_) => self.initiates(messages),

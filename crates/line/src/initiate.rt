@@ -13,6 +13,31 @@ use crate::Work;
 use message::InitiateFields;
 use message::Message;
 use message::Span;
+use rules::characters;
+use rules::layout;
+
+// VERSION, ECO and MOD.
+const VERSION: u8 = 1;
+
+const ECO: u8 = 0;
+
+const MODIFICATION: u8 = 0;
+
+const REVISION: usize = layout::REVISION as usize;
+
+// The parameters: their types, each with its count 2 in one word, and how many bytes all three have.
+const MESSAGE_SIZE: u16 = 0x0201;
+
+const INPUT_SIZE: u16 = 0x0202;
+
+const SUPPORTED: u16 = 0x0203;
+
+const VALUE: usize = 2;
+
+const PARAMETERS: u16 = 12;
+
+// A bit for each of messages 1 to 14.
+const MESSAGES_1_TO_14: usize = 0x7FFE;
 
 // One parameter of Initiate: its type and the count 2 in one word, and two bytes.
 fn put_parameter(head: u16, value: usize, area: &mut [u8], at: usize) -> usize
@@ -20,27 +45,33 @@ fn put_parameter(head: u16, value: usize, area: &mut [u8], at: usize) -> usize
 {
     let low = (value % 256) as u8;
     let high = (value / 256 % 256) as u8;
-    parameters::put_setting(head, low, high, 0, 2, area, at)
+    parameters::put_setting(head, low, high, 0, VALUE, area, at)
 }
 
 // Version 1.0.0, eight spaces, and parameters 1 (message size), 2 (input size) and 3 (messages 1 to 14).
 fn put_initiate(area: &mut [u8], at: usize) -> usize
     ensures { λ r. ⌜ Puts (framed (sentBytes (rules.ourInitiate {D = ℕ}))) (now (area .entry)) at r (now (area .exit)) ⌝ }
 {
-    let spaces = [32u8; 8];
-    let revision = Span { start: 0, len: 8 };
-    let parameters = Span { start: 8, len: 12 };
+    let spaces = [characters::SP; REVISION];
+    let revision = Span {
+        start: 0,
+        len: layout::REVISION,
+    };
+    let parameters = Span {
+        start: layout::REVISION,
+        len: PARAMETERS,
+    };
     let head = Message::Initiate(InitiateFields {
-        version: 1,
-        eco: 0,
-        modification: 0,
+        version: VERSION,
+        eco: ECO,
+        modification: MODIFICATION,
         revision,
         parameters,
     });
     let next = writing::put_framed(head, &spaces, area, at);
-    let next = put_parameter(0x0201, rules::MESSAGE, area, next);
-    let next = put_parameter(0x0202, rules::INPUT, area, next);
-    put_parameter(0x0203, 0x7FFE, area, next)
+    let next = put_parameter(MESSAGE_SIZE, rules::MESSAGE, area, next);
+    let next = put_parameter(INPUT_SIZE, rules::INPUT, area, next);
+    put_parameter(SUPPORTED, MESSAGES_1_TO_14, area, next)
 }
 
 impl Work {

@@ -28,7 +28,7 @@ fn lower(a: u16, b: u32) -> u16
 fn is_word(n: u8) -> bool
     ensures { λ r. ⌜ r ≡ rules.isWord n ⌝ }
 {
-    (48 <= n) & (n <= 57) | (65 <= n) & (n <= 90) | (97 <= n) & (n <= 122)
+    (b'0' <= n) & (n <= b'9') | (b'A' <= n) & (n <= b'Z') | (b'a' <= n) & (n <= b'z')
 }
 
 // A word's character, or one between words.

@@ -8,7 +8,7 @@ ghost use Rattle.line.specs.KeyArray.{shift, keysAfter};
 use crate::acts::Act;
 
 // What a quoted key has besides its code.
-pub(crate) const QUOTED: u16 = 256;
+pub(crate) const QUOTED: u16 = rules::CODES as u16;
 
 pub(crate) fn code_of(key: u16) -> u8
     ensures { λ r. ⌜ r ≡ keyOf key .char ⌝ }

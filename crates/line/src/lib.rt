@@ -86,7 +86,7 @@ pub struct Flow {
 
 // The line between calls. What lies behind a count is left over.
 pub struct Line {
-    attributes: [u8; 256],
+    attributes: [u8; rules::CODES],
     // keys that wait, each its code, and QUOTED more if it is quoted
     keys: [u16; rules::TYPE_AHEAD],
     // what stands after the read's prompt, from the front; the prompt as it is displayed, at the end

@@ -24,7 +24,7 @@ impl Work {
         ensures counted { λ w. ⌜ CountedFlow (w .flow) ⌝ }
         ensures rule { λ w. ⌜ ((l : Line) (t m : List ℕ) → Does (rules.stopsDiscarding keeps) (on l self) t m (on l w) t m) ⌝ }
     {
-        if keeps == 1 {
+        if keeps == fields::ON {
             let flow = self.flow;
             let mut known = flow.terminal;
             known.discarding = false;
@@ -51,9 +51,11 @@ impl Work {
     fn sends_completion(self, messages: &mut [u8], wants: u8, some: bool, before: Screen) -> Work
         requires { ⌜ CountedFlow (self .flow) ⌝ }
         ensures counted { λ w. ⌜ CountedFlow (w .flow) ⌝ }
-        ensures rule { λ w. ⌜ ((x : forms.Message ℕ) (b : State ℕ) → some ≡ not (isEmpty (x .text)) → screen.view before ≡ b .terminal .screen → (l : Line) (t : List ℕ) → Does (rules.sendsCompletion wants x b) (on l self) t (now (messages .entry)) (on l w) t (now (messages .exit))) ⌝ }
+        ensures rule { λ w.
+            ⌜ ((x : forms.Message ℕ) (b : State ℕ) → some ≡ not (isEmpty (x .text)) → screen.view before ≡ b .terminal .screen → (l : Line) (t : List ℕ) →
+            Does (rules.sendsCompletion wants x b) (on l self) t (now (messages .entry)) (on l w) t (now (messages .exit))) ⌝ }
     {
-        if wants == 1 {
+        if wants == fields::ON {
             let flow = self.flow;
             let known = flow.terminal;
             let cursor = known.screen;
@@ -82,7 +84,10 @@ impl Work {
     ) -> Work
         requires { ⌜ CountedFlow (self .flow) ⌝ }
         ensures counted { λ w. ⌜ CountedFlow (w .flow) ⌝ }
-        ensures rule { λ w. ⌜ ((l : Line) → Does (rules.writesOut (writeIn (now (s .entry)) f)) (on l self) (now (terminal .entry)) (now (messages .entry)) (on l w) (now (terminal .exit)) (now (messages .exit))) ⌝ }
+        ensures rule { λ w.
+            ⌜ ((l : Line) →
+            Does (rules.writesOut (writeIn (now (s .entry)) f)) (on l self) (now (terminal .entry)) (now (messages .entry)) (on l w) (now (terminal .exit))
+            (now (messages .exit))) ⌝ }
     {
         let flow = self.flow;
         let known = flow.terminal;

@@ -60,7 +60,10 @@ impl Work {
     fn answer(self, code: u8, ending: u16, r: Reading, t: Terms) -> Message
         requires { ⌜ CountedFlow (self .flow) ⌝ }
         requires { ⌜ ending ≤ r .count ⌝ }
-        ensures { λ m. ⌜ ((text : List ℕ) (k l : Line) → CountedReading r text → (heldIn text m ≡ codec.message (rules.answerOf codes code ending (readingOf (lent t text l) r) (view (onFlow (self .flow) k)))) × (inside (length text) (spansOf m) ≡ true)) ⌝ }
+        ensures { λ m.
+            ⌜ ((text : List ℕ) (k l : Line) → CountedReading r text →
+            (heldIn text m ≡ codec.message (rules.answerOf codes code ending (readingOf (lent t text l) r) (view (onFlow (self .flow) k)))) ×
+            (inside (length text) (spansOf m) ≡ true)) ⌝ }
     {
         let flow = self.flow;
         let typed = flow.typed;
@@ -98,7 +101,10 @@ impl Work {
         requires { ⌜ CountedReading r (now text) ⌝ }
         requires { ⌜ ending ≤ r .count ⌝ }
         ensures counted { λ w. ⌜ CountedFlow (w .flow) ⌝ }
-        ensures rule { λ w. ⌜ ((k l : Line) (a : List ℕ) → Does (rules.sendsReadData codes code ending (readingOf (lent t (now (text .entry)) l) r)) (on k self) a (now (messages .entry)) (on k w) a (now (messages .exit))) ⌝ }
+        ensures rule { λ w.
+            ⌜ ((k l : Line) (a : List ℕ) →
+            Does (rules.sendsReadData codes code ending (readingOf (lent t (now (text .entry)) l) r)) (on k self) a (now (messages .entry)) (on k w) a
+            (now (messages .exit))) ⌝ }
     {
         let message = self.answer(code, ending, r, t);
         self.send(messages, message, text)
@@ -118,7 +124,10 @@ impl Work {
         requires { ⌜ CountedReading r (now text) ⌝ }
         requires { ⌜ ending ≤ r .count ⌝ }
         ensures counted { λ w. ⌜ CountedFlow (w .flow) ⌝ }
-        ensures rule { λ w. ⌜ ((k l : Line) (a : List ℕ) → Does (rules.completes codes code ending (readingOf (lent t (now (text .entry)) l) r)) (on k self) a (now (messages .entry)) (on k w) a (now (messages .exit))) ⌝ }
+        ensures rule { λ w.
+            ⌜ ((k l : Line) (a : List ℕ) →
+            Does (rules.completes codes code ending (readingOf (lent t (now (text .entry)) l) r)) (on k self) a (now (messages .entry)) (on k w) a
+            (now (messages .exit))) ⌝ }
         ensures ended { λ w. ⌜ w .flow .pending ≡ false ⌝ }
     {
         let ready = self.loses_partial();

@@ -20,35 +20,8 @@ use crate::events::HostMessage;
 use message::StartReadFields;
 use message::WriteFields;
 
-// The rows of the table, and 0 where none applies.
-const ACCEPTED: u8 = 0;
-
-const SMALL_AREA: u8 = 1;
-
-const WRONG_LENGTH: u8 = 2;
-
-pub(crate) const WRONG_TYPE: u8 = 3;
-
-const WRONG_TIME: u8 = 4;
-
-pub(crate) const NOT_CARRIED: u8 = 6;
-
-// Types of messages.
-const INITIATE: u8 = 1;
-
-const START_READ: u8 = 2;
-
-const READ_DATA: u8 = 3;
-
-const OUT_OF_BAND: u8 = 4;
-
-const WRITE_COMPLETION: u8 = 8;
-
-const DISCARD_STATE: u8 = 9;
-
-const INPUT_COUNT: u8 = 13;
-
-const INPUT_STATE: u8 = 14;
+// Of a Write's UU, PP and QQ: no lock, prefix or postfix.
+const NONE: u8 = 0;
 
 // Both areas are large enough.
 pub(crate) fn are_roomy(terminal: usize, messages: usize) -> bool
@@ -62,9 +35,9 @@ pub(crate) fn row_of(roomy: bool) -> u8
     ensures { λ r. ⌜ r ≡ rowOf roomy ⌝ }
 {
     if roomy {
-        return ACCEPTED;
+        return rules::ACCEPTED;
     }
-    SMALL_AREA
+    rules::SMALL_AREA
 }
 
 // A message has a length that can be.
@@ -78,27 +51,31 @@ fn is_sound_length(size: usize) -> bool
 fn is_hosts(kind: u8) -> bool
     ensures { λ r. ⌜ r ≡ isHosts kind ⌝ }
 {
-    let servers = (kind == READ_DATA)
-        | (kind == OUT_OF_BAND)
-        | (kind == WRITE_COMPLETION)
-        | (kind == DISCARD_STATE)
-        | (kind == INPUT_COUNT)
-        | (kind == INPUT_STATE);
-    (INITIATE <= kind) & (kind <= INPUT_STATE) & !servers
+    let servers = (kind == rules::READ_DATA)
+        | (kind == rules::OUT_OF_BAND)
+        | (kind == rules::WRITE_COMPLETION)
+        | (kind == rules::DISCARD_STATE)
+        | (kind == rules::INPUT_COUNT)
+        | (kind == rules::INPUT_STATE);
+    (rules::INITIATE <= kind) & (kind <= rules::INPUT_STATE) & !servers
 }
 
 // Neither K nor V, and a display that starts at 0.
 fn carries_start_read(f: StartReadFields) -> bool
     ensures { λ r. ⌜ ((s : List ℕ) → r ≡ rules.carriesStartRead (startReadIn s f)) ⌝ }
 {
-    (f.start_of_display == 0) & (f.continues == 0) & (f.vertical == 0)
+    (f.start_of_display == 0) & (f.continues == fields::OFF) & (f.vertical == fields::OFF)
 }
 
 // No locks, newline, prefix, postfix or transparent output.
 fn carries_write(f: WriteFields) -> bool
     ensures { λ r. ⌜ ((s : List ℕ) → r ≡ rules.carriesWrite (writeIn s f)) ⌝ }
 {
-    (f.lock == 0) & (f.newline == 0) & (f.transparent == 0) & (f.prefix == 0) & (f.postfix == 0)
+    (f.lock == NONE)
+        & (f.newline == fields::OFF)
+        & (f.transparent == fields::OFF)
+        & (f.prefix == NONE)
+        & (f.postfix == NONE)
 }
 
 // Rows 1 to 4, in order; 0 if none applies.
@@ -106,18 +83,18 @@ fn first_row(roomy: bool, sized: bool, hosts: bool, timely: bool) -> u8
     ensures { λ r. ⌜ r ≡ firstRow roomy sized hosts timely ⌝ }
 {
     if !roomy {
-        return SMALL_AREA;
+        return rules::SMALL_AREA;
     }
     if !sized {
-        return WRONG_LENGTH;
+        return rules::WRONG_LENGTH;
     }
     if !hosts {
-        return WRONG_TYPE;
+        return rules::WRONG_TYPE;
     }
     if !timely {
-        return WRONG_TIME;
+        return rules::WRONG_TIME;
     }
-    ACCEPTED
+    rules::ACCEPTED
 }
 
 // First Initiate, and only once; Start Read with no read pending.
@@ -125,9 +102,9 @@ fn is_timely(kind: u8, initiated: bool, pending: bool) -> bool
     ensures { λ r. ⌜ ((s : State ℕ) → initiated ≡ s .host .begun → pending ≡ isPending (s .read) → r ≡ rules.isTimely kind s) ⌝ }
 {
     if initiated {
-        return (kind != INITIATE) & !((kind == START_READ) & pending);
+        return (kind != rules::INITIATE) & !((kind == rules::START_READ) & pending);
     }
-    kind == INITIATE
+    kind == rules::INITIATE
 }
 
 // The row that applies before the message is read, or 0.
@@ -142,7 +119,7 @@ pub(crate) fn early_row(
 {
     let roomy = are_roomy(terminal, messages);
     let sized = is_sound_length(s.len());
-    let kind = fields::byte_at(s, 0);
+    let kind = fields::byte_at(s, rules::layout::MSGTYPE);
     let hosts = is_hosts(kind);
     let timely = is_timely(kind, initiated, pending);
     first_row(roomy, sized, hosts, timely)

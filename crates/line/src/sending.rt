@@ -34,7 +34,9 @@ impl Work {
     pub(crate) fn send(self, messages: &mut [u8], m: Message, s: &[u8]) -> Work
         requires { ⌜ CountedFlow (self .flow) ⌝ }
         ensures counted { λ w. ⌜ CountedFlow (w .flow) ⌝ }
-        ensures rule { λ w. ⌜ ((x : forms.Message ℕ) → Sendable (now (s .entry)) m x → (l : Line) (t : List ℕ) → Does (sends x) (on l self) t (now (messages .entry)) (on l w) t (now (messages .exit))) ⌝ }
+        ensures rule { λ w.
+            ⌜ ((x : forms.Message ℕ) → Sendable (now (s .entry)) m x → (l : Line) (t : List ℕ) →
+            Does (sends x) (on l self) t (now (messages .entry)) (on l w) t (now (messages .exit))) ⌝ }
     {
         let at = self.sent;
         let sent = writing::put_framed(m, s, messages, at);
@@ -45,7 +47,9 @@ impl Work {
     pub(crate) fn sends_plain(self, messages: &mut [u8], m: Message) -> Work
         requires { ⌜ CountedFlow (self .flow) ⌝ }
         ensures counted { λ w. ⌜ CountedFlow (w .flow) ⌝ }
-        ensures rule { λ w. ⌜ ((kind : ℕ) (numbers : List ℕ) → ((s : List ℕ) → heldIn s m ≡ codec.message (plain kind numbers)) → inside 0 (spansOf m) ≡ true → (l : Line) (t : List ℕ) → Does (sends (plain kind numbers)) (on l self) t (now (messages .entry)) (on l w) t (now (messages .exit))) ⌝ }
+        ensures rule { λ w.
+            ⌜ ((kind : ℕ) (numbers : List ℕ) → ((s : List ℕ) → heldIn s m ≡ codec.message (plain kind numbers)) → inside 0 (spansOf m) ≡ true →
+            (l : Line) (t : List ℕ) → Does (sends (plain kind numbers)) (on l self) t (now (messages .entry)) (on l w) t (now (messages .exit))) ⌝ }
     {
         let text = [0u8; 1];
         self.send(messages, m, &text[..0])

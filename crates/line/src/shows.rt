@@ -60,7 +60,9 @@ impl Work {
     pub(crate) fn echo(self, terminal: &mut [u8], n: u8) -> Work
         requires { ⌜ CountedFlow (self .flow) ⌝ }
         ensures counted { λ r. ⌜ CountedFlow (r .flow) ⌝ }
-        ensures rule { λ r. ⌜ ((l : Line) (m : List ℕ) → Does (writes (rules.echo (self .flow .terminal .screen .column) n)) (on l self) (now (terminal .entry)) m (on l r) (now (terminal .exit)) m) ⌝ }
+        ensures rule { λ r.
+            ⌜ ((l : Line) (m : List ℕ) →
+            Does (writes (rules.echo (self .flow .terminal .screen .column) n)) (on l self) (now (terminal .entry)) m (on l r) (now (terminal .exit)) m) ⌝ }
     {
         let flow = self.flow;
         let known = flow.terminal;
@@ -74,7 +76,9 @@ impl Work {
     pub(crate) fn echo_terminator(self, terminal: &mut [u8], n: u8) -> Work
         requires { ⌜ CountedFlow (self .flow) ⌝ }
         ensures counted { λ r. ⌜ CountedFlow (r .flow) ⌝ }
-        ensures rule { λ r. ⌜ ((l : Line) (m : List ℕ) → Does (writes (rules.echoTerminator (self .flow .terminal .screen .column) n)) (on l self) (now (terminal .entry)) m (on l r) (now (terminal .exit)) m) ⌝ }
+        ensures rule { λ r.
+            ⌜ ((l : Line) (m : List ℕ) →
+            Does (writes (rules.echoTerminator (self .flow .terminal .screen .column) n)) (on l self) (now (terminal .entry)) m (on l r) (now (terminal .exit)) m) ⌝ }
     {
         let flow = self.flow;
         let known = flow.terminal;
@@ -88,7 +92,10 @@ impl Work {
     pub(crate) fn echo_all(self, terminal: &mut [u8], text: &[u8]) -> Work
         requires { ⌜ CountedFlow (self .flow) ⌝ }
         ensures counted { λ r. ⌜ CountedFlow (r .flow) ⌝ }
-        ensures rule { λ r. ⌜ ((l : Line) (m : List ℕ) → Does (writes (rules.echoAll (self .flow .terminal .screen .column) (now (text .entry)))) (on l self) (now (terminal .entry)) m (on l r) (now (terminal .exit)) m) ⌝ }
+        ensures rule { λ r.
+            ⌜ ((l : Line) (m : List ℕ) →
+            Does (writes (rules.echoAll (self .flow .terminal .screen .column) (now (text .entry)))) (on l self) (now (terminal .entry)) m (on l r)
+            (now (terminal .exit)) m) ⌝ }
     {
         let flow = self.flow;
         let known = flow.terminal;

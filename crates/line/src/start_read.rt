@@ -6,6 +6,7 @@ ghost use lib.ListN.{length, take, drop};
 ghost use lib.Seq.{sets};
 ghost use Rattle.rules.specs.Choice.{pick, bit};
 ghost use Rattle.rules.specs.Numbers.{inputSize};
+ghost use Rattle.rules.specs.Messages.Codec.{setSize};
 ghost use Rattle.rules.specs.StartRead as fields;
 ghost use Rattle.rules.specs.StartRead.Acceptance as rules;
 ghost use Rattle.message.specs.Found.{spanOf, startReadIn};
@@ -29,34 +30,38 @@ use crate::read_data;
 use characteristics::Set;
 use characteristics::Switches;
 use message::StartReadFields;
+use rules::characters;
 use screen::Screen;
 
-pub(crate) const LINE_FEED: u8 = 10;
-
 // What auto prompt writes before the prompt.
-const AUTO_PROMPT: u8 = 1;
+const AUTO_PROMPT: u8 = characters::SOH;
 
 // ZZ.
 const CHOOSES_LAST: u8 = 0;
 
 const CHOOSES_THIS: u8 = 1;
 
-// II and EE: 0 leaves it to the characteristic, 1 is off, 2 is on.
+// II and EE; 1 is off.
+const AS_CHARACTERISTIC: u8 = 0;
+
+const SWITCHED_ON: u8 = 2;
+
+// What II or EE chooses.
 fn chosen(n: u8, characteristic: bool) -> bool
     ensures { λ r. ⌜ r ≡ rules.chosen n characteristic ⌝ }
 {
-    if n == 0 {
+    if n == AS_CHARACTERISTIC {
         return characteristic;
     }
-    n == 2
+    n == SWITCHED_ON
 }
 
 // The set that these bytes are.
 fn set_of(given: &[u8]) -> Set
-    requires { ⌜ length (now given) ≤ 32 ⌝ }
+    requires { ⌜ length (now given) ≤ setSize ⌝ }
     ensures { λ r. ⌜ (setOf r ≡ now (given .entry)) × CountedSet r ⌝ }
 {
-    let mut held = [0u8; 32];
+    let mut held = [0u8; rules::SET];
     let len = bytes::copy(given, &mut held) as u8;
     Set { bytes: held, len }
 }
@@ -64,7 +69,7 @@ fn set_of(given: &[u8]) -> Set
 // ZZ 0: the last set given with ZZ 1; 1: this set; 2: universal.
 fn chosen_set(last: Set, f: StartReadFields, s: &[u8]) -> Set
     requires { ⌜ CountedSet last ⌝ }
-    requires { ⌜ length (spanOf (now s) (f .set)) ≤ 32 ⌝ }
+    requires { ⌜ length (spanOf (now s) (f .set)) ≤ setSize ⌝ }
     ensures { λ r. ⌜ (setOf r ≡ fields.chosenSet (setOf last) (startReadIn (now (s .entry)) f)) × CountedSet r ⌝ }
 {
     let choice = f.set_choice;
@@ -82,8 +87,8 @@ fn chosen_set(last: Set, f: StartReadFields, s: &[u8]) -> Set
 // ZZ 1 gives the set that ZZ 0 looks at.
 fn last_set(last: Set, f: StartReadFields, s: &[u8]) -> Set
     requires { ⌜ CountedSet last ⌝ }
-    requires { ⌜ length (spanOf (now s) (f .set)) ≤ 32 ⌝ }
-    ensures { λ r. ⌜ (setOf r ≡ pick (eqb (f .«set_choice») 1) (spanOf (now (s .entry)) (f .set)) (setOf last)) × CountedSet r ⌝ }
+    requires { ⌜ length (spanOf (now s) (f .set)) ≤ setSize ⌝ }
+    ensures { λ r. ⌜ (setOf r ≡ pick (eqb (f .«set_choice») fields.choosesThis) (spanOf (now (s .entry)) (f .set)) (setOf last)) × CountedSet r ⌝ }
 {
     if f.set_choice == CHOOSES_THIS {
         let span = f.set;
@@ -100,7 +105,7 @@ fn hides_lf(f: StartReadFields, s: &[u8]) -> bool
     let span = f.text;
     let text = message::span_of(s, span);
     let first = fields::byte_at(text, 0);
-    (f.formats == 1) & (first == LINE_FEED)
+    (f.formats == fields::ON) & (first == characters::LF)
 }
 
 // The first bytes of a text, without its very first where that is hidden.
@@ -159,10 +164,10 @@ fn terms_for(f: StartReadFields, switches: Switches, cursor: Screen, size: u16) 
         disables: f.disables,
         raises: chosen(f.raises, switches.raising),
         recognises: chosen(f.escapes, switches.recognising),
-        echoes: (f.silent == 0) & switches.echoing,
-        terminator_echo: f.terminator_echo == 1,
+        echoes: (f.silent == fields::OFF) & switches.echoing,
+        terminator_echo: f.terminator_echo == fields::ON,
         auto_prompt: switches.prompting,
-        timed: f.timed == 1,
+        timed: f.timed == fields::ON,
         timeout: f.timeout,
         max_length: f.max_length,
         end_of_prompt: f.end_of_prompt,
@@ -247,7 +252,10 @@ impl Work {
         requires { ⌜ CountedFlow (self .flow) ⌝ }
         requires { ⌜ CountedReading r (now text) ⌝ }
         ensures counted { λ w. ⌜ CountedFlow (w .flow) ⌝ }
-        ensures rule { λ w. ⌜ ((l : Line) (a : List ℕ) → DoesOn (λ k. only full (completes codes byFullBuffer noEnding (readingOf k r))) (lent t (now (text .entry)) l) self a (now (messages .entry)) w a (now (messages .exit))) ⌝ }
+        ensures rule { λ w.
+            ⌜ ((l : Line) (a : List ℕ) →
+            DoesOn (λ k. only full (completes codes byFullBuffer noEnding (readingOf k r))) (lent t (now (text .entry)) l) self a (now (messages .entry)) w a
+            (now (messages .exit))) ⌝ }
     {
         if full {
             return self.completes(messages, read_data::BUFFER_FULL, 0, r, text, t);
@@ -270,17 +278,24 @@ impl Work {
         requires { ⌜ t .«prompt_len» ≤ inputSize ⌝ }
         requires { ⌜ Startable (now s) f ⌝ }
         ensures counted { λ w. ⌜ CountedFlow (w .flow) ⌝ }
-        ensures rule { λ w. ⌜ ((l : Line) → t .«auto_prompt» ≡ l .switches .prompting → DoesOn (λ k. rules.begins codes (startReadIn (now (s .entry)) f) (readingOf k (readingAt (now (s .entry)) f (self .flow .terminal .screen .column)))) (lent t (now (text .entry)) l) self (now (terminal .entry)) (now (messages .entry)) w (now (terminal .exit)) (now (messages .exit))) ⌝ }
+        ensures rule { λ w.
+            ⌜ ((l : Line) → t .«auto_prompt» ≡ l .switches .prompting →
+            DoesOn (λ k. rules.begins codes (startReadIn (now (s .entry)) f) (readingOf k (readingAt (now (s .entry)) f (self .flow .terminal .screen .column))))
+            (lent t (now (text .entry)) l) self (now (terminal .entry)) (now (messages .entry)) w (now (terminal .exit)) (now (messages .exit))) ⌝ }
     {
         let flow = self.flow;
         let known = flow.terminal;
         let screen = known.screen;
         let r = reading_at(f, s, screen.column);
-        let emptied = self.empties_typed_if(f.clears == 1);
+        let emptied = self.empties_typed_if(f.clears == fields::ON);
         let next = emptied.flow;
         let shown = next.terminal;
         let cursor = shown.screen;
-        let formatted = emptied.puts_if(terminal, (f.formats == 1) & cursor.after_cr, LINE_FEED);
+        let formatted = emptied.puts_if(
+            terminal,
+            (f.formats == fields::ON) & cursor.after_cr,
+            characters::LF,
+        );
         let prompted = formatted.puts_if(terminal, t.auto_prompt, AUTO_PROMPT);
         let displayed = prompted.displays(terminal, r, text, t);
         displayed.completes_if(messages, f.end_of_data == f.max_length, r, text, t)

@@ -15,11 +15,11 @@ ghost use Rattle.line.specs.Promise.{on, Does, DoesAcross};
 use crate::Reading;
 use crate::Terms;
 use crate::Work;
-use crate::arrival::BEL;
 use crate::read_data;
+use rules::characters;
 
 // Codes that edit, by step rule 6.
-pub(crate) const DELETE_CHARACTER: u8 = 127;
+pub(crate) const DELETE_CHARACTER: u8 = characters::DEL;
 
 pub(crate) const DELETE_WORD: u8 = 23;
 
@@ -46,7 +46,10 @@ impl Work {
         requires { ⌜ r .count + self .flow .typed .«token_len» + t .«prompt_len» ≤ inputSize ⌝ }
         ensures counted { λ w. ⌜ CountedFlow (w .flow) ⌝ }
         ensures sized { λ w. ⌜ length (now (text .exit)) ≡ inputSize ⌝ }
-        ensures rule { λ w. ⌜ ((l : Line) (a : List ℕ) → DoesAcross (λ k. rules.endsByToken codes (readingOf k r)) (lent t (now (text .entry)) l) self a (now (messages .entry)) (lent t (now (text .exit)) l) w a (now (messages .exit))) ⌝ }
+        ensures rule { λ w.
+            ⌜ ((l : Line) (a : List ℕ) →
+            DoesAcross (λ k. rules.endsByToken codes (readingOf k r)) (lent t (now (text .entry)) l) self a (now (messages .entry)) (lent t (now (text .exit)) l)
+            w a (now (messages .exit))) ⌝ }
     {
         let flow = self.flow;
         let typed = flow.typed;
@@ -72,7 +75,10 @@ impl Work {
         requires { ⌜ HasRoom t r ⌝ }
         ensures counted { λ w. ⌜ CountedFlow (w .flow) ⌝ }
         ensures sized { λ w. ⌜ length (now (text .exit)) ≡ inputSize ⌝ }
-        ensures rule { λ w. ⌜ ((l : Line) (a : List ℕ) → DoesAcross (λ k. rules.takesToken codes (readingOf k r)) (lent t (now (text .entry)) l) self a (now (messages .entry)) (lent t (now (text .exit)) l) w a (now (messages .exit))) ⌝ }
+        ensures rule { λ w.
+            ⌜ ((l : Line) (a : List ℕ) →
+            DoesAcross (λ k. rules.takesToken codes (readingOf k r)) (lent t (now (text .entry)) l) self a (now (messages .entry)) (lent t (now (text .exit)) l) w
+            a (now (messages .exit))) ⌝ }
     {
         let flow = self.flow;
         let typed = flow.typed;
@@ -97,7 +103,9 @@ impl Work {
         requires { ⌜ self .flow .typed .«token_len» < tokenSize ⌝ }
         ensures counted { λ w. ⌜ CountedFlow (w .flow) ⌝ }
         ensures sized { λ w. ⌜ length (now (text .exit)) ≡ inputSize ⌝ }
-        ensures rule { λ w. ⌜ ((l : Line) (a : List ℕ) → DoesAcross (λ k. rules.addsToToken codes c (readingOf k r)) (lent t (now (text .entry)) l) self a (now (messages .entry)) (lent t (now (text .exit)) l) w a (now (messages .exit))) ⌝ }
+        ensures rule { λ w.
+            ⌜ ((l : Line) (a : List ℕ) → DoesAcross (λ k. rules.addsToToken codes c (readingOf k r)) (lent t (now (text .entry)) l) self a (now (messages .entry))
+            (lent t (now (text .exit)) l) w a (now (messages .exit))) ⌝ }
     {
         let flow = self.flow;
         let typed = flow.typed;
@@ -146,7 +154,10 @@ impl Work {
         requires { ⌜ HasRoom t r ⌝ }
         ensures counted { λ w. ⌜ CountedFlow (w .flow) ⌝ }
         ensures sized { λ w. ⌜ length (now (text .exit)) ≡ inputSize ⌝ }
-        ensures rule { λ w. ⌜ ((l : Line) → DoesAcross (λ k. rules.takesData codes c (readingOf k r)) (lent t (now (text .entry)) l) self (now (terminal .entry)) (now (messages .entry)) (lent t (now (text .exit)) l) w (now (terminal .exit)) (now (messages .exit))) ⌝ }
+        ensures rule { λ w.
+            ⌜ ((l : Line) →
+            DoesAcross (λ k. rules.takesData codes c (readingOf k r)) (lent t (now (text .entry)) l) self (now (terminal .entry)) (now (messages .entry))
+            (lent t (now (text .exit)) l) w (now (terminal .exit)) (now (messages .exit))) ⌝ }
     {
         let next = r.push(text, c);
         let ready = self.with_read(next);
@@ -172,7 +183,10 @@ impl Work {
         requires { ⌜ HasRoom t r ⌝ }
         ensures counted { λ w. ⌜ CountedFlow (w .flow) ⌝ }
         ensures sized { λ w. ⌜ length (now (text .exit)) ≡ inputSize ⌝ }
-        ensures rule { λ w. ⌜ ((l : Line) → DoesAcross (λ k. rules.terminates codes c (readingOf k r)) (lent t (now (text .entry)) l) self (now (terminal .entry)) (now (messages .entry)) (lent t (now (text .exit)) l) w (now (terminal .exit)) (now (messages .exit))) ⌝ }
+        ensures rule { λ w.
+            ⌜ ((l : Line) →
+            DoesAcross (λ k. rules.terminates codes c (readingOf k r)) (lent t (now (text .entry)) l) self (now (terminal .entry)) (now (messages .entry))
+            (lent t (now (text .exit)) l) w (now (terminal .exit)) (now (messages .exit))) ⌝ }
     {
         let next = r.push(text, c);
         let shown = self.echoes_terminator_if(terminal, t.terminator_echo & t.echoes, c);
@@ -194,7 +208,10 @@ impl Work {
         requires { ⌜ HasRoom t r ⌝ }
         ensures counted { λ w. ⌜ CountedFlow (w .flow) ⌝ }
         ensures sized { λ w. ⌜ length (now (text .exit)) ≡ inputSize ⌝ }
-        ensures rule { λ w. ⌜ ((l : Line) → DoesAcross (λ k. rules.underflows codes c (readingOf k r)) (lent t (now (text .entry)) l) self (now (terminal .entry)) (now (messages .entry)) (lent t (now (text .exit)) l) w (now (terminal .exit)) (now (messages .exit))) ⌝ }
+        ensures rule { λ w.
+            ⌜ ((l : Line) →
+            DoesAcross (λ k. rules.underflows codes c (readingOf k r)) (lent t (now (text .entry)) l) self (now (terminal .entry)) (now (messages .entry))
+            (lent t (now (text .exit)) l) w (now (terminal .exit)) (now (messages .exit))) ⌝ }
     {
         let underflow = t.underflow;
         if underflow == UNDERFLOW_COMPLETES {
@@ -202,7 +219,7 @@ impl Work {
             return self.completes(messages, read_data::UNDERFLOW, 1, next, text, t);
         }
         if underflow == UNDERFLOW_RINGS {
-            return self.put(terminal, BEL);
+            return self.put(terminal, characters::BEL);
         }
         self
     }
@@ -224,7 +241,10 @@ impl Work {
         requires { ⌜ left ≤ r .count ⌝ }
         ensures counted { λ w. ⌜ CountedFlow (w .flow) ⌝ }
         ensures sized { λ w. ⌜ length (now (text .exit)) ≡ inputSize ⌝ }
-        ensures rule { λ w. ⌜ ((l : Line) → DoesAcross (λ k. rules.erases codes left c (readingOf k r)) (lent t (now (text .entry)) l) self (now (terminal .entry)) (now (messages .entry)) (lent t (now (text .exit)) l) w (now (terminal .exit)) (now (messages .exit))) ⌝ }
+        ensures rule { λ w.
+            ⌜ ((l : Line) →
+            DoesAcross (λ k. rules.erases codes left c (readingOf k r)) (lent t (now (text .entry)) l) self (now (terminal .entry)) (now (messages .entry))
+            (lent t (now (text .exit)) l) w (now (terminal .exit)) (now (messages .exit))) ⌝ }
     {
         let count = r.count;
         if count == 0 {
@@ -248,7 +268,10 @@ impl Work {
         requires { ⌜ HasRoom t r ⌝ }
         ensures counted { λ w. ⌜ CountedFlow (w .flow) ⌝ }
         ensures sized { λ w. ⌜ length (now (text .exit)) ≡ inputSize ⌝ }
-        ensures rule { λ w. ⌜ ((l : Line) → DoesAcross (λ k. rules.edits codes c (readingOf k r)) (lent t (now (text .entry)) l) self (now (terminal .entry)) (now (messages .entry)) (lent t (now (text .exit)) l) w (now (terminal .exit)) (now (messages .exit))) ⌝ }
+        ensures rule { λ w.
+            ⌜ ((l : Line) →
+            DoesAcross (λ k. rules.edits codes c (readingOf k r)) (lent t (now (text .entry)) l) self (now (terminal .entry)) (now (messages .entry))
+            (lent t (now (text .exit)) l) w (now (terminal .exit)) (now (messages .exit))) ⌝ }
     {
         if c == DELETE_CHARACTER {
             let left = r.left_by_127();

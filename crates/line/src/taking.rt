@@ -31,7 +31,9 @@ use crate::keys::is_quoted;
 impl Terms {
     // Rules 5, 6 and 7, after raising; `ends`: the code is in the termination set.
     fn takes_plain(self, c: u8, ends: bool) -> Taken
-        ensures { λ k. ⌜ ((s : List ℕ) (l : Line) → CanTakeKey (l .flow) self → ends ≡ inSet (setOf (l .set)) c → Meets (takesKey (lent self (l .text) l) then rules.takesPlain codes c (idleAtZero (lent self (l .text) l))) s (lent self (l .text) l) (Takes k)) ⌝ }
+        ensures { λ k.
+            ⌜ ((s : List ℕ) (l : Line) → CanTakeKey (l .flow) self → ends ≡ inSet (setOf (l .set)) c →
+            Meets (takesKey (lent self (l .text) l) then rules.takesPlain codes c (idleAtZero (lent self (l .text) l))) s (lent self (l .text) l) (Takes k)) ⌝ }
     {
         if ends {
             return Taken::Terminator(c);
@@ -58,7 +60,11 @@ impl Flow {
     // The rules in order.
     pub(crate) fn takes(self, key: u16, ends: bool, t: Terms) -> Taken
         requires { ⌜ CountedTyped (self .typed) ⌝ }
-        ensures { λ k. ⌜ ((s : List ℕ) (l : Line) → CanTakeKey self t → ends ≡ inSet (setOf (l .set)) (rules.raisedBy codes (readingOf (lent t (l .text) l) (self .reading)) (keyOf key .char)) → Meets (takesKey (onFlow self (lent t (l .text) l)) then rules.takes codes (keyOf key) (idleAtZero (onFlow self (lent t (l .text) l)))) s (onFlow self (lent t (l .text) l)) (Takes k)) ⌝ }
+        ensures { λ k.
+            ⌜ ((s : List ℕ) (l : Line) → CanTakeKey self t →
+            ends ≡ inSet (setOf (l .set)) (rules.raisedBy codes (readingOf (lent t (l .text) l) (self .reading)) (keyOf key .char)) →
+            Meets (takesKey (onFlow self (lent t (l .text) l)) then rules.takes codes (keyOf key) (idleAtZero (onFlow self (lent t (l .text) l)))) s
+            (onFlow self (lent t (l .text) l)) (Takes k)) ⌝ }
     {
         let typed = self.typed;
         let c = code_of(key);
@@ -78,7 +84,9 @@ impl Flow {
     // A whole held token goes first; `taken` is how the first key would be taken.
     pub(crate) fn act_of_step(self, held: bool, taken: Taken, t: Terms) -> Act
         requires { ⌜ CountedTyped (self .typed) ⌝ }
-        ensures rule { λ a. ⌜ ((s : List ℕ) (l : Line) → Bounded (onFlow self (lent t (l .text) l)) → held ≡ isWhole (codesOf (self .typed)) → TakesFirst s (onFlow self (lent t (l .text) l)) taken → Meets (rules.steps codes) s (onFlow self (lent t (l .text) l)) a) ⌝ }
+        ensures rule { λ a.
+            ⌜ ((s : List ℕ) (l : Line) → Bounded (onFlow self (lent t (l .text) l)) → held ≡ isWhole (codesOf (self .typed)) →
+            TakesFirst s (onFlow self (lent t (l .text) l)) taken → Meets (rules.steps codes) s (onFlow self (lent t (l .text) l)) a) ⌝ }
         ensures kind { λ a. ⌜ callsOf a .step ≡ true ⌝ }
     {
         let pending = self.pending;
@@ -163,7 +171,10 @@ impl Work {
         requires { ⌜ CanTakeKey (self .flow) t ⌝ }
         ensures counted { λ w. ⌜ CountedFlow (w .flow) ⌝ }
         ensures sized { λ w. ⌜ length (now (text .exit)) ≡ inputSize ⌝ }
-        ensures rule { λ w. ⌜ ((l : Line) → length (l .keys) ≡ typeAheadSize → DoesAcross (λ j. takesKey (onFlow (self .flow) j) then takenRule k (idleAtZero (onFlow (self .flow) j))) (lent t (now (text .entry)) l) self (now (terminal .entry)) (now (messages .entry)) (lent t (now (text .exit)) (shifted (self .flow) l)) w (now (terminal .exit)) (now (messages .exit))) ⌝ }
+        ensures rule { λ w.
+            ⌜ ((l : Line) → length (l .keys) ≡ typeAheadSize →
+            DoesAcross (λ j. takesKey (onFlow (self .flow) j) then takenRule k (idleAtZero (onFlow (self .flow) j))) (lent t (now (text .entry)) l) self
+            (now (terminal .entry)) (now (messages .entry)) (lent t (now (text .exit)) (shifted (self .flow) l)) w (now (terminal .exit)) (now (messages .exit))) ⌝ }
     {
         let taken = self.takes_key();
         let flow = taken.flow;

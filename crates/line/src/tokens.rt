@@ -3,11 +3,22 @@ ghost use mathlib.Core.Path.{_≡_};
 ghost use Rattle.rules.specs.Choice.{pick, within};
 ghost use Rattle.rules.specs.Token as rules;
 ghost use Rattle.line.specs.TokenChanges.{placeOf};
+use rules::characters;
 
-// What begins a token.
-pub(crate) const ESC: u8 = 27;
+// The bytes of the grammar by what they do. A final byte straight after ESC, or after ESC and intermediate bytes, may be lower.
+const FIRST_INTERMEDIATE: u8 = 32;
 
-pub(crate) const CSI: u8 = 155;
+const LAST_INTERMEDIATE: u8 = 47;
+
+const FIRST_PARAMETER: u8 = 48;
+
+const LAST_PARAMETER: u8 = 63;
+
+const FIRST_LOW_FINAL: u8 = 48;
+
+const FIRST_FINAL: u8 = 64;
+
+const LAST_FINAL: u8 = 126;
 
 // The places of the grammar, in its order.
 const EMPTY: u8 = 0;
@@ -28,10 +39,10 @@ const INVALID: u8 = 6;
 fn begun(n: u8) -> u8
     ensures { λ r. ⌜ placeOf r ≡ rules.next rules.empty n ⌝ }
 {
-    if n == ESC {
+    if n == characters::ESC {
         return ESCAPE;
     }
-    if n == CSI {
+    if n == characters::CSI {
         return PARAMETERS;
     }
     INVALID
@@ -39,12 +50,12 @@ fn begun(n: u8) -> u8
 
 // A byte that goes between, or ends it from a lowest final byte on.
 fn ended(again: u8, low: u8, n: u8) -> u8
-    ensures { λ r. ⌜ placeOf r ≡ pick (within 32 47 n) (placeOf again) (pick (within low 126 n) rules.valid rules.invalid) ⌝ }
+    ensures { λ r. ⌜ placeOf r ≡ pick (rules.isIntermediate n) (placeOf again) (pick (within low 126 n) rules.valid rules.invalid) ⌝ }
 {
-    if (32 <= n) & (n <= 47) {
+    if (FIRST_INTERMEDIATE <= n) & (n <= LAST_INTERMEDIATE) {
         return again;
     }
-    if (low <= n) & (n <= 126) {
+    if (low <= n) & (n <= LAST_FINAL) {
         return VALID;
     }
     INVALID
@@ -61,13 +72,13 @@ fn next_place(place: u8, n: u8) -> u8
         return after_escape(n);
     }
     if place == MIDDLE {
-        return ended(MIDDLE, 48, n);
+        return ended(MIDDLE, FIRST_LOW_FINAL, n);
     }
     if place == PARAMETERS {
         return after_parameter(n);
     }
     if place == INTERMEDIATES {
-        return ended(INTERMEDIATES, 64, n);
+        return ended(INTERMEDIATES, FIRST_FINAL, n);
     }
     INVALID
 }
@@ -75,19 +86,19 @@ fn next_place(place: u8, n: u8) -> u8
 fn after_escape(n: u8) -> u8
     ensures { λ r. ⌜ placeOf r ≡ rules.next rules.escape n ⌝ }
 {
-    if n == 91 {
+    if n == characters::BRACKET {
         return PARAMETERS;
     }
-    ended(MIDDLE, 48, n)
+    ended(MIDDLE, FIRST_LOW_FINAL, n)
 }
 
 fn after_parameter(n: u8) -> u8
     ensures { λ r. ⌜ placeOf r ≡ rules.next rules.parameters n ⌝ }
 {
-    if (48 <= n) & (n <= 63) {
+    if (FIRST_PARAMETER <= n) & (n <= LAST_PARAMETER) {
         return PARAMETERS;
     }
-    ended(INTERMEDIATES, 64, n)
+    ended(INTERMEDIATES, FIRST_FINAL, n)
 }
 
 // How far the bytes go.

@@ -56,9 +56,9 @@ impl Typed {
     {
         let held = self.is_held();
         if (self.waiting != 0) | held {
-            return 1;
+            return fields::ON;
         }
-        0
+        fields::OFF
     }
 
     pub(crate) fn without_token(self) -> Typed

@@ -5,12 +5,18 @@ ghost use Rattle.message.specs.Found.{Finds, asHeld, foundNumber};
 
 mod fixed;
 mod listed;
+mod sizes;
 mod spans;
 mod start_read;
 mod texts;
 
 pub use crate::spans::span_of;
 pub use crate::start_read::start_read_test;
+
+// The last completion code that 000 defines, and the last value of a Write's PP and QQ.
+pub const LAST_CODE: u8 = 13;
+
+pub const LAST_FIX: u8 = 2;
 
 // A span of the lent slice: where it starts, and how long it is.
 pub struct Span {
@@ -131,7 +137,7 @@ pub fn decode(s: &[u8]) -> Found
     if !fits {
         return Found::Refused(rules::WRONG_LENGTH);
     }
-    let kind = fields::byte_at(s, 0);
+    let kind = fields::byte_at(s, rules::layout::MSGTYPE);
     match kind {
         rules::INITIATE => listed::decode_initiate(s),
         rules::START_READ => start_read::decode_start_read(s),

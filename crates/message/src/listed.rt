@@ -1,41 +1,56 @@
 // Messages that end in a parameter list.
 ghost use Prim.Native.Nat.{_≤_};
 ghost use lib.ListN.{length};
+ghost use Rattle.rules.specs.Messages.Forms as forms;
 ghost use Rattle.message.specs.declared.Message.the-variants as variants;
 ghost use Rattle.message.specs.Found.{IsType, FieldsIn, Finds, decodedAs};
 use crate::Found;
 use crate::InitiateFields;
 use crate::Message;
 use crate::Span;
+use crate::sizes;
 use crate::spans::rest_from;
 use fields::byte_at;
 use parameters::whole_list;
+use rules::layout;
+
+// Initiate's version, in three bytes, and REVISION.
+const VERSION: usize = 2;
+
+const ECO: usize = 3;
+
+const MODIFICATION: usize = 4;
+
+const REVISION: u16 = 5;
 
 fn initiate_fields(s: &[u8]) -> InitiateFields
-    requires { ⌜ IsType 1 (now s) × (13 ≤ length (now s)) ⌝ }
-    ensures { λ r. ⌜ FieldsIn 1 (now (s .entry)) (variants.Initiate r) ⌝ }
+    requires { ⌜ IsType forms.initiate (now s) × (13 ≤ length (now s)) ⌝ }
+    ensures { λ r. ⌜ FieldsIn forms.initiate (now (s .entry)) (variants.Initiate r) ⌝ }
 {
-    let version = byte_at(s, 2);
-    let eco = byte_at(s, 3);
-    let modification = byte_at(s, 4);
-    let parameters = rest_from(s, 13);
+    let version = byte_at(s, VERSION);
+    let eco = byte_at(s, ECO);
+    let modification = byte_at(s, MODIFICATION);
+    let parameters = rest_from(s, layout::INITIATE);
     InitiateFields {
         version,
         eco,
         modification,
-        revision: Span { start: 5, len: 8 },
+        revision: Span {
+            start: REVISION,
+            len: layout::REVISION,
+        },
         parameters,
     }
 }
 
 pub(crate) fn decode_initiate(s: &[u8]) -> Found
-    requires { ⌜ IsType 1 (now s) ⌝ }
-    ensures { λ r. ⌜ Finds (now (s .entry)) (decodedAs 1 (now (s .entry))) r ⌝ }
+    requires { ⌜ IsType forms.initiate (now s) ⌝ }
+    ensures { λ r. ⌜ Finds (now (s .entry)) (decodedAs forms.initiate (now (s .entry))) r ⌝ }
 {
-    if s.len() < 13 {
+    if s.len() < sizes::INITIATE {
         return Found::Refused(rules::UNSOUND);
     }
-    if !whole_list(rules::INITIATE, s, 13) {
+    if !whole_list(rules::INITIATE, s, sizes::INITIATE) {
         return Found::Refused(rules::UNSOUND);
     }
     let f = initiate_fields(s);
@@ -43,29 +58,29 @@ pub(crate) fn decode_initiate(s: &[u8]) -> Found
 }
 
 pub(crate) fn decode_read_characteristics(s: &[u8]) -> Found
-    requires { ⌜ IsType 10 (now s) ⌝ }
-    ensures { λ r. ⌜ Finds (now (s .entry)) (decodedAs 10 (now (s .entry))) r ⌝ }
+    requires { ⌜ IsType forms.readCharacteristics (now s) ⌝ }
+    ensures { λ r. ⌜ Finds (now (s .entry)) (decodedAs forms.readCharacteristics (now (s .entry))) r ⌝ }
 {
-    if s.len() < 2 {
+    if s.len() < sizes::BARE {
         return Found::Refused(rules::UNSOUND);
     }
-    if !whole_list(rules::READ_CHARACTERISTICS, s, 2) {
+    if !whole_list(rules::READ_CHARACTERISTICS, s, sizes::BARE) {
         return Found::Refused(rules::UNSOUND);
     }
-    let parameters = rest_from(s, 2);
+    let parameters = rest_from(s, layout::BARE);
     Found::Message(Message::ReadCharacteristics { parameters })
 }
 
 pub(crate) fn decode_characteristics(s: &[u8]) -> Found
-    requires { ⌜ IsType 11 (now s) ⌝ }
-    ensures { λ r. ⌜ Finds (now (s .entry)) (decodedAs 11 (now (s .entry))) r ⌝ }
+    requires { ⌜ IsType forms.characteristics (now s) ⌝ }
+    ensures { λ r. ⌜ Finds (now (s .entry)) (decodedAs forms.characteristics (now (s .entry))) r ⌝ }
 {
-    if s.len() < 2 {
+    if s.len() < sizes::BARE {
         return Found::Refused(rules::UNSOUND);
     }
-    if !whole_list(rules::CHARACTERISTICS, s, 2) {
+    if !whole_list(rules::CHARACTERISTICS, s, sizes::BARE) {
         return Found::Refused(rules::UNSOUND);
     }
-    let parameters = rest_from(s, 2);
+    let parameters = rest_from(s, layout::BARE);
     Found::Message(Message::Characteristics { parameters })
 }

@@ -5,6 +5,7 @@ ghost use mathlib.Core.List.{List};
 ghost use lib.ListN.{length};
 ghost use Rattle.rules.specs.Numbers.{inputSize};
 ghost use Rattle.rules.specs.StartRead.{soundStartRead};
+ghost use Rattle.rules.specs.Messages.Forms as forms;
 ghost use Rattle.message.specs.Found.{IsType, FlagsAre, StartReadIs, spanOf, startReadIn, Finds, decodedAs};
 use crate::Found;
 use crate::Message;
@@ -14,36 +15,69 @@ use crate::spans::rest_from;
 use fields::byte_at;
 use fields::three_at;
 use fields::word_at;
+use rules::bits;
+use rules::layout;
+
+// Fields of FLAGS, by how many values they have.
+const ONE_BIT: u32 = bits::ONE as u32;
+
+const TWO_BITS: u32 = bits::TWO as u32;
+
+const THREE_BITS: u32 = bits::THREE as u32;
+
+// Where the fields behind FLAGS stand; behind SET_COUNT begins the termination set.
+const MAX_LENGTH: usize = 4;
+
+const END_OF_DATA: usize = 6;
+
+const TIMEOUT: usize = 8;
+
+const END_OF_PROMPT: usize = 10;
+
+const START_OF_DISPLAY: usize = 12;
+
+const LOW_WATER: usize = 14;
+
+const SET_COUNT: usize = 16;
+
+// The last value of UU, of II and EE, of ZZ, and of DDD.
+const LAST_UNDERFLOW: u8 = 2;
+
+const LAST_SWITCH: u8 = 2;
+
+const LAST_SET_CHOICE: u8 = 2;
+
+const LAST_DISABLE: u8 = 3;
 
 // The flags beside the spans; the numbers are still 0.
 fn start_read_flags(s: &[u8], set: Span, text: Span) -> StartReadFields
     ensures { λ r. ⌜ FlagsAre (now (s .entry)) set text r ⌝ }
 {
-    let flags = three_at(s, 1);
-    let clears = flags / 4;
-    let formats = clears / 2;
-    let vertical = formats / 2;
-    let continues = vertical / 2;
-    let raises = continues / 2;
-    let disables = raises / 4;
-    let silent = disables / 8;
-    let terminator_echo = silent / 2;
-    let timed = terminator_echo / 2;
-    let set_choice = timed / 2;
-    let escapes = set_choice / 4;
+    let flags = three_at(s, layout::FLAGS);
+    let clears = flags / TWO_BITS;
+    let formats = clears / ONE_BIT;
+    let vertical = formats / ONE_BIT;
+    let continues = vertical / ONE_BIT;
+    let raises = continues / ONE_BIT;
+    let disables = raises / TWO_BITS;
+    let silent = disables / THREE_BITS;
+    let terminator_echo = silent / ONE_BIT;
+    let timed = terminator_echo / ONE_BIT;
+    let set_choice = timed / ONE_BIT;
+    let escapes = set_choice / TWO_BITS;
     StartReadFields {
-        underflow: (flags % 4) as u8,
-        clears: (clears % 2) as u8,
-        formats: (formats % 2) as u8,
-        vertical: (vertical % 2) as u8,
-        continues: (continues % 2) as u8,
-        raises: (raises % 4) as u8,
-        disables: (disables % 8) as u8,
-        silent: (silent % 2) as u8,
-        terminator_echo: (terminator_echo % 2) as u8,
-        timed: (timed % 2) as u8,
-        set_choice: (set_choice % 4) as u8,
-        escapes: (escapes % 4) as u8,
+        underflow: (flags % TWO_BITS) as u8,
+        clears: (clears % ONE_BIT) as u8,
+        formats: (formats % ONE_BIT) as u8,
+        vertical: (vertical % ONE_BIT) as u8,
+        continues: (continues % ONE_BIT) as u8,
+        raises: (raises % TWO_BITS) as u8,
+        disables: (disables % THREE_BITS) as u8,
+        silent: (silent % ONE_BIT) as u8,
+        terminator_echo: (terminator_echo % ONE_BIT) as u8,
+        timed: (timed % ONE_BIT) as u8,
+        set_choice: (set_choice % TWO_BITS) as u8,
+        escapes: (escapes % TWO_BITS) as u8,
         max_length: 0,
         end_of_data: 0,
         timeout: 0,
@@ -56,22 +90,22 @@ fn start_read_flags(s: &[u8], set: Span, text: Span) -> StartReadFields
 }
 
 fn start_read_fields(s: &[u8]) -> StartReadFields
-    requires { ⌜ IsType 2 (now s) ⌝ }
+    requires { ⌜ IsType forms.startRead (now s) ⌝ }
     ensures { λ r. ⌜ StartReadIs (now (s .entry)) r ⌝ }
 {
-    let count = byte_at(s, 16) as u16;
+    let count = byte_at(s, SET_COUNT) as u16;
     let set = Span {
-        start: 17,
+        start: layout::START_READ,
         len: count,
     };
-    let text = rest_from(s, 17 + count);
+    let text = rest_from(s, layout::START_READ + count);
     let mut f = start_read_flags(s, set, text);
-    f.max_length = word_at(s, 4);
-    f.end_of_data = word_at(s, 6);
-    f.timeout = word_at(s, 8);
-    f.end_of_prompt = word_at(s, 10);
-    f.start_of_display = word_at(s, 12);
-    f.low_water = word_at(s, 14);
+    f.max_length = word_at(s, MAX_LENGTH);
+    f.end_of_data = word_at(s, END_OF_DATA);
+    f.timeout = word_at(s, TIMEOUT);
+    f.end_of_prompt = word_at(s, END_OF_PROMPT);
+    f.start_of_display = word_at(s, START_OF_DISPLAY);
+    f.low_water = word_at(s, LOW_WATER);
     f
 }
 
@@ -88,11 +122,11 @@ pub fn start_read_test(f: StartReadFields) -> bool
     let text = f.text;
     let largest = f.max_length as usize;
     let shown = less(f.end_of_data, f.start_of_display);
-    (f.underflow <= 2)
-        & (f.raises <= 2)
-        & (f.set_choice <= 2)
-        & (f.escapes <= 2)
-        & (f.disables <= 3)
+    (f.underflow <= LAST_UNDERFLOW)
+        & (f.raises <= LAST_SWITCH)
+        & (f.set_choice <= LAST_SET_CHOICE)
+        & (f.escapes <= LAST_SWITCH)
+        & (f.disables <= LAST_DISABLE)
         & (f.end_of_prompt <= f.end_of_data)
         & (f.low_water <= f.end_of_data)
         & (f.start_of_display <= f.end_of_data)
@@ -102,15 +136,15 @@ pub fn start_read_test(f: StartReadFields) -> bool
 }
 
 pub(crate) fn decode_start_read(s: &[u8]) -> Found
-    requires { ⌜ IsType 2 (now s) ⌝ }
-    ensures { λ r. ⌜ Finds (now (s .entry)) (decodedAs 2 (now (s .entry))) r ⌝ }
+    requires { ⌜ IsType forms.startRead (now s) ⌝ }
+    ensures { λ r. ⌜ Finds (now (s .entry)) (decodedAs forms.startRead (now (s .entry))) r ⌝ }
 {
-    if s.len() < 16 {
+    if s.len() < SET_COUNT {
         return Found::Refused(rules::UNSOUND);
     }
-    let behind = s.len() - 16;
-    let count = byte_at(s, 16) as usize;
-    let whole = (count < behind) & (count <= 32);
+    let behind = s.len() - SET_COUNT;
+    let count = byte_at(s, SET_COUNT) as usize;
+    let whole = (count < behind) & (count <= rules::SET);
     if !whole {
         return Found::Refused(rules::UNSOUND);
     }

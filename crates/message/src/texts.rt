@@ -1,28 +1,52 @@
 // Messages that end in DATA.
+ghost use Rattle.rules.specs.Messages.Forms as forms;
 ghost use Rattle.message.specs.declared.Message.the-variants as variants;
 ghost use Rattle.message.specs.Found.{IsType, FieldsIn, Finds, decodedAs};
 use crate::Found;
+use crate::LAST_CODE;
+use crate::LAST_FIX;
 use crate::Message;
 use crate::ReadDataFields;
 use crate::WriteFields;
+use crate::sizes;
 use crate::spans::rest_from;
 use fields::byte_at;
 use fields::word_at;
+use rules::bits;
+use rules::layout;
+
+// Where the fields of a Read Data stand.
+const LOW_WATER: usize = 2;
+
+const VERTICAL: usize = 4;
+
+const HORIZONTAL: usize = 5;
+
+const TERMINATOR: usize = 6;
+
+// Fields of a Write's FLAGS, by how many values they have, and where its other fields stand.
+const ONE_BIT: u16 = bits::ONE as u16;
+
+const TWO_BITS: u16 = bits::TWO as u16;
+
+const PREFIX_VALUE: usize = 3;
+
+const POSTFIX_VALUE: usize = 4;
 
 // The fields, whatever they hold: the reader below tests the length and the values.
 fn read_data_fields(s: &[u8]) -> ReadDataFields
-    requires { ⌜ IsType 3 (now s) ⌝ }
-    ensures { λ r. ⌜ FieldsIn 3 (now (s .entry)) (variants.ReadData r) ⌝ }
+    requires { ⌜ IsType forms.readData (now s) ⌝ }
+    ensures { λ r. ⌜ FieldsIn forms.readData (now (s .entry)) (variants.ReadData r) ⌝ }
 {
-    let flags = byte_at(s, 1);
-    let low_water = word_at(s, 2);
-    let vertical = byte_at(s, 4);
-    let horizontal = byte_at(s, 5);
-    let terminator = word_at(s, 6);
-    let text = rest_from(s, 8);
+    let flags = byte_at(s, layout::FLAGS);
+    let low_water = word_at(s, LOW_WATER);
+    let vertical = byte_at(s, VERTICAL);
+    let horizontal = byte_at(s, HORIZONTAL);
+    let terminator = word_at(s, TERMINATOR);
+    let text = rest_from(s, layout::READ_DATA);
     ReadDataFields {
-        code: flags % 16,
-        more: flags / 16 % 2,
+        code: flags % bits::FOUR,
+        more: flags / bits::FOUR % bits::ONE,
         low_water,
         vertical,
         horizontal,
@@ -32,45 +56,45 @@ fn read_data_fields(s: &[u8]) -> ReadDataFields
 }
 
 pub(crate) fn decode_read_data(s: &[u8]) -> Found
-    requires { ⌜ IsType 3 (now s) ⌝ }
-    ensures { λ r. ⌜ Finds (now (s .entry)) (decodedAs 3 (now (s .entry))) r ⌝ }
+    requires { ⌜ IsType forms.readData (now s) ⌝ }
+    ensures { λ r. ⌜ Finds (now (s .entry)) (decodedAs forms.readData (now (s .entry))) r ⌝ }
 {
-    if s.len() < 8 {
+    if s.len() < sizes::READ_DATA {
         return Found::Refused(rules::UNSOUND);
     }
     let f = read_data_fields(s);
-    if 13 < f.code {
+    if LAST_CODE < f.code {
         return Found::Refused(rules::UNSOUND);
     }
     Found::Message(Message::ReadData(f))
 }
 
 fn write_fields(s: &[u8]) -> WriteFields
-    requires { ⌜ IsType 7 (now s) ⌝ }
-    ensures { λ r. ⌜ FieldsIn 7 (now (s .entry)) (variants.Write r) ⌝ }
+    requires { ⌜ IsType forms.write (now s) ⌝ }
+    ensures { λ r. ⌜ FieldsIn forms.write (now (s .entry)) (variants.Write r) ⌝ }
 {
-    let flags = word_at(s, 1);
-    let newline = flags / 4;
-    let keeps_output = newline / 2;
-    let first = keeps_output / 2;
-    let last = first / 2;
-    let prefix = last / 2;
-    let postfix = prefix / 4;
-    let wants_completion = postfix / 4;
-    let transparent = wants_completion / 2;
-    let prefix_value = byte_at(s, 3);
-    let postfix_value = byte_at(s, 4);
-    let text = rest_from(s, 5);
+    let flags = word_at(s, layout::FLAGS);
+    let newline = flags / TWO_BITS;
+    let keeps_output = newline / ONE_BIT;
+    let first = keeps_output / ONE_BIT;
+    let last = first / ONE_BIT;
+    let prefix = last / ONE_BIT;
+    let postfix = prefix / TWO_BITS;
+    let wants_completion = postfix / TWO_BITS;
+    let transparent = wants_completion / ONE_BIT;
+    let prefix_value = byte_at(s, PREFIX_VALUE);
+    let postfix_value = byte_at(s, POSTFIX_VALUE);
+    let text = rest_from(s, layout::WRITE);
     WriteFields {
-        lock: (flags % 4) as u8,
-        newline: (newline % 2) as u8,
-        keeps_output: (keeps_output % 2) as u8,
-        first: (first % 2) as u8,
-        last: (last % 2) as u8,
-        prefix: (prefix % 4) as u8,
-        postfix: (postfix % 4) as u8,
-        wants_completion: (wants_completion % 2) as u8,
-        transparent: (transparent % 2) as u8,
+        lock: (flags % TWO_BITS) as u8,
+        newline: (newline % ONE_BIT) as u8,
+        keeps_output: (keeps_output % ONE_BIT) as u8,
+        first: (first % ONE_BIT) as u8,
+        last: (last % ONE_BIT) as u8,
+        prefix: (prefix % TWO_BITS) as u8,
+        postfix: (postfix % TWO_BITS) as u8,
+        wants_completion: (wants_completion % ONE_BIT) as u8,
+        transparent: (transparent % ONE_BIT) as u8,
         prefix_value,
         postfix_value,
         text,
@@ -78,14 +102,14 @@ fn write_fields(s: &[u8]) -> WriteFields
 }
 
 pub(crate) fn decode_write(s: &[u8]) -> Found
-    requires { ⌜ IsType 7 (now s) ⌝ }
-    ensures { λ r. ⌜ Finds (now (s .entry)) (decodedAs 7 (now (s .entry))) r ⌝ }
+    requires { ⌜ IsType forms.write (now s) ⌝ }
+    ensures { λ r. ⌜ Finds (now (s .entry)) (decodedAs forms.write (now (s .entry))) r ⌝ }
 {
-    if s.len() < 5 {
+    if s.len() < sizes::WRITE {
         return Found::Refused(rules::UNSOUND);
     }
     let f = write_fields(s);
-    if (f.prefix <= 2) & (f.postfix <= 2) {
+    if (f.prefix <= LAST_FIX) & (f.postfix <= LAST_FIX) {
         return Found::Message(Message::Write(f));
     }
     Found::Refused(rules::UNSOUND)

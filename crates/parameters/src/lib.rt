@@ -16,6 +16,23 @@ pub mod selectors;
 
 pub use crate::put::put_setting;
 
+// Bytes in front of a parameter's value: SELECTOR, or PARMTYPE and a count. Bytes of the longest value: CHARACTER, MASK and ATTRIBUTES.
+pub const HEAD: usize = 2;
+
+pub const LONGEST_VALUE: usize = 3;
+
+// Where the bytes of a value stand.
+const FIRST: usize = HEAD;
+
+const SECOND: usize = HEAD + 1;
+
+const THIRD: usize = HEAD + 2;
+
+// The values of INPUT-COUNT-STATE.
+const FIRST_COUNT_STATE: u16 = 1;
+
+const LAST_COUNT_STATE: u16 = 3;
+
 // One parameter of a list: its SELECTOR, the bytes behind it (CHARACTER, MASK and ATTRIBUTES, or a VALUE; 0 where there are
 // fewer), unused bits set to 0, and where the next one begins.
 pub struct Parameter {
@@ -39,8 +56,8 @@ fn defined_at(kind: u8, s: &[u8], at: usize) -> bool
         return defined_selector(n);
     }
     if n == selectors::INPUT_COUNT_STATE {
-        let value = word_at(s, at + 2);
-        return (1 <= value) & (value <= 3);
+        let value = word_at(s, at + FIRST);
+        return (FIRST_COUNT_STATE <= value) & (value <= LAST_COUNT_STATE);
     }
     defined_selector(n)
 }
@@ -51,7 +68,7 @@ fn size_at(kind: u8, s: &[u8], at: usize) -> usize
     ensures { λ r. ⌜ (r ≡ parameterSize (shapeOf kind) (drop at (now (s .entry)))) × (2 ≤ r) × (r ≤ 257) ⌝ }
 {
     let l = limits_at(kind, s, at);
-    2 + l.0 as usize
+    HEAD + l.0 as usize
 }
 
 // The parameter that begins at a place is whole and defined.
@@ -105,14 +122,14 @@ pub fn parameter_at(kind: u8, s: &[u8], at: usize) -> Parameter
     let l = limits_at(kind, s, at);
     let low = s[at] as u16;
     let high = byte_at(s, at + 1) as u16;
-    let first = used_at(s, at + 2, l.1);
-    let second = used_at(s, at + 3, l.2);
-    let third = used_at(s, at + 4, l.3);
+    let first = used_at(s, at + FIRST, l.1);
+    let second = used_at(s, at + SECOND, l.2);
+    let third = used_at(s, at + THIRD, l.3);
     Parameter {
         selector: low + 256 * high,
         first,
         second,
         third,
-        next: at + 2 + l.0 as usize,
+        next: at + HEAD + l.0 as usize,
     }
 }

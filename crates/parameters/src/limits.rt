@@ -2,14 +2,26 @@
 ghost use mathlib.Core.Path.{_≡_};
 ghost use Prim.Native.Nat.{_<_};
 ghost use lib.ListN.{length, getD, drop, replicate};
-ghost use Rattle.rules.specs.Messages.Parameters.{definedSelector, questionLimits, valueLimits, limitsOf};
+ghost use Rattle.rules.specs.Messages.Parameters.{allBits, definedSelector, questionLimits, valueLimits, limitsOf};
 ghost use Rattle.parameters.specs.Lists.{LimitsAre, shapeOf};
 use crate::selectors;
 use fields::byte_at;
 use fields::word_at;
+use rules::bits;
+
+// Limits of a byte, by how many of its bits are used.
+const ALL_BITS: u16 = 256;
+
+const SEVEN_BITS: u16 = bits::SEVEN as u16;
+
+const FOUR_BITS: u16 = bits::FOUR as u16;
+
+const ONE_BIT: u16 = bits::ONE as u16;
+
+const NO_BITS: u16 = 1;
 
 // How many bytes a parameter has behind its first two, and a limit for each of the first three of them: a byte is taken modulo its
-// limit. A byte that the parameter does not have gets the limit 1, by which it is 0.
+// limit. A byte that the parameter does not have gets NO_BITS, by which it is 0.
 pub(crate) struct Limits(pub u8, pub u16, pub u16, pub u16);
 
 pub(crate) fn defined_selector(n: u16) -> bool
@@ -20,16 +32,16 @@ pub(crate) fn defined_selector(n: u16) -> bool
 
 // The limit of a byte of Initiate, all of whose bits are used.
 fn whole_byte(count: u8, at: u8) -> u16
-    ensures { λ r. ⌜ r ≡ getD (replicate count 256) at 1 ⌝ }
+    ensures { λ r. ⌜ r ≡ getD (replicate count allBits) at 1 ⌝ }
 {
     if at < count {
-        return 256;
+        return ALL_BITS;
     }
-    1
+    NO_BITS
 }
 
 fn initiation_limits(count: u8) -> Limits
-    ensures { λ r. ⌜ LimitsAre (replicate count 256) r ⌝ }
+    ensures { λ r. ⌜ LimitsAre (replicate count allBits) r ⌝ }
 {
     let first = whole_byte(count, 0);
     let second = whole_byte(count, 1);
@@ -41,27 +53,27 @@ fn question_limits(n: u16) -> Limits
     ensures { λ r. ⌜ LimitsAre (questionLimits n) r ⌝ }
 {
     if n == selectors::CHARACTER_ATTRIBUTES {
-        return Limits(1, 256, 1, 1);
+        return Limits(1, ALL_BITS, NO_BITS, NO_BITS);
     }
-    Limits(0, 1, 1, 1)
+    Limits(0, NO_BITS, NO_BITS, NO_BITS)
 }
 
 fn setting_limits(n: u16) -> Limits
     ensures { λ r. ⌜ LimitsAre (valueLimits n) r ⌝ }
 {
     if n == selectors::CHARACTER_ATTRIBUTES {
-        return Limits(3, 256, 256, 128);
+        return Limits(3, ALL_BITS, ALL_BITS, SEVEN_BITS);
     }
     if n == selectors::INPUT_COUNT_STATE {
-        return Limits(2, 256, 256, 1);
+        return Limits(2, ALL_BITS, ALL_BITS, NO_BITS);
     }
     if n == selectors::ERROR_PROCESSING {
-        return Limits(1, 16, 1, 1);
+        return Limits(1, FOUR_BITS, NO_BITS, NO_BITS);
     }
     if defined_selector(n) {
-        return Limits(1, 2, 1, 1);
+        return Limits(1, ONE_BIT, NO_BITS, NO_BITS);
     }
-    Limits(0, 1, 1, 1)
+    Limits(0, NO_BITS, NO_BITS, NO_BITS)
 }
 
 // The limits of the parameter that begins at a place.

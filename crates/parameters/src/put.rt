@@ -1,6 +1,7 @@
 // A parameter into an area.
 ghost use Rattle.areas.specs.Puts.{Puts};
 ghost use Rattle.parameters.specs.Lists.{settingBytes};
+use crate::LONGEST_VALUE;
 use areas::put_bytes;
 use areas::put_word;
 
@@ -18,7 +19,7 @@ pub fn put_setting(
 {
     let value = [first, second, third];
     let next = put_word(selector, area, at);
-    if count < 3 {
+    if count < LONGEST_VALUE {
         return put_bytes(&value[..count], area, next);
     }
     put_bytes(&value, area, next)

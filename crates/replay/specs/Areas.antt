@@ -3,6 +3,10 @@ use Prim.Native.Nat.{ℕ, _≤_}
 use mathlib.Core.List.{List}
 use lib.ListN.{length}
 
+-- the longest area that a script can ask for
+abbrev pub longest : ℕ
+longest = 65535
+
 pub record Areas (t m : List ℕ) : Type 0 where
-  pub terminal : 65535 ≤ length t
-  pub messages : 65535 ≤ length m
+  pub terminal : longest ≤ length t
+  pub messages : longest ≤ length m

@@ -3,7 +3,7 @@ ghost use Prim.Native.Nat.{_≤_};
 ghost use mathlib.Core.Path.{_≡_};
 ghost use mathlib.Core.Bool.{true};
 ghost use Rattle.rules.specs.Messages.Codec.{allBytes};
-ghost use Rattle.replay.specs.Areas.{Areas};
+ghost use Rattle.replay.specs.Areas.{longest, Areas};
 ghost use Rattle.replay.specs.Played.{Played, IsCount};
 use crate::answers::Told;
 use crate::output::front;
@@ -27,7 +27,7 @@ const AREA: usize = 65_535;
 
 // A length that a line of the script can ask for.
 fn size(length: u16) -> usize
-    ensures { λ r. ⌜ r ≤ 65535 ⌝ }
+    ensures { λ r. ⌜ r ≤ longest ⌝ }
 {
     length as usize
 }

@@ -1,4 +1,7 @@
 // The numbers of page 01 and 000 for the crates above. First the sizes, as in specs/Numbers.antt.
+pub mod bits;
+pub mod characters;
+pub mod layout;
 
 pub const INPUT: usize = 132;
 
@@ -11,6 +14,12 @@ pub const MESSAGE: usize = 256;
 pub const TERMINAL_AREA: usize = 4096;
 
 pub const MESSAGE_AREA: usize = 256;
+
+// character codes, each with its attribute
+pub const CODES: usize = 256;
+
+// bytes of a termination set that has them all
+pub const SET: usize = 32;
 
 pub const TOP_COLUMN: u16 = 999;
 

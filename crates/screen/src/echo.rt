@@ -8,6 +8,10 @@ use crate::columns::to_tab;
 use crate::put::pair;
 use crate::put::put;
 use crate::put::repeat;
+use rules::characters;
+
+// From a control to the character that stands behind its caret.
+const CONTROL_SHIFT: u8 = 64;
 
 // A mark as itself, a tab as spaces, a control behind a caret, and nothing else.
 pub fn echo(s: Screen, area: &mut [u8], at: usize, n: u8) -> Shown
@@ -16,14 +20,14 @@ pub fn echo(s: Screen, area: &mut [u8], at: usize, n: u8) -> Shown
     if is_mark(n) {
         return put(s, area, at, n);
     }
-    if n == 9 {
-        return repeat(s, area, at, to_tab(s.column), 32);
+    if n == characters::HT {
+        return repeat(s, area, at, to_tab(s.column), characters::SP);
     }
-    if n <= 31 {
-        return pair(s, area, at, 0x5E, n + 64);
+    if n <= characters::LAST_CONTROL {
+        return pair(s, area, at, characters::CARET, n + CONTROL_SHIFT);
     }
-    if n == 127 {
-        return pair(s, area, at, 0x5E, 0x3F);
+    if n == characters::DEL {
+        return pair(s, area, at, characters::CARET, characters::QUESTION);
     }
     Shown { screen: s, at }
 }
@@ -32,8 +36,8 @@ pub fn echo(s: Screen, area: &mut [u8], at: usize, n: u8) -> Shown
 pub fn terminator_echo(s: Screen, area: &mut [u8], at: usize, n: u8) -> Shown
     ensures { λ r. ⌜ Writes (rules.echoTerminator (s .column) n) (now (area .entry)) at s r (now (area .exit)) ⌝ }
 {
-    if n == 13 {
-        return pair(s, area, at, 13, 10);
+    if n == characters::CR {
+        return pair(s, area, at, characters::CR, characters::LF);
     }
     echo(s, area, at, n)
 }

@@ -15,9 +15,13 @@ use crate::columns::is_mark;
 use crate::columns::to_tab;
 use crate::put::pair;
 use crate::put::put;
+use rules::characters;
 
 // A usize holds no more.
 const MOST: usize = 0xFFFF_FFFF_FFFF_FFFF;
+
+// A caret, and the character behind it.
+const CONTROL_WIDTH: u16 = 2;
 
 // How many marks and spaces a character echoes at a column.
 fn width(column: u16, n: u8) -> u16
@@ -26,14 +30,14 @@ fn width(column: u16, n: u8) -> u16
     if is_mark(n) {
         return 1;
     }
-    if n == 9 {
+    if n == characters::HT {
         return to_tab(column);
     }
-    if n <= 31 {
-        return 2;
+    if n <= characters::LAST_CONTROL {
+        return CONTROL_WIDTH;
     }
-    if n == 127 {
-        return 2;
+    if n == characters::DEL {
+        return CONTROL_WIDTH;
     }
     0
 }
@@ -83,9 +87,9 @@ pub fn marks_behind(kept: usize, column: u16, text: &[u8]) -> usize
 fn rub_one(s: Screen, area: &mut [u8], at: usize) -> Shown
     ensures { λ r. ⌜ Writes (rules.BS ∷ rules.SP ∷ rules.BS ∷ []) (now (area .entry)) at s r (now (area .exit)) ⌝ }
 {
-    let blank = pair(s, area, at, 8, 32);
+    let blank = pair(s, area, at, characters::BS, characters::SP);
     let screen = blank.screen;
-    put(screen, area, blank.at, 8)
+    put(screen, area, blank.at, characters::BS)
 }
 
 // A mark at a time, the last one first.

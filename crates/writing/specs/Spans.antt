@@ -4,6 +4,7 @@ use mathlib.Core.Bool.{Bool, _&&_}
 use mathlib.Core.List.{List}
 use lib.Dec.{eqb}
 use Rattle.rules.specs.Choice.{pick, joined}
+use Rattle.rules.specs.Messages.Forms as forms
 use Rattle.message.specs.declared.Span.{Span}
 use Rattle.message.specs.declared.Message.{Message}
 use Rattle.message.specs.declared.Message.the-variants.{Initiate, StartRead, ReadData, OutOfBand, Unread, ClearInput, Write}
@@ -26,26 +27,26 @@ abbrev pub withList : ℕ → ℕ → Span → Spans
 withList kind head list = record { kind = kind; head = head; list = list; set = none; text = none; revision = none }
 
 abbrev pub initiateSpans : Span → Span → Spans
-initiateSpans list revision = record { kind = 1; head = 13; list = list; set = none; text = none; revision = revision }
+initiateSpans list revision = record { kind = forms.initiate; head = 13; list = list; set = none; text = none; revision = revision }
 
 abbrev pub startReadSpans : Span → Span → Spans
-startReadSpans set text = record { kind = 2; head = 17; list = none; set = set; text = text; revision = none }
+startReadSpans set text = record { kind = forms.startRead; head = 17; list = none; set = set; text = text; revision = none }
 
 unfoldable pub spansOf : Message → Spans
 spansOf (Initiate f) = initiateSpans (f .parameters) (f .revision)
 spansOf (StartRead f) = startReadSpans (f .set) (f .text)
-spansOf (ReadData f) = withText 3 8 (f .text)
-spansOf (OutOfBand discard character) = bare 4 3
-spansOf (Unread condition) = bare 5 2
-spansOf ClearInput = bare 6 2
-spansOf (Write f) = withText 7 5 (f .text)
-spansOf (WriteCompletion lost horizontal vertical) = bare 8 6
-spansOf (DiscardState kept) = bare 9 2
-spansOf (ReadCharacteristics p) = withList 10 2 p
-spansOf (Characteristics p) = withList 11 2 p
-spansOf CheckInput = bare 12 2
-spansOf (InputCount count) = bare 13 4
-spansOf (InputState nonzero) = bare 14 2
+spansOf (ReadData f) = withText forms.readData 8 (f .text)
+spansOf (OutOfBand discard character) = bare forms.outOfBand 3
+spansOf (Unread condition) = bare forms.unread 2
+spansOf ClearInput = bare forms.clearInput 2
+spansOf (Write f) = withText forms.write 5 (f .text)
+spansOf (WriteCompletion lost horizontal vertical) = bare forms.writeCompletion 6
+spansOf (DiscardState kept) = bare forms.discardState 2
+spansOf (ReadCharacteristics p) = withList forms.readCharacteristics 2 p
+spansOf (Characteristics p) = withList forms.characteristics 2 p
+spansOf CheckInput = bare forms.checkInput 2
+spansOf (InputCount count) = bare forms.inputCount 4
+spansOf (InputState nonzero) = bare forms.inputState 2
 spansOf (Other kind body) = withText kind 1 body
 
 -- how long the message is by the lengths of its spans
@@ -57,4 +58,4 @@ inside size p = lies size (p .list) && lies size (p .set) && lies size (p .text)
 
 -- the bytes of a parameter list: a Characteristics has bits that are not used
 unfoldable pub listBytes : ℕ → List ℕ → List ℕ
-listBytes kind bytes = pick (eqb kind 11) (joined (parametersFrom 11 0 bytes)) bytes
+listBytes kind bytes = pick (eqb kind forms.characteristics) (joined (parametersFrom forms.characteristics 0 bytes)) bytes

@@ -2,56 +2,63 @@
 ghost use mathlib.Core.Path.{_≡_};
 ghost use mathlib.Core.List.{[]};
 ghost use Rattle.rules.specs.Messages.Layout.{widthsOf, fits};
-ghost use Rattle.rules.specs.Messages.Forms.{formOf};
+ghost use Rattle.rules.specs.Messages.Forms.{formOf, startRead};
 ghost use Rattle.message.specs.declared.Message.the-variants as variants;
 ghost use Rattle.message.specs.Found.{spanOf, startReadIn};
 ghost use Rattle.parameters.specs.Lists.{soundFrom};
 ghost use Rattle.writing.specs.Fits.{Fits, FitsIn};
 use message::InitiateFields;
+use message::LAST_CODE;
+use message::LAST_FIX;
 use message::Message;
 use message::ReadDataFields;
 use message::Span;
 use message::StartReadFields;
 use message::WriteFields;
+use rules::bits;
+use rules::layout;
+
+// The most bytes of a termination set.
+const SET: u16 = rules::SET as u16;
 
 fn fits_read_data(f: ReadDataFields) -> bool
     ensures { λ r. ⌜ Fits (variants.ReadData f) r ⌝ }
 {
-    (f.code < 16) & (f.more < 2) & (f.code <= 13)
+    (f.code < bits::FOUR) & (f.more < bits::ONE) & (f.code <= LAST_CODE)
 }
 
 fn fits_write(f: WriteFields) -> bool
     ensures { λ r. ⌜ Fits (variants.Write f) r ⌝ }
 {
-    (f.lock < 4)
-        & (f.newline < 2)
-        & (f.keeps_output < 2)
-        & (f.first < 2)
-        & (f.last < 2)
-        & (f.prefix < 4)
-        & (f.postfix < 4)
-        & (f.wants_completion < 2)
-        & (f.transparent < 2)
-        & (f.prefix <= 2)
-        & (f.postfix <= 2)
+    (f.lock < bits::TWO)
+        & (f.newline < bits::ONE)
+        & (f.keeps_output < bits::ONE)
+        & (f.first < bits::ONE)
+        & (f.last < bits::ONE)
+        & (f.prefix < bits::TWO)
+        & (f.postfix < bits::TWO)
+        & (f.wants_completion < bits::ONE)
+        & (f.transparent < bits::ONE)
+        & (f.prefix <= LAST_FIX)
+        & (f.postfix <= LAST_FIX)
 }
 
 // Every flag of a Start Read; its words always fit.
 fn fits_flags(f: StartReadFields) -> bool
-    ensures { λ r. ⌜ r ≡ fits (widthsOf (formOf 2 .head)) (startReadIn [] f .numbers) ⌝ }
+    ensures { λ r. ⌜ r ≡ fits (widthsOf (formOf startRead .head)) (startReadIn [] f .numbers) ⌝ }
 {
-    (f.underflow < 4)
-        & (f.clears < 2)
-        & (f.formats < 2)
-        & (f.vertical < 2)
-        & (f.continues < 2)
-        & (f.raises < 4)
-        & (f.disables < 8)
-        & (f.silent < 2)
-        & (f.terminator_echo < 2)
-        & (f.timed < 2)
-        & (f.set_choice < 4)
-        & (f.escapes < 4)
+    (f.underflow < bits::TWO)
+        & (f.clears < bits::ONE)
+        & (f.formats < bits::ONE)
+        & (f.vertical < bits::ONE)
+        & (f.continues < bits::ONE)
+        & (f.raises < bits::TWO)
+        & (f.disables < bits::THREE)
+        & (f.silent < bits::ONE)
+        & (f.terminator_echo < bits::ONE)
+        & (f.timed < bits::ONE)
+        & (f.set_choice < bits::TWO)
+        & (f.escapes < bits::TWO)
 }
 
 fn fits_start_read(f: StartReadFields) -> bool
@@ -60,7 +67,7 @@ fn fits_start_read(f: StartReadFields) -> bool
     let set = f.set;
     let flags = fits_flags(f);
     let sound = message::start_read_test(f);
-    flags & (set.len <= 32) & sound
+    flags & (set.len <= SET) & sound
 }
 
 fn fits_list(kind: u8, p: Span, s: &[u8]) -> bool
@@ -76,7 +83,7 @@ fn fits_initiate(f: InitiateFields, s: &[u8]) -> bool
     let revision = f.revision;
     let parameters = f.parameters;
     let whole = fits_list(rules::INITIATE, parameters, s);
-    (revision.len == 8) & whole
+    (revision.len == layout::REVISION) & whole
 }
 
 pub(crate) fn fits_message(m: Message, s: &[u8]) -> bool
@@ -86,16 +93,16 @@ pub(crate) fn fits_message(m: Message, s: &[u8]) -> bool
         Message::Initiate(f) => fits_initiate(f, s),
         Message::StartRead(f) => fits_start_read(f),
         Message::ReadData(f) => fits_read_data(f),
-        Message::OutOfBand { discard, character } => discard < 2,
-        Message::Unread { condition } => condition < 2,
+        Message::OutOfBand { discard, character } => discard < bits::ONE,
+        Message::Unread { condition } => condition < bits::ONE,
         Message::ClearInput => true,
         Message::Write(f) => fits_write(f),
         Message::WriteCompletion {
             lost,
             horizontal,
             vertical,
-        } => lost < 2,
-        Message::DiscardState { kept } => kept < 2,
+        } => lost < bits::ONE,
+        Message::DiscardState { kept } => kept < bits::ONE,
         Message::ReadCharacteristics { parameters } => fits_list(
             rules::READ_CHARACTERISTICS,
             parameters,
@@ -104,7 +111,7 @@ pub(crate) fn fits_message(m: Message, s: &[u8]) -> bool
         Message::Characteristics { parameters } => fits_list(rules::CHARACTERISTICS, parameters, s),
         Message::CheckInput => true,
         Message::InputCount { count } => true,
-        Message::InputState { nonzero } => nonzero < 2,
+        Message::InputState { nonzero } => nonzero < bits::ONE,
         Message::Other { kind: _, body: _ } => false,
     }
 }

@@ -2,6 +2,7 @@
 ghost use mathlib.Core.Path.{_≡_};
 ghost use mathlib.Core.Bool.{true};
 ghost use Rattle.rules.specs.Choice.{joined};
+ghost use Rattle.rules.specs.Messages.Forms.{characteristics};
 ghost use Rattle.message.specs.Found.{spanOf};
 ghost use Rattle.parameters.specs.Lists.{soundFrom, parametersFrom};
 ghost use Rattle.areas.specs.Puts.{Puts};
@@ -12,14 +13,14 @@ use parameters::put_setting;
 
 // The parameters of a Characteristics, unused bits set to 0.
 fn put_settings(t: &[u8], area: &mut [u8], at: usize) -> usize
-    requires { ⌜ soundFrom 11 0 (now t) ≡ true ⌝ }
-    ensures { λ r. ⌜ Puts (joined (parametersFrom 11 0 (now (t .entry)))) (now (area .entry)) at r (now (area .exit)) ⌝ }
+    requires { ⌜ soundFrom characteristics 0 (now t) ≡ true ⌝ }
+    ensures { λ r. ⌜ Puts (joined (parametersFrom characteristics 0 (now (t .entry)))) (now (area .entry)) at r (now (area .exit)) ⌝ }
 {
     let mut next = at;
     let mut i = 0;
     while i < t.len() {
         let p = parameters::parameter_at(rules::CHARACTERISTICS, t, i);
-        let count = p.next - i - 2;
+        let count = p.next - i - parameters::HEAD;
         next = put_setting(p.selector, p.first, p.second, p.third, count, area, next);
         i = p.next;
     }
@@ -28,7 +29,7 @@ fn put_settings(t: &[u8], area: &mut [u8], at: usize) -> usize
 
 // The list of a message; in the others every bit is used.
 pub(crate) fn put_list(kind: u8, list: Span, s: &[u8], area: &mut [u8], at: usize) -> usize
-    requires { ⌜ (kind ≡ 11 → soundFrom 11 0 (spanOf (now s) list) ≡ true) ⌝ }
+    requires { ⌜ (kind ≡ characteristics → soundFrom characteristics 0 (spanOf (now s) list) ≡ true) ⌝ }
     ensures { λ r. ⌜ Puts (listBytes kind (spanOf (now (s .entry)) list)) (now (area .entry)) at r (now (area .exit)) ⌝ }
 {
     let t = message::span_of(s, list);

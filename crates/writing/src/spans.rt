@@ -4,6 +4,7 @@ ghost use Rattle.message.specs.Found.{lies};
 ghost use Rattle.writing.specs.Spans.{spansOf, sizeOf, inside, bare, withText, withList, initiateSpans, startReadSpans};
 use message::Message;
 use message::Span;
+use rules::layout;
 
 // `head` is how many bytes stand in front of the list, or of the text; a set has its count among them. A span that a message
 // does not have is empty.
@@ -57,7 +58,7 @@ fn initiate_spans(list: Span, revision: Span) -> Spans
     let none = Span { start: 0, len: 0 };
     Spans {
         kind: rules::INITIATE,
-        head: 13,
+        head: layout::INITIATE,
         list,
         set: none,
         text: none,
@@ -71,7 +72,7 @@ fn start_read_spans(set: Span, text: Span) -> Spans
     let none = Span { start: 0, len: 0 };
     Spans {
         kind: rules::START_READ,
-        head: 17,
+        head: layout::START_READ,
         list: none,
         set,
         text,
@@ -85,30 +86,34 @@ pub(crate) fn spans_of(m: Message) -> Spans
     match m {
         Message::Initiate(f) => initiate_spans(f.parameters, f.revision),
         Message::StartRead(f) => start_read_spans(f.set, f.text),
-        Message::ReadData(f) => with_text(rules::READ_DATA, 8, f.text),
+        Message::ReadData(f) => with_text(rules::READ_DATA, layout::READ_DATA, f.text),
         Message::OutOfBand {
             discard: _,
             character: _,
-        } => bare(rules::OUT_OF_BAND, 3),
-        Message::Unread { condition: _ } => bare(rules::UNREAD, 2),
-        Message::ClearInput => bare(rules::CLEAR_INPUT, 2),
-        Message::Write(f) => with_text(rules::WRITE, 5, f.text),
+        } => bare(rules::OUT_OF_BAND, layout::OUT_OF_BAND),
+        Message::Unread { condition: _ } => bare(rules::UNREAD, layout::BARE),
+        Message::ClearInput => bare(rules::CLEAR_INPUT, layout::BARE),
+        Message::Write(f) => with_text(rules::WRITE, layout::WRITE, f.text),
         Message::WriteCompletion {
             lost: _,
             horizontal: _,
             vertical: _,
-        } => bare(rules::WRITE_COMPLETION, 6),
-        Message::DiscardState { kept: _ } => bare(rules::DISCARD_STATE, 2),
+        } => bare(rules::WRITE_COMPLETION, layout::WRITE_COMPLETION),
+        Message::DiscardState { kept: _ } => bare(rules::DISCARD_STATE, layout::BARE),
         Message::ReadCharacteristics { parameters } => with_list(
             rules::READ_CHARACTERISTICS,
-            2,
+            layout::BARE,
             parameters,
         ),
-        Message::Characteristics { parameters } => with_list(rules::CHARACTERISTICS, 2, parameters),
-        Message::CheckInput => bare(rules::CHECK_INPUT, 2),
-        Message::InputCount { count: _ } => bare(rules::INPUT_COUNT, 4),
-        Message::InputState { nonzero: _ } => bare(rules::INPUT_STATE, 2),
-        Message::Other { kind, body } => with_text(kind, 1, body),
+        Message::Characteristics { parameters } => with_list(
+            rules::CHARACTERISTICS,
+            layout::BARE,
+            parameters,
+        ),
+        Message::CheckInput => bare(rules::CHECK_INPUT, layout::BARE),
+        Message::InputCount { count: _ } => bare(rules::INPUT_COUNT, layout::INPUT_COUNT),
+        Message::InputState { nonzero: _ } => bare(rules::INPUT_STATE, layout::BARE),
+        Message::Other { kind, body } => with_text(kind, layout::TYPE_ALONE, body),
     }
 }
 

@@ -1,0 +1,30 @@
+// Character codes, as in specs/Screen.antt, specs/Token.antt and specs/Editing.antt.
+
+pub const SOH: u8 = 1;
+
+pub const BEL: u8 = 7;
+
+pub const BS: u8 = 8;
+
+pub const HT: u8 = 9;
+
+pub const LF: u8 = 10;
+
+pub const CR: u8 = 13;
+
+pub const ESC: u8 = 27;
+
+// the last of the controls below the marks
+pub const LAST_CONTROL: u8 = 31;
+
+pub const SP: u8 = 32;
+
+pub const QUESTION: u8 = b'?';
+
+pub const BRACKET: u8 = b'[';
+
+pub const CARET: u8 = b'^';
+
+pub const DEL: u8 = 127;
+
+pub const CSI: u8 = 155;

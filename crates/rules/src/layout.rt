@@ -1,0 +1,36 @@
+// How a message stands in bytes, as in specs/Messages/Forms.antt: where its type and its flags are, and how many bytes stand in
+// front of its list or its text. Of a message that has neither these are all its bytes.
+
+pub const MSGTYPE: usize = 0;
+
+pub const FLAGS: usize = 1;
+
+// MSGTYPE alone, and with FLAGS of one byte
+pub const TYPE_ALONE: u16 = 1;
+
+pub const BARE: u16 = 2;
+
+pub const INITIATE: u16 = 13;
+
+// with the count of its termination set
+pub const START_READ: u16 = 17;
+
+pub const READ_DATA: u16 = 8;
+
+pub const OUT_OF_BAND: u16 = 3;
+
+pub const WRITE: u16 = 5;
+
+pub const WRITE_COMPLETION: u16 = 6;
+
+pub const INPUT_COUNT: u16 = 4;
+
+// Initiate's REVISION
+pub const REVISION: u16 = 8;
+
+// FLAGS of a Start Read and of a Write, and a word
+pub const START_READ_FLAGS: u8 = 3;
+
+pub const WRITE_FLAGS: u8 = 2;
+
+pub const WORD: u8 = 2;
