@@ -13,7 +13,7 @@ use Rattle.parameters.specs.declared.Parameter.{Parameter}
 use Rattle.parameters.specs.Lists.{ParameterIs, parametersFrom, usedAt}
 use Rattle.parameters.proofs.Shapes.{parameters-end}
 use Rattle.characteristics.specs.declared.Host as declared
-use Rattle.characteristics.specs.View.{Kept}
+use Rattle.characteristics.specs.View.{KeepsSettings}
 
 module _ {at : ℕ} {s : List ℕ} {p : Parameter} (is : ParameterIs 11 at s p) (h : Host) where
   abbrev here : List ℕ
@@ -47,5 +47,5 @@ pub obeys-none : (at : ℕ) (s : List ℕ) (h : Host) → length s ≤ at → wi
 unfolding withParameters
 obeys-none at s h l = ap (λ ps. withParameters ps h) (parameters-end 11 at s l)
 
-pub kept-then : {a b c : declared.Host} → Kept a b → Kept b c → Kept a c
-kept-then f g = record { begun = g .begun ∙ f .begun; set = g .set ∙ f .set; counted = λ k. g .counted (f .counted k) }
+pub kept-then : {a b c : declared.Host} → KeepsSettings a b → KeepsSettings b c → KeepsSettings a c
+kept-then f g = record { initiated = g .initiated ∙ f .initiated; set = g .set ∙ f .set; counted = λ k. g .counted (f .counted k) }

@@ -20,7 +20,7 @@ switchesOf s =
 
 abbrev pub hostOf : Host → rules.Host
 hostOf h =
-    record { begun = h .begun; switches = switchesOf (h .switches); attributes = h .attributes; lastSet = setOf (h .«last_set») }
+    record { initiated = h .initiated; switches = switchesOf (h .switches); attributes = h .attributes; lastSet = setOf (h .«last_set») }
 
 pub record CountedSet (s : Set) : Type 0 where
   pub size : length (s .bytes) ≡ setSize
@@ -31,7 +31,7 @@ pub record CountedHost (h : Host) : Type 0 where
   pub set : CountedSet (h .«last_set»)
 
 -- what settings leave as it is
-pub record Kept (h r : Host) : Type 0 where
-  pub begun : r .begun ≡ h .begun
+pub record KeepsSettings (h r : Host) : Type 0 where
+  pub initiated : r .initiated ≡ h .initiated
   pub set : r .«last_set» ≡ h .«last_set»
   pub counted : CountedHost h → CountedHost r

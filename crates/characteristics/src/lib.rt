@@ -22,7 +22,7 @@ pub struct Set {
 // What the host has set.
 pub struct Host {
     // Initiate was accepted
-    pub begun: bool,
+    pub initiated: bool,
     pub switches: Switches,
     pub attributes: [u8; rules::CODES],
     // the last set given with ZZ 1

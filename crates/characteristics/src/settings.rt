@@ -7,7 +7,7 @@ ghost use Rattle.rules.specs.Messages.Forms.{characteristics};
 ghost use Rattle.rules.specs.Messages.Parameters.{selector};
 ghost use Rattle.rules.specs.Characteristics.{isCarried, withSwitch, withParameter, withParameters, carriesSettings};
 ghost use Rattle.parameters.specs.Lists.{ParameterIs, parametersFrom, usedAt};
-ghost use Rattle.characteristics.specs.View.{switchesOf, hostOf, Kept};
+ghost use Rattle.characteristics.specs.View.{switchesOf, hostOf, KeepsSettings};
 ghost use Rattle.characteristics.specs.Lists.{settingsIn};
 use crate::Host;
 use crate::Switches;
@@ -78,7 +78,7 @@ impl Host {
     // One parameter of a Characteristics message, wherever it stood.
     fn with_setting(self, p: Parameter) -> Host
         ensures same { λ r. ⌜ ((at : ℕ) (s : List ℕ) → ParameterIs characteristics at s p → hostOf r ≡ withParameter (usedAt characteristics at s) (hostOf self)) ⌝ }
-        ensures kept { λ r. ⌜ Kept self r ⌝ }
+        ensures kept { λ r. ⌜ KeepsSettings self r ⌝ }
     {
         let mut next = self;
         if p.selector == selectors::CHARACTER_ATTRIBUTES {
@@ -95,7 +95,7 @@ impl Host {
 
     // All parameters of a Characteristics message, in order.
     pub fn with_settings(self, list: &[u8]) -> Host
-        ensures { λ r. ⌜ (hostOf r ≡ withParameters (parametersFrom characteristics 0 (now (list .entry))) (hostOf self)) × Kept self r ⌝ }
+        ensures { λ r. ⌜ (hostOf r ≡ withParameters (parametersFrom characteristics 0 (now (list .entry))) (hostOf self)) × KeepsSettings self r ⌝ }
     {
         let mut host = self;
         let mut at = 0;

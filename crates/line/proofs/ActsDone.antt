@@ -33,7 +33,7 @@ use Rattle.line.specs.With.{onKeys, lent}
 use Rattle.line.specs.KeyArray.{keysAfter}
 use Rattle.line.specs.Host.{Accepted}
 use Rattle.line.specs.Promise.{Progress, on, Does}
-use Rattle.line.specs.Acts.{actRule, callsOf, Ready, Fits, Done, Meets}
+use Rattle.line.specs.Acts.{actRule, callKindsOf, Ready, Fits, Done, Meets}
 use Rattle.line.proofs.acts.Act.{the-type}
 use Rattle.line.proofs.ReceivedMessage.{true-false}
 use Rattle.line.proofs.EventRules.{eventOf, Admitted}
@@ -81,10 +81,10 @@ hostRest = 0 ∷ 1 ∷ 2 ∷ 3 ∷ 4 ∷ 5 ∷ 6 ∷ 7 ∷ 8 ∷ 9 ∷ 10 ∷ 11
 
 -- an act that a call may meet and for which it has no arm is none
 pub record Rest (a : Act) : Type 0 where
-  pub key : callsOf a .key ≡ true → OneOf keyRest (tagOf the-type a) → a ≡ Nothing
-  pub step : callsOf a .step ≡ true → OneOf stepRest (tagOf the-type a) → a ≡ Nothing
-  pub tick : callsOf a .tick ≡ true → OneOf tickRest (tagOf the-type a) → a ≡ Nothing
-  pub host : callsOf a .host ≡ true → OneOf hostRest (tagOf the-type a) → a ≡ Nothing
+  pub key : callKindsOf a .key ≡ true → OneOf keyRest (tagOf the-type a) → a ≡ Nothing
+  pub step : callKindsOf a .step ≡ true → OneOf stepRest (tagOf the-type a) → a ≡ Nothing
+  pub tick : callKindsOf a .tick ≡ true → OneOf tickRest (tagOf the-type a) → a ≡ Nothing
+  pub host : callKindsOf a .host ≡ true → OneOf hostRest (tagOf the-type a) → a ≡ Nothing
 
 foreign : {A B : Type 0} → false ≡ true → A → B
 foreign e = absurd (true-false (sym e))

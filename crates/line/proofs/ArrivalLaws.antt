@@ -52,7 +52,7 @@ module _ (w : Work) (c : CountedFlow (w .flow)) (room : w .flow .typed .waiting 
   pub kept-counted : CountedFlow (kept (w .flow))
   kept-counted =
       record {
-        typed = record { waiting = omega arith; token = c .typed .token; begun = c .typed .begun };
+        typed = record { waiting = omega arith; token = c .typed .token; tokenLength = c .typed .tokenLength };
         within = c .within;
       }
 

@@ -22,7 +22,7 @@ use Rattle.line.specs.declared.Line.{Line}
 use Rattle.line.specs.View.{view}
 use Rattle.line.specs.Bounded.{Bounded}
 use Rattle.line.specs.Chains.{Link, Kept, Chain, FromFresh, callOf, callsOf, outsideData, seenOf}
-use Rattle.line.specs.Chains.{ChainsLookTheSame, ProgramDemand3, ProgramDemand3Weak, Meets, AllMeet, ProgramBench}
+use Rattle.line.specs.Chains.{ChainsLookTheSame, ProgramDemand3, ProgramDemand3Weak, GivesExchange, AllGive, ProgramBench}
 use Rattle.line.proofs.Blanking.{area-walks}
 
 -- the bytes in front of an area, up to their count
@@ -79,7 +79,7 @@ program-demand3-weak = carried unacted demand3-weak
 -- The bench table.
 
 -- a link whose answer by the rules is an exchange's
-link-meets : (l : Line) (e : Exchange) (k : Link) → Kept l k → answersAs e (answer codes (callOf k) (view l)) ≡ true → Meets e k
+link-meets : (l : Line) (e : Exchange) (k : Link) → Kept l k → answersAs e (answer codes (callOf k) (view l)) ≡ true → GivesExchange e k
 unfolding answersAs
 link-meets l e k kept h =
     let p = kept .promise in
@@ -100,7 +100,7 @@ link-meets l e k kept h =
     }
 
 chain-meets : (es : List Exchange) (l : Line) (ks : List Link) → Chain l ks → callsOf ks ≡ map (λ e. e .call) es → runsAs (view l) es ≡ true →
-    AllMeet es ks
+    AllGive es ks
 unfolding runsAs
 chain-meets [] l [] c q h = tt
 chain-meets [] l (k ∷ ks) c q h = let no : _≡_ {A = ℕ} 0 1 = cc in omega arith

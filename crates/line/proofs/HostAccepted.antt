@@ -30,7 +30,7 @@ use Rattle.line.specs.declared.events.HostMessage.{HostMessage}
 use Rattle.line.specs.declared.events.HostMessage.the-variants.{Initiate, StartRead, Unread, ClearInput, Write, ReadCharacteristics, Characteristics, CheckInput}
 use Rattle.line.specs.View.{view}
 use Rattle.line.specs.StartRead.{Startable}
-use Rattle.line.specs.Host.{messageOf, senderOf, Accepted, flowRule, Startables, Prompts, SetBy, Reported}
+use Rattle.line.specs.Host.{messageOf, senderOf, Accepted, flowRule, StartableMessage, Prompts, SetBy, Reported}
 use Rattle.line.specs.Promise.{Progress, Does}
 
 sender-same : {g h : HostMessage} → sender.Host g ≡ sender.Host h → g ≡ h
@@ -59,7 +59,7 @@ start-known l s f a =
     let k = received.startable x refl (carried l s (StartRead f) a x refl) (fit l s (StartRead f) a x refl) in
     record { text = k .text; prompt = k .prompt; within = k .room; largest = k .largest; set = k .setLength }
 
-pub startables : (l : Line) (s : List ℕ) (m : HostMessage) → Accepted l s m → Startables s m
+pub startables : (l : Line) (s : List ℕ) (m : HostMessage) → Accepted l s m → StartableMessage s m
 startables l s (Initiate f) a = tt
 startables l s (StartRead f) a = start-known l s f a
 startables l s (Unread condition) a = tt

@@ -29,7 +29,7 @@ unfolding tokenOf
 nothing-typed keys text f c full =
     let t = f .typed in
     sym (ap₂ _&&_
-    (ap₂ _&&_ (keys-empty (t .waiting) keys) (empty-take (t .«token_len») (t .token) (omega (arith, c .typed .begun, c .typed .token))))
+    (ap₂ _&&_ (keys-empty (t .waiting) keys) (empty-take (t .«token_len») (t .token) (omega (arith, c .typed .tokenLength, c .typed .token))))
     (input-empty (f .reading) text full))
 
 pub some-text : (text : List ℕ) → not (eqb (length text) 0) ≡ not (isEmpty text)

@@ -63,7 +63,7 @@ has-taken w next c waits e =
     let within = ap (λ r. r .count) e in
     record {
       counted = record {
-        typed = record { waiting = omega (arith, c .typed .waiting); token = c .typed .token; begun = c .typed .begun };
+        typed = record { waiting = omega (arith, c .typed .waiting); token = c .typed .token; tokenLength = c .typed .tokenLength };
         within = omega (arith, c .within);
       };
       does = λ l size t m.

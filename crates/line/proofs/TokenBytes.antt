@@ -79,13 +79,13 @@ module _ (t : Typed) (c : CountedTyped t) where
 
   pub tokened-counted : (b : ℕ) → t .«token_len» < tokenSize → CountedTyped (tokened b t)
   tokened-counted b h =
-      record { waiting = c .waiting; token = length-set (t .token) (t .«token_len») b ∙ c .token; begun = omega arith }
+      record { waiting = c .waiting; token = length-set (t .token) (t .«token_len») b ∙ c .token; tokenLength = omega arith }
 
   pub grown-counted : (b : ℕ) {next : Typed} → t .«token_len» < tokenSize → next ≡ tokened b t → CountedTyped next
   grown-counted b h e = rw e (tokened-counted b h)
 
   pub untokened-counted : {next : Typed} → next ≡ untokened t → CountedTyped next
-  untokened-counted e = rw e (record { waiting = c .waiting; token = c .token; begun = omega arith })
+  untokened-counted e = rw e (record { waiting = c .waiting; token = c .token; tokenLength = omega arith })
 
   pub emptied-counted : {next : Typed} → next ≡ emptied t → CountedTyped next
-  emptied-counted e = rw e (record { waiting = omega arith; token = c .token; begun = omega arith })
+  emptied-counted e = rw e (record { waiting = omega arith; token = c .token; tokenLength = omega arith })

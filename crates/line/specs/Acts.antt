@@ -29,7 +29,7 @@ use Rattle.line.specs.With.{onFlow, onKeys, lent}
 use Rattle.line.specs.KeyArray.{keysAfter, shifted}
 use Rattle.line.specs.Bounded.{CountedFlow}
 use Rattle.line.specs.Promise.{on, Does}
-use Rattle.line.specs.Host.{messageOf, Accepted, obeysHeld, flowRule, Startables, Prompts}
+use Rattle.line.specs.Host.{messageOf, Accepted, obeysHeld, flowRule, StartableMessage, Prompts}
 
 -- the read of a line, with idle at 0
 abbrev pub idleAtZero : Line → rules.Reading ℕ
@@ -73,26 +73,26 @@ pub record CanTakeKey (f : Flow) (t : Terms) : Type 0 where
   pub short : f .typed .«token_len» < tokenSize
 
 -- the calls that may meet an act
-pub record Calls : Type 0 where
+pub record CallKinds : Type 0 where
   pub key : Bool
   pub step : Bool
   pub tick : Bool
   pub host : Bool
 
-abbrev pub callsOf : Act → Calls
-callsOf Nothing = record { key = true; step = true; tick = true; host = true }
-callsOf (Stores c) = record { key = true; step = false; tick = false; host = false }
-callsOf (StoresQuoted c) = record { key = true; step = false; tick = false; host = false }
-callsOf (SendsOutOfBand c) = record { key = true; step = false; tick = false; host = false }
-callsOf (ClearsAtOnce c) = record { key = true; step = false; tick = false; host = false }
-callsOf Quotes = record { key = true; step = false; tick = false; host = false }
-callsOf Clears = record { key = true; step = false; tick = false; host = false }
-callsOf FlipsDiscard = record { key = true; step = false; tick = false; host = false }
-callsOf TakesToken = record { key = false; step = true; tick = false; host = false }
-callsOf (Takes k) = record { key = false; step = true; tick = false; host = false }
-callsOf TimesOut = record { key = false; step = true; tick = true; host = false }
-callsOf (Idles idle) = record { key = false; step = false; tick = true; host = false }
-callsOf (Obeys m) = record { key = false; step = false; tick = false; host = true }
+abbrev pub callKindsOf : Act → CallKinds
+callKindsOf Nothing = record { key = true; step = true; tick = true; host = true }
+callKindsOf (Stores c) = record { key = true; step = false; tick = false; host = false }
+callKindsOf (StoresQuoted c) = record { key = true; step = false; tick = false; host = false }
+callKindsOf (SendsOutOfBand c) = record { key = true; step = false; tick = false; host = false }
+callKindsOf (ClearsAtOnce c) = record { key = true; step = false; tick = false; host = false }
+callKindsOf Quotes = record { key = true; step = false; tick = false; host = false }
+callKindsOf Clears = record { key = true; step = false; tick = false; host = false }
+callKindsOf FlipsDiscard = record { key = true; step = false; tick = false; host = false }
+callKindsOf TakesToken = record { key = false; step = true; tick = false; host = false }
+callKindsOf (Takes k) = record { key = false; step = true; tick = false; host = false }
+callKindsOf TimesOut = record { key = false; step = true; tick = true; host = false }
+callKindsOf (Idles idle) = record { key = false; step = false; tick = true; host = false }
+callKindsOf (Obeys m) = record { key = false; step = false; tick = false; host = true }
 
 -- what is known of the line once an act is chosen
 abbrev pub Ready : List ℕ → Line → Act → Type 0
@@ -152,7 +152,7 @@ Fits s f t TakesToken = HasRoom t (f .reading)
 Fits s f t (Takes k) = CanTakeKey f t
 Fits s f t TimesOut = Unit {0}
 Fits s f t (Idles idle) = Unit {0}
-Fits s f t (Obeys m) = Startables s m
+Fits s f t (Obeys m) = StartableMessage s m
 
 -- the act's part, but of a host message without what it sets and reports
 abbrev pub flowAct : List ℕ → Line → Act → Rule ℕ

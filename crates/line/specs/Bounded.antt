@@ -18,7 +18,7 @@ use Rattle.line.specs.View.{terminalOf, view}
 pub record CountedTyped (t : Typed) : Type 0 where
   pub waiting : t .waiting ≤ typeAheadSize
   pub token : length (t .token) ≡ tokenSize
-  pub begun : t .«token_len» ≤ tokenSize
+  pub tokenLength : t .«token_len» ≤ tokenSize
 
 pub record CountedFlow (f : Flow) : Type 0 where
   pub typed : CountedTyped (f .typed)

@@ -95,7 +95,7 @@ abbrev pub ProgramDemand3Weak : Type 0
 ProgramDemand3Weak = ChainsLookTheSame unacted
 
 -- a link answers as the bench table has it: number, counts, both areas whole, the dropped count
-pub record Meets (e : Exchange) (k : Link) : Type 0 where
+pub record GivesExchange (e : Exchange) (k : Link) : Type 0 where
   pub number : k .answer .number ≡ e .number
   pub shown : k .answer .terminal ≡ length (e .terminal)
   pub sent : k .answer .messages ≡ length (e .messages)
@@ -103,14 +103,14 @@ pub record Meets (e : Exchange) (k : Link) : Type 0 where
   pub messages : k .messages′ ≡ areaAfter (e .messages) (k .messages)
   pub dropped : k .dropped ≡ e .dropped
 
-abbrev pub AllMeet : List Exchange → List Link → Type 0
-AllMeet [] [] = Unit {0}
-AllMeet [] (k ∷ ks) = ⊥
-AllMeet (e ∷ es) [] = ⊥
-AllMeet (e ∷ es) (k ∷ ks) = Meets e k × AllMeet es ks
+abbrev pub AllGive : List Exchange → List Link → Type 0
+AllGive [] [] = Unit {0}
+AllGive [] (k ∷ ks) = ⊥
+AllGive (e ∷ es) [] = ⊥
+AllGive (e ∷ es) (k ∷ ks) = GivesExchange e k × AllGive es ks
 
 -- The bench table: for each of its rows of calls, every chain from a fresh line that makes these calls gives the row's answers.
 abbrev pub ProgramBench : Type 0
 ProgramBench =
     (es : List Exchange) → List·Memᴰ (runs es) (starred ++ warned) →
-    (ks : List Link) → FromFresh ks → callsOf ks ≡ map (λ e. e .call) es → AllMeet es ks
+    (ks : List Link) → FromFresh ks → callsOf ks ≡ map (λ e. e .call) es → AllGive es ks

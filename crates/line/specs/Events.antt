@@ -16,7 +16,7 @@ use Rattle.line.specs.declared.events.Event.{Event}
 use Rattle.line.specs.declared.events.Event.the-variants.{Key, Tick, Step, Host}
 use Rattle.line.specs.declared.acts.Act.{Act}
 use Rattle.line.specs.TokenChanges.{codesOf}
-use Rattle.line.specs.Acts.{callsOf, TakesFirst}
+use Rattle.line.specs.Acts.{callKindsOf, TakesFirst}
 use Rattle.line.specs.Bounded.{Bounded}
 use Rattle.line.specs.Host.{messageOf, Accepted, obeysHeld}
 
@@ -35,10 +35,10 @@ Sees s l seen (Host m) = Accepted l s m
 
 -- an event may meet this act
 abbrev pub isActOf : Event → Act → Bool
-isActOf (Key c) a = callsOf a .key
-isActOf Tick a = callsOf a .tick
-isActOf Step a = callsOf a .step
-isActOf (Host m) a = callsOf a .host
+isActOf (Key c) a = callKindsOf a .key
+isActOf Tick a = callKindsOf a .tick
+isActOf Step a = callKindsOf a .step
+isActOf (Host m) a = callKindsOf a .host
 
 -- the part of the rules that an event is
 unfoldable pub eventRule : List ℕ → Event → Rule ℕ

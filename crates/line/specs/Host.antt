@@ -86,15 +86,15 @@ flowRule s l (Characteristics p) = still
 flowRule s l CheckInput = checksInput
 
 -- what a message must be for its rule to be safe: a Start Read has passed its test
-abbrev pub Startables : List ℕ → HostMessage → Type 0
-Startables s (Initiate f) = Unit {0}
-Startables s (StartRead f) = Startable s f
-Startables s (Unread condition) = Unit {0}
-Startables s ClearInput = Unit {0}
-Startables s (Write f) = Unit {0}
-Startables s (ReadCharacteristics p) = Unit {0}
-Startables s (Characteristics p) = Unit {0}
-Startables s CheckInput = Unit {0}
+abbrev pub StartableMessage : List ℕ → HostMessage → Type 0
+StartableMessage s (Initiate f) = Unit {0}
+StartableMessage s (StartRead f) = Startable s f
+StartableMessage s (Unread condition) = Unit {0}
+StartableMessage s ClearInput = Unit {0}
+StartableMessage s (Write f) = Unit {0}
+StartableMessage s (ReadCharacteristics p) = Unit {0}
+StartableMessage s (Characteristics p) = Unit {0}
+StartableMessage s CheckInput = Unit {0}
 
 -- the terms' auto prompt is the line's characteristic, which a rule that sees no line cannot look up
 abbrev pub Prompts : Terms → Line → HostMessage → Type 0
@@ -172,4 +172,4 @@ Reported s CheckInput l before place after = NoReport before place after
 -- what the host has set, as the characteristics look at it
 abbrev pub hostStruct : Line → Host
 hostStruct l =
-    record { begun = l .initiated; switches = l .switches; attributes = l .attributes; «last_set» = l .«last_set» }
+    record { initiated = l .initiated; switches = l .switches; attributes = l .attributes; «last_set» = l .«last_set» }

@@ -84,7 +84,7 @@ pendingOf false r = none
 
 abbrev pub hostOf : Line → rules.Host
 hostOf l =
-    record { begun = l .initiated; switches = switchesOf (l .switches); attributes = l .attributes; lastSet = setOf (l .«last_set») }
+    record { initiated = l .initiated; switches = switchesOf (l .switches); attributes = l .attributes; lastSet = setOf (l .«last_set») }
 
 abbrev pub view : Line → rules.State ℕ
 view l =

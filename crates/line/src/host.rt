@@ -10,7 +10,7 @@ ghost use Rattle.rules.specs.ReadData as reads;
 ghost use Rattle.line.specs.declared.Line.{Line};
 ghost use Rattle.line.specs.Bounded.{CountedFlow};
 ghost use Rattle.line.specs.With.{onFlow, lent};
-ghost use Rattle.line.specs.Host.{Startables, Prompts, flowRule};
+ghost use Rattle.line.specs.Host.{StartableMessage, Prompts, flowRule};
 ghost use Rattle.line.specs.Promise.{on, Does, DoesOn};
 use crate::Terms;
 use crate::Work;
@@ -70,7 +70,7 @@ impl Work {
         requires { ⌜ CountedFlow (self .flow) ⌝ }
         requires { ⌜ length (now text) ≡ inputSize ⌝ }
         requires { ⌜ t .«prompt_len» ≤ inputSize ⌝ }
-        requires { ⌜ Startables (now s) m ⌝ }
+        requires { ⌜ StartableMessage (now s) m ⌝ }
         ensures counted { λ w. ⌜ CountedFlow (w .flow) ⌝ }
         ensures rule { λ w.
             ⌜ ((l : Line) → Prompts t l m →

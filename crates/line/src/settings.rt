@@ -2,7 +2,7 @@
 ghost use mathlib.Core.Path.{_≡_};
 ghost use Rattle.message.specs.Found.{spanOf};
 ghost use Rattle.line.specs.Bounded.{Counted};
-ghost use Rattle.line.specs.Host.{Startables, onInitiated, onHost, Sets, SetBy, Reported, hostStruct};
+ghost use Rattle.line.specs.Host.{StartableMessage, onInitiated, onHost, Sets, SetBy, Reported, hostStruct};
 use crate::Line;
 use crate::events::HostMessage;
 use characteristics::Host;
@@ -17,7 +17,7 @@ impl Line {
         let attributes = self.attributes;
         let last_set = self.last_set;
         Host {
-            begun: self.initiated,
+            initiated: self.initiated,
             switches,
             attributes,
             last_set,
@@ -33,7 +33,7 @@ impl Line {
         let mut next = self;
         next.attributes = attributes;
         next.last_set = last_set;
-        next.initiated = h.begun;
+        next.initiated = h.initiated;
         next.switches = switches;
         next
     }
@@ -61,7 +61,7 @@ impl Line {
     // By the message's type.
     pub(crate) fn set_by(self, m: HostMessage, s: &[u8]) -> Line
         requires { ⌜ Counted self ⌝ }
-        requires { ⌜ Startables (now s) m ⌝ }
+        requires { ⌜ StartableMessage (now s) m ⌝ }
         ensures { λ r. ⌜ SetBy (now (s .entry)) m self r ⌝ }
     {
         match m {

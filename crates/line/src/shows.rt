@@ -84,7 +84,7 @@ impl Work {
         let known = flow.terminal;
         let screen = known.screen;
         let at = self.at;
-        let shown = screen::echo::terminator_echo(screen, terminal, at, n);
+        let shown = screen::echo::echo_terminator(screen, terminal, at, n);
         self.showing(shown)
     }
 

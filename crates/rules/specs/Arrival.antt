@@ -150,4 +150,4 @@ module _ {C : Type 0} (chars : Characters C) where
   arrives c =
       here (λ s.
       tells (arrived c (isHello (attributeOf c s) || isImmediateClear (attributeOf c s)) ∷ []) then
-      pick (s .host .begun) (byFirstRule c) (stores typeAheadSize false c))
+      pick (s .host .initiated) (byFirstRule c) (stores typeAheadSize false c))

@@ -90,7 +90,7 @@ module _ {C : Type 0} where
   -- 4: first accepted message not Initiate; Initiate again; Start Read with a read pending
   unfoldable pub isTimely : ℕ → State C → Bool
   isTimely kind s =
-      pick (s .host .begun)
+      pick (s .host .initiated)
       (not (eqb kind forms.initiate) && not (eqb kind forms.startRead && isPending (s .read)))
       (eqb kind forms.initiate)
 

@@ -11,7 +11,7 @@ use Rattle.rules.specs.Messages.Forms as forms
 use Rattle.rules.specs.Messages.Forms.{Message, plain}
 use Rattle.rules.specs.Messages.Fields.{keepsOutput, wantsCompletion}
 use Rattle.rules.specs.Screen.{SP, change}
-use Rattle.rules.specs.State.{Characters, State, withHost, withTerminal, withBegun, withDiscarding}
+use Rattle.rules.specs.State.{Characters, State, withHost, withTerminal, withInitiated, withDiscarding}
 use Rattle.rules.specs.Turns.{Rule, writes, sends, changes, here, _then_, only}
 use Rattle.rules.specs.ReadData.{unreads, checksInput}
 use Rattle.rules.specs.Arrival.{rubbingOut, clearRule}
@@ -31,7 +31,7 @@ ourInitiate =
 
 module _ {C : Type 0} where
   unfoldable pub initiates : Rule C
-  initiates = changes (λ s. withHost (withBegun true (s .host)) s) then sends ourInitiate
+  initiates = changes (λ s. withHost (withInitiated true (s .host)) s) then sends ourInitiate
 
   -- positions are changes since the state before; output is lost when there was some and it was discarded
   unfoldable pub completion : Message ℕ → State C → State C → Message C

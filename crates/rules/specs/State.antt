@@ -34,7 +34,7 @@ pub record Switches : Type 0 where
 -- what the host has set
 pub record Host : Type 0 where
   -- Initiate was accepted
-  pub begun : Bool
+  pub initiated : Bool
   pub switches : Switches
   -- an attribute for each character code
   pub attributes : List ℕ
@@ -104,7 +104,7 @@ unfoldable pub freshSwitches : Switches
 freshSwitches = record { raising = false; echoing = true; recognising = false; prompting = false }
 
 unfoldable pub freshHost : Host
-freshHost = record { begun = false; switches = freshSwitches; attributes = replicate codeCount 0; lastSet = universal }
+freshHost = record { initiated = false; switches = freshSwitches; attributes = replicate codeCount 0; lastSet = universal }
 
 unfoldable pub freshTerminal : Terminal
 freshTerminal =
@@ -115,16 +115,16 @@ fresh = record { host = freshHost; terminal = freshTerminal; typed = record { ty
 
 -- One part changed.
 abbrev pub withSwitches : Switches → Host → Host
-withSwitches x h = record { begun = h .begun; switches = x; attributes = h .attributes; lastSet = h .lastSet }
+withSwitches x h = record { initiated = h .initiated; switches = x; attributes = h .attributes; lastSet = h .lastSet }
 
 abbrev pub withAttributes : List ℕ → Host → Host
-withAttributes x h = record { begun = h .begun; switches = h .switches; attributes = x; lastSet = h .lastSet }
+withAttributes x h = record { initiated = h .initiated; switches = h .switches; attributes = x; lastSet = h .lastSet }
 
 abbrev pub withLastSet : List ℕ → Host → Host
-withLastSet x h = record { begun = h .begun; switches = h .switches; attributes = h .attributes; lastSet = x }
+withLastSet x h = record { initiated = h .initiated; switches = h .switches; attributes = h .attributes; lastSet = x }
 
-abbrev pub withBegun : Bool → Host → Host
-withBegun x h = record { begun = x; switches = h .switches; attributes = h .attributes; lastSet = h .lastSet }
+abbrev pub withInitiated : Bool → Host → Host
+withInitiated x h = record { initiated = x; switches = h .switches; attributes = h .attributes; lastSet = h .lastSet }
 
 module _ {C : Type 0} where
   abbrev pub withHost : Host → State C → State C

@@ -33,7 +33,7 @@ pub fn echo(s: Screen, area: &mut [u8], at: usize, n: u8) -> Shown
 }
 
 // A terminator's: 13 is CR LF.
-pub fn terminator_echo(s: Screen, area: &mut [u8], at: usize, n: u8) -> Shown
+pub fn echo_terminator(s: Screen, area: &mut [u8], at: usize, n: u8) -> Shown
     ensures { λ r. ⌜ Writes (rules.echoTerminator (s .column) n) (now (area .entry)) at s r (now (area .exit)) ⌝ }
 {
     if n == characters::CR {

@@ -134,7 +134,7 @@ module _ (s : List ℕ) where
       let h = quarters (lies n (p .list)) (lies n (p .set)) (lies n (p .text)) (lies n (p .revision)) e in
       (span-length (p .list) (h .0), span-length (p .set) (h .1), span-length (p .text) (h .2), span-length (p .revision) (h .3))
 
-  pub inside-length : (m : Message) → inside (length s) (spansOf m) ≡ true → spans.sizeOf (spansOf m) ≡ length (bytesOf (heldIn s m))
+  pub inside-length : (m : Message) → inside (length s) (spansOf m) ≡ true → spans.spannedSize (spansOf m) ≡ length (bytesOf (heldIn s m))
   inside-length m e =
       let h = spans-length (spansOf m) e in
       let list = h .0 in
@@ -197,7 +197,7 @@ module _ {s : List ℕ} {m : Message} {x : forms.Message ℕ} (h : Sendable s m 
       ap frontBytes (h .held) ∙
       ap (λ t. x .kind ∷ (writeGroups (formOf (x .kind) .head) (x .numbers) ++ t)) (same-tail (formOf (x .kind) .tail))
 
-  pub sent-framed : layout.bytesOf 2 (spans.sizeOf (spansOf m)) ++ frontBytes (heldIn s m) ≡ framed (sentBytes x)
+  pub sent-framed : layout.bytesOf 2 (spans.spannedSize (spansOf m)) ++ frontBytes (heldIn s m) ≡ framed (sentBytes x)
   unfolding framed sentBytes bytesOf
   sent-framed =
       ap₂ (λ n b. layout.bytesOf 2 n ++ b) (inside-length s m (h .lie) ∙ ap (λ y. length (bytesOf y)) (h .held)) sent-front

@@ -40,7 +40,7 @@ use Rattle.writing.specs.declared.Written.{Written}
 use Rattle.areas.specs.Puts.{Puts}
 use Rattle.fronts.specs.Front.{frontTail, frontBytes}
 use Rattle.writing.specs.declared.spans.Spans.{Spans}
-use Rattle.writing.specs.Spans.{spansOf, sizeOf, inside, listBytes}
+use Rattle.writing.specs.Spans.{spansOf, spannedSize, inside, listBytes}
 use Rattle.writing.specs.Fits.{FitsIn}
 use Rattle.writing.specs.Writing.{Answers, firstRefusal, writing, again, copied, numberIn, bytesIn}
 use Rattle.writing.proofs.Lengths.{cut-short, inside-length, all-inside}
@@ -271,12 +271,12 @@ unfolding written
 written-rows area h long is = λ i. rows area (long i) (is i) (fitsHeld h) (sound (bytesOf h))
 
 outside-rows : (area : ℕ) (s : List ℕ) (m : Message) (x : Outcome (List ℕ)) → inside (length s) (spansOf m) ≡ false →
-    writing area s m ≡ rows area (sizeOf (spansOf m)) (spansOf m .kind) false x
+    writing area s m ≡ rows area (spannedSize (spansOf m)) (spansOf m .kind) false x
 unfolding writing writeRefusals firstOf pick
 outside-rows area s m x e = rw e refl
 
 -- What the code finds of a message.
-module _ (area : ℕ) (s : List ℕ) (m : Message) {p : Spans} (is : p ≡ spansOf m) {size : ℕ} (sized : size ≡ sizeOf p)
+module _ (area : ℕ) (s : List ℕ) (m : Message) {p : Spans} (is : p ≡ spansOf m) {size : ℕ} (sized : size ≡ spannedSize p)
     {lie fits : Bool} (lies : lie ≡ inside (length s) p) (fit : FitsIn s m fits)
     {n : ℕ} (e : n ≡ firstRefusal area size (p .kind) (lie && fits)) where
   abbrev held : Held
@@ -285,35 +285,35 @@ module _ (area : ℕ) (s : List ℕ) (m : Message) {p : Spans} (is : p ≡ spans
   abbrev lying : Bool
   lying = inside (length s) (spansOf m)
 
-  own : n ≡ firstRefusal area (sizeOf (spansOf m)) (spansOf m .kind) (lying && fitsHeld held)
+  own : n ≡ firstRefusal area (spannedSize (spansOf m)) (spansOf m .kind) (lying && fitsHeld held)
   own =
-      e ∙ (λ i. firstRefusal area ((sized ∙ ap sizeOf is) i) (is i .kind) ((lies ∙ ap (inside (length s)) is) i && fits)) ∙
-      ap (firstRefusal area (sizeOf (spansOf m)) (spansOf m .kind)) (by-places lying refl)
+      e ∙ (λ i. firstRefusal area ((sized ∙ ap spannedSize is) i) (is i .kind) ((lies ∙ ap (inside (length s)) is) i && fits)) ∙
+      ap (firstRefusal area (spannedSize (spansOf m)) (spansOf m .kind)) (by-places lying refl)
     where
       by-places : (b : Bool) → lying ≡ b → b && fits ≡ b && fitsHeld held
       by-places true l = fit .same l
       by-places false l = refl
 
-  as-rows : writing area s m ≡ rows area (sizeOf (spansOf m)) (spansOf m .kind) (lying && fitsHeld held) (sound (bytesOf held))
+  as-rows : writing area s m ≡ rows area (spannedSize (spansOf m)) (spansOf m .kind) (lying && fitsHeld held) (sound (bytesOf held))
   as-rows = by-places lying refl
     where
       by-places : (b : Bool) → lying ≡ b →
-          writing area s m ≡ rows area (sizeOf (spansOf m)) (spansOf m .kind) (b && fitsHeld held) (sound (bytesOf held))
+          writing area s m ≡ rows area (spannedSize (spansOf m)) (spansOf m .kind) (b && fitsHeld held) (sound (bytesOf held))
       by-places true l =
           writing-inside area s m l ∙ written-rows area held (sym (inside-length s m l)) (sym (kind-held s m))
       by-places false l = outside-rows area s m (sound (bytesOf held)) l
 
   pub encode-refused : (n ≡ 0 → ⊥) → writing area s m ≡ refused n
   encode-refused z =
-      as-rows ∙ rows-refused area (sizeOf (spansOf m)) (spansOf m .kind) (lying && fitsHeld held) own z (sound (bytesOf held))
+      as-rows ∙ rows-refused area (spannedSize (spansOf m)) (spansOf m .kind) (lying && fitsHeld held) own z (sound (bytesOf held))
 
   module _ (z : n ≡ 0) where
     passed : (lying ≡ true) × (fitsHeld held ≡ true)
-    passed = halves lying (fitsHeld held) (tests area (sizeOf (spansOf m)) (spansOf m .kind) (lying && fitsHeld held) own z .3)
+    passed = halves lying (fitsHeld held) (tests area (spannedSize (spansOf m)) (spansOf m .kind) (lying && fitsHeld held) own z .3)
 
     pub encode-sound : writing area s m ≡ sound (bytesOf held)
     encode-sound =
-        as-rows ∙ rows-passed area (sizeOf (spansOf m)) (spansOf m .kind) (lying && fitsHeld held) own z (sound (bytesOf held))
+        as-rows ∙ rows-passed area (spannedSize (spansOf m)) (spansOf m .kind) (lying && fitsHeld held) own z (sound (bytesOf held))
 
     pub encode-fits : fitsHeld held ≡ true
     encode-fits = passed .1
@@ -321,7 +321,7 @@ module _ (area : ℕ) (s : List ℕ) (m : Message) {p : Spans} (is : p ≡ spans
     pub encode-room : length (bytesOf held) ≤ area
     encode-room =
         let long = inside-length s m (passed .0) in
-        let room = rows-room area (sizeOf (spansOf m)) (spansOf m .kind) (lying && fitsHeld held) own z in
+        let room = rows-room area (spannedSize (spansOf m)) (spansOf m .kind) (lying && fitsHeld held) own z in
         omega arith
 
 -- Copying: what was found, written again.

@@ -12,7 +12,7 @@ use Rattle.message.specs.declared.Message.{Message}
 use Rattle.message.specs.Found.{heldIn}
 use Rattle.areas.specs.Puts.{Puts}
 use Rattle.fronts.specs.Front.{frontBytes}
-use Rattle.writing.specs.Spans.{spansOf, sizeOf, inside}
+use Rattle.writing.specs.Spans.{spansOf, spannedSize, inside}
 
 -- a message that has no parameters, whose spans lie in the slice, and what it is to the rules
 pub record Sendable (s : List ℕ) (m : Message) (x : forms.Message ℕ) : Type 0 where
@@ -25,4 +25,4 @@ pub record Sendable (s : List ℕ) (m : Message) (x : forms.Message ℕ) : Type 
 -- its parameter list, which the caller puts behind them.
 pub record Frames (s : List ℕ) (m : Message) (before : List ℕ) (at next : ℕ) (after : List ℕ) : Type 0 where
   pub sent : (x : forms.Message ℕ) → Sendable s m x → Puts (framed (sentBytes x)) before at next after
-  pub front : Puts (bytesOf 2 (sizeOf (spansOf m)) ++ frontBytes (heldIn s m)) before at next after
+  pub front : Puts (bytesOf 2 (spannedSize (spansOf m)) ++ frontBytes (heldIn s m)) before at next after

@@ -50,8 +50,8 @@ spansOf (InputState nonzero) = bare forms.inputState 2
 spansOf (Other kind body) = withText kind 1 body
 
 -- how long the message is by the lengths of its spans
-abbrev pub sizeOf : Spans → ℕ
-sizeOf p = p .head + p .list .len + p .set .len + p .text .len
+abbrev pub spannedSize : Spans → ℕ
+spannedSize p = p .head + p .list .len + p .set .len + p .text .len
 
 unfoldable pub inside : ℕ → Spans → Bool
 inside size p = lies size (p .list) && lies size (p .set) && lies size (p .text) && lies size (p .revision)

@@ -12,7 +12,7 @@ use Rattle.rules.specs.Messages.Codec.{Outcome, refused, sound, message, read, 
 use Rattle.message.specs.declared.Message.{Message}
 use Rattle.message.specs.Found.{heldIn}
 use Rattle.writing.specs.declared.Written.{Written}
-use Rattle.writing.specs.Spans.{spansOf, sizeOf, inside}
+use Rattle.writing.specs.Spans.{spansOf, spannedSize, inside}
 
 -- the number of the first refusal, or 0: by the area, the length, the type and one more test
 unfoldable pub firstRefusal : ℕ → ℕ → ℕ → Bool → ℕ
@@ -22,7 +22,7 @@ firstRefusal area size kind passes = firstOf (λ n. n) accepted (writeRefusals a
 unfoldable pub writing : ℕ → List ℕ → Message → Outcome (List ℕ)
 writing area s m =
     firstOf refused (written area (heldIn s m))
-    (writeRefusals area (sizeOf (spansOf m)) (spansOf m .kind) (inside (length s) (spansOf m)))
+    (writeRefusals area (spannedSize (spansOf m)) (spansOf m .kind) (inside (length s) (spansOf m)))
 
 -- what was read, written again
 unfoldable pub again : ℕ → Outcome (forms.Message ℕ) → Outcome (List ℕ)

@@ -1,7 +1,7 @@
 // The type and the spans of a message, by which its length is known and whether it lies in a slice.
 ghost use mathlib.Core.Path.{_≡_};
 ghost use Rattle.message.specs.Found.{lies};
-ghost use Rattle.writing.specs.Spans.{spansOf, sizeOf, inside, bare, withText, withList, initiateSpans, startReadSpans};
+ghost use Rattle.writing.specs.Spans.{spansOf, spannedSize, inside, bare, withText, withList, initiateSpans, startReadSpans};
 use message::Message;
 use message::Span;
 use rules::layout;
@@ -119,7 +119,7 @@ pub(crate) fn spans_of(m: Message) -> Spans
 
 // How long the message is, by the lengths of its spans.
 pub(crate) fn size_of(p: Spans) -> u32
-    ensures { λ r. ⌜ r ≡ sizeOf p ⌝ }
+    ensures { λ r. ⌜ r ≡ spannedSize p ⌝ }
 {
     let list = p.list;
     let set = p.set;

@@ -22,7 +22,7 @@ use Rattle.rules.proofs.TwoRuns.Twins.{Twin, both, isBoth, code₁, cod
 use Rattle.rules.proofs.TwoRuns.Twins.{Spared, isGuarded, Agree, Rules, Agreeing}
 use Rattle.rules.proofs.TwoRuns.Rules.{agrees-terminal, agrees-host, agrees-then, agrees-still, agrees-writes, agrees-sends, agrees-pick, agrees-only}
 use Rattle.rules.proofs.TwoRuns.Reads.{completes-agrees, unreads-agrees, displays-agrees}
-use Rattle.rules.proofs.TwoRuns.Bands.{Passed, Begun}
+use Rattle.rules.proofs.TwoRuns.Bands.{Passed, Initiated}
 use Rattle.rules.proofs.TwoRuns.Arrivals.{emptiesTyped-agrees, clearRule-agrees, arrives-agrees}
 use Rattle.rules.proofs.TwoRuns.Steps.{steps-agrees, ticks-agrees}
 
@@ -99,7 +99,7 @@ module _ {changed : ℕ → Bool} where
 module _ {changed : ℕ → Bool} (arrival : (Twin changed → ℕ) → Fate (Twin changed) → Bool) where
   -- rule 2 then passes a changed key over
   abbrev pub Heeded : Type 0
-  Heeded = (chars : Characters (Twin changed)) (c : Twin changed) (s : State (Twin changed)) → isBoth c ≡ false → Begun s →
+  Heeded = (chars : Characters (Twin changed)) (c : Twin changed) (s : State (Twin changed)) → isBoth c ≡ false → Initiated s →
       allAre (arrival (chars .code)) (arrives chars c s .fates) ≡ true → Passed s (chars .code c)
 
   -- all that is supposed of a run's fates

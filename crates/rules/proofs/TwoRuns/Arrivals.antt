@@ -17,7 +17,7 @@ use Rattle.rules.proofs.TwoRuns.Twins.{Twin, isBoth, code₁, code₂, 
 use Rattle.rules.proofs.TwoRuns.Twins.{LevelRead, Level, isGuarded, RulesAt, Agreeing}
 use Rattle.rules.proofs.TwoRuns.Rules.{level-emptied, agrees-terminal, agrees-then, agrees-still, agrees-changes, agrees-writes, agrees-sends, told-at, told}
 use Rattle.rules.proofs.TwoRuns.Rules.{agrees-pick, by-test, by-code}
-use Rattle.rules.proofs.TwoRuns.Bands.{attributeAt, Passed, Begun}
+use Rattle.rules.proofs.TwoRuns.Bands.{attributeAt, Passed, Initiated}
 use Rattle.rules.proofs.TwoRuns.Reads.{completes-agrees, deletesUnseen-agrees, deletes-agrees}
 
 module _ {changed : ℕ → Bool} where
@@ -104,10 +104,10 @@ module _ {changed : ℕ → Bool} where
 
   -- rule 2 passes a changed key over, by its code in each run
   pub record Unacted (c : Twin changed) (s : State (Twin changed)) : Type 0 where
-    pub first : isBoth c ≡ false → Begun s → Passed s (code₁ c)
-    pub second : isBoth c ≡ false → Begun s → Passed s (code₂ c)
+    pub first : isBoth c ≡ false → Initiated s → Passed s (code₁ c)
+    pub second : isBoth c ≡ false → Initiated s → Passed s (code₂ c)
 
-  byFirstRule-agrees : (c : Twin changed) (s : State (Twin changed)) → s .host .begun ≡ true → Unacted c s → Level s →
+  byFirstRule-agrees : (c : Twin changed) (s : State (Twin changed)) → s .host .initiated ≡ true → Unacted c s → Level s →
       RulesAt s (byFirstRule first-chars c) (byFirstRule second-chars c)
   unfolding byFirstRule
   byFirstRule-agrees c s b unacted l =
@@ -126,4 +126,4 @@ module _ {changed : ℕ → Bool} where
   unfolding arrives
   arrives-agrees c s unacted l =
       told-at _ _ _ _ l (λ x y.
-      pick-cases (RulesAt s) (s .host .begun) (λ b. byFirstRule-agrees c s b unacted l) (λ b. stores-agrees _ false c s l))
+      pick-cases (RulesAt s) (s .host .initiated) (λ b. byFirstRule-agrees c s b unacted l) (λ b. stores-agrees _ false c s l))

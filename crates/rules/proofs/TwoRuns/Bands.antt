@@ -20,8 +20,8 @@ pub record Passed {C : Type 0} (s : State C) (n : ℕ) : Type 0 where
   pub clear : isImmediateClear (attributeAt s n) ≡ false
 
 -- rule 2 is come to: after Initiate, and the key is not quoted
-abbrev pub Begun : {C : Type 0} → State C → Type 0
-Begun s = (s .host .begun ≡ true) × (s .terminal .quoting ≡ false)
+abbrev pub Initiated : {C : Type 0} → State C → Type 0
+Initiated s = (s .host .initiated ≡ true) × (s .terminal .quoting ≡ false)
 
 -- all that a turn says became of keys passes a test
 abbrev passes : {C : Type 0} → (Fate C → Bool) → Turn C → Type 0
@@ -50,11 +50,11 @@ module _ {C : Type 0} (chars : Characters C) (changed : C → Bool) (c : C) (s :
   unfolding unacted fateTest isOutOfBand
   never-acted e = false≢true (rw is-changed at e)
 
-  byFirstRule-by : (test : Fate C → Bool) → Begun s → passes test (arrives chars c s) → passes test (byFirstRule chars c s)
+  byFirstRule-by : (test : Fate C → Bool) → Initiated s → passes test (arrives chars c s) → passes test (byFirstRule chars c s)
   unfolding arrives _then_ behind tells
   byFirstRule-by test b e = rw (pick-true _ _ (b .0)) at (all-cons test _ _ e .1)
 
-  pub unacted-passed : Begun s → passes (unacted (chars .code) changed) (arrives chars c s) → Passed s (chars .code c)
+  pub unacted-passed : Initiated s → passes (unacted (chars .code) changed) (arrives chars c s) → Passed s (chars .code c)
   unfolding byFirstRule
   unacted-passed b e =
       let test = unacted (chars .code) changed in

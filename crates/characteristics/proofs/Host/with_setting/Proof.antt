@@ -12,7 +12,7 @@ returns : tie.Need-returns
 returns c =
     let start = c .before .before .before .before in (
       λ at s is. sets-attribute is (hostOf (start .args .self)) (c .before .before .if1 .taken) (c .with-attribute .ensures),
-      record { begun = refl; set = refl; counted = λ k. record { table = search needs; set = k .set } },
+      record { initiated = refl; set = refl; counted = λ k. record { table = search needs; set = k .set } },
     )
 
 with-switch-requires : tie.Need-with-switch-requires
@@ -22,7 +22,7 @@ returns-2 : tie.Need-returns-2
 returns-2 c =
     let start = c .before .before .before .before .before in (
       λ at s is. sets-switch is (hostOf (start .args .self)) (c .before .before .before .if1 .left) (c .with-switch .ensures),
-      record { begun = refl; set = refl; counted = λ k. record { table = k .table; set = k .set } },
+      record { initiated = refl; set = refl; counted = λ k. record { table = k .table; set = k .set } },
     )
 
 pub with-setting-spec : {M : Type 1} → statement M

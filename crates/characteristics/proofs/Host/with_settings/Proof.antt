@@ -4,20 +4,20 @@ use native.Mathlib.Omega.{arith}
 use lib.ListN.{length}
 use Rattle.rules.specs.Characteristics.{withParameters}
 use Rattle.parameters.specs.Lists.{parametersFrom}
-use Rattle.characteristics.specs.View.{hostOf, Kept}
+use Rattle.characteristics.specs.View.{hostOf, KeepsSettings}
 use Rattle.characteristics.proofs.Obeying.{obeys-first, obeys-none, kept-then}
 use Rattle.characteristics.proofs.Host.with_settings.Statement.{statement}
 use Rattle.characteristics.proofs.Host.with_settings.Tie as tie
 
 abbrev Inv-loop : tie.InvT-loop
 Inv-loop list host₀ at₀ host at =
-    (withParameters (parametersFrom 11 at list) (hostOf host) ≡ withParameters (parametersFrom 11 0 list) (hostOf host₀)) × Kept host₀ host
+    (withParameters (parametersFrom 11 at list) (hostOf host) ≡ withParameters (parametersFrom 11 0 list) (hostOf host₀)) × KeepsSettings host₀ host
 
 abbrev μ-loop : tie.MeasureT-loop
 μ-loop list host₀ at₀ host at = length list - at
 
 loop-holds : tie.Need-loop-holds Inv-loop μ-loop
-loop-holds c = (refl, record { begun = refl; set = refl; counted = λ k. k })
+loop-holds c = (refl, record { initiated = refl; set = refl; counted = λ k. k })
 
 parameter-at-requires : tie.Need-parameter-at-requires Inv-loop μ-loop
 parameter-at-requires c κs = tt

@@ -1,5 +1,5 @@
 use mathlib.Core.Path.{subst}
-use Rattle.line.specs.Host.{Startables}
+use Rattle.line.specs.Host.{StartableMessage}
 use Rattle.line.proofs.HostAccepted.{set-as, nothing-set}
 use borrow.Author.Needs.{needs}
 use Rattle.line.proofs.Line.set_by.Statement.{statement}
@@ -22,7 +22,7 @@ enum-known-m c = search needs
 opens-requires : tie.Need-opens-requires
 opens-requires c κs =
     let start = c .before .before .before .before in
-    (start .pre .0, subst (Startables (start .args .s .now)) (c .before .m .given .1) (start .pre .1))
+    (start .pre .0, subst (StartableMessage (start .args .s .now)) (c .before .m .given .1) (start .pre .1))
 
 enum-known-m-2 : tie.Need-enum-known-m-2
 enum-known-m-2 c = search needs

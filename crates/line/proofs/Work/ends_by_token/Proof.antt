@@ -44,7 +44,7 @@ with-typed-requires : tie.Need-with-typed-requires
 with-typed-requires c κs = search needs
 
 cast-completes : tie.Need-cast-completes
-cast-completes c = omega (arith, c .before .before .before .before .before .before .before .before .before .before .before .before .pre .0 .typed .begun, token-byte)
+cast-completes c = omega (arith, c .before .before .before .before .before .before .before .before .before .before .before .before .pre .0 .typed .tokenLength, token-byte)
 
 completes-requires : tie.Need-completes-requires
 completes-requires c κs =

@@ -1,5 +1,5 @@
 use mathlib.Core.Path.{subst}
-use Rattle.line.specs.Host.{Startables}
+use Rattle.line.specs.Host.{StartableMessage}
 use Rattle.line.specs.With.{lent}
 use Rattle.line.proofs.Turns.{still-does}
 use Rattle.line.proofs.HostAccepted.{obeys-as}
@@ -28,7 +28,7 @@ begins-requires : tie.Need-begins-requires
 begins-requires c κs =
     let start = c .before .before .before .before .before .before .before .before .before in
     let pre = start .pre in
-    (pre .0, (pre .1 .0, (pre .1 .1 .0, subst (Startables (start .args .s .now)) (c .before .before .before .m .given .1) (pre .1 .1 .1))))
+    (pre .0, (pre .1 .0, (pre .1 .1 .0, subst (StartableMessage (start .args .s .now)) (c .before .before .before .m .given .1) (pre .1 .1 .1))))
 
 enum-known-m-2 : tie.Need-enum-known-m-2
 enum-known-m-2 c = search needs

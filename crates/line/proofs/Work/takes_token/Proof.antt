@@ -31,7 +31,7 @@ cast-if1 c = search needs
 add-if1 : tie.Need-add-if1
 add-if1 c =
     let pre = c .before .before .before .before .before .pre in
-    omega (arith, c .before .end .ensures, pre .1 .1 .room, pre .1 .1 .largest, pre .0 .typed .begun, input-word, token-byte)
+    omega (arith, c .before .end .ensures, pre .1 .1 .room, pre .1 .1 .largest, pre .0 .typed .tokenLength, input-word, token-byte)
 
 cast-if1-2 : tie.Need-cast-if1-2
 cast-if1-2 c = search needs

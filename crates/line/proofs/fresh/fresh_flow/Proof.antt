@@ -16,7 +16,7 @@ returns c =
       token = refl;
       pending = refl;
       counted = record {
-        typed = record { waiting = omega arith; token = sym token-size; begun = omega arith };
+        typed = record { waiting = omega arith; token = sym token-size; tokenLength = omega arith };
         within = omega arith;
       };
     }

@@ -1,6 +1,6 @@
 use mathlib.Core.Path.{ap, _∙_}
 use Rattle.rules.specs.Messages.Layout.{bytesOf}
-use Rattle.writing.specs.Spans.{sizeOf}
+use Rattle.writing.specs.Spans.{spannedSize}
 use Rattle.areas.proofs.Putting.{equals, joins}
 use Rattle.writing.proofs.Lengths.{sent-framed}
 use Rattle.writing.proofs.send.put_framed.Statement.{statement}
@@ -24,7 +24,7 @@ same-length c = c .before .before .put-message .ensures .same ∙ c .before .bef
 returns : tie.Need-returns
 returns c =
     let p = c .before .before .before .before .before .before in
-    let size = p .before .before .size-of .ensures ∙ ap sizeOf (p .before .before .before .spans-of .ensures) in
+    let size = p .before .before .size-of .ensures ∙ ap spannedSize (p .before .before .before .spans-of .ensures) in
     let front = joins (equals (ap (bytesOf 2) size) (p .put-number .ensures)) (c .before .before .put-message .ensures) in
     record { sent = λ x k. equals (sent-framed k) front; front = front }
 

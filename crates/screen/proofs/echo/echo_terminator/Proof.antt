@@ -1,8 +1,8 @@
 use mathlib.Core.Path.{sym}
 use Rattle.screen.proofs.Cases.{echoTerminator-CR, echoTerminator-other}
 use Rattle.screen.proofs.Written.{equals}
-use Rattle.screen.proofs.echo.terminator_echo.Statement.{statement}
-use Rattle.screen.proofs.echo.terminator_echo.Tie as tie
+use Rattle.screen.proofs.echo.echo_terminator.Statement.{statement}
+use Rattle.screen.proofs.echo.echo_terminator.Tie as tie
 
 pair-requires : tie.Need-pair-requires
 pair-requires c κs = tt
@@ -26,6 +26,6 @@ returns-2 c =
     let a = c .before .before .before .before in
     equals (sym (echoTerminator-other _ (a .if1 .left))) (c .before .before .echo .ensures)
 
-pub terminator-echo-spec : {M : Type 1} → statement M
-terminator-echo-spec =
+pub echo-terminator-spec : {M : Type 1} → statement M
+echo-terminator-spec =
     tie.close (tie.spec pair-requires same-length returns echo-requires same-length-2 returns-2)
