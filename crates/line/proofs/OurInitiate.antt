@@ -13,7 +13,7 @@ use Rattle.rules.specs.Host.{ourInitiate}
 use Rattle.message.specs.declared.Message.{Message}
 use Rattle.message.specs.declared.Message.the-variants.{Initiate}
 use Rattle.message.specs.Found.{spanOf, heldIn}
-use Rattle.writing.specs.Spans.{spansOf, sizeOf}
+use Rattle.writing.specs.Spans.{spansOf, spannedSize}
 use Rattle.fronts.specs.Front.{frontTail, frontBytes}
 
 -- its head, with places for eight bytes and for the parameters behind them
@@ -31,7 +31,7 @@ abbrev pub parameter : ℕ → ℕ → List ℕ
 parameter kind value = bytesOf 2 kind ++ bytesOf 2 value
 
 pub our-bytes :
-    (bytesOf 2 (sizeOf (spansOf head)) ++ frontBytes (heldIn (replicate 8 32) head)) ++
+    (bytesOf 2 (spannedSize (spansOf head)) ++ frontBytes (heldIn (replicate 8 32) head)) ++
     (parameter 0x0201 messageSize ++ (parameter 0x0202 inputSize ++ parameter 0x0203 0x7FFE))
     ≡ framed (sentBytes ourInitiate)
 unfolding spansOf frontBytes frontTail heldIn spanOf framed sentBytes ourInitiate bytesAs tailBytes joined forms formOf writeGroups fieldsIn numberOf

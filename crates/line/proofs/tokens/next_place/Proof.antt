@@ -11,7 +11,7 @@ begun-requires c κs = tt
 
 returns : tie.Need-returns
 unfolding placeOf next
-returns c = place-as 0 (c .before .before .args .n) (c .tokenLength .result) (c .before .if1 .taken) (c .tokenLength .ensures)
+returns c = place-as 0 (c .before .before .args .n) (c .begun .result) (c .before .if1 .taken) (c .begun .ensures)
 
 after-escape-requires : tie.Need-after-escape-requires
 after-escape-requires c κs = tt
