@@ -1,4 +1,4 @@
--- From a part of the rules done to an answer kept, and from a refusal.
+-- From a rule done to an answer kept, and from a refusal.
 use mathlib.Core.Path.{_≡_, refl, sym, ap, _∙_, subst}
 use Prim.Native.Nat.{ℕ, _≤_}
 use native.Mathlib.Omega.{arith}
@@ -59,7 +59,7 @@ module _ (e : Event ℕ) (l : Line) (t m : List ℕ) (b : Bounded l) where
     within : Within (does p (view l))
     within = subst Within roomy (call-within call (view l) byte (b .state))
 
-    -- a part that was done is the call's answer
+    -- a rule that was done is the call's answer
     module _ (w : Progress) (t′ m′ : List ℕ) (d : Does p (begun l) t m w t′ m′) (k : Counted (w .line)) where
       shown-front : spot t′ (w .at) ≡ spot (areaAfter (p (view l) .bytes) t) (length (p (view l) .bytes))
       unfolding does

@@ -1,4 +1,4 @@
--- What the parts of an arrival leave of the line.
+-- What the rules of an arrival leave of the line.
 use mathlib.Core.Path.{_≡_, refl, sym, ap, _∙_, subst}
 use Prim.Native.Nat.{ℕ, _+_, _%_, _≤_, _<_, min}
 use native.Mathlib.Omega.{arith}
@@ -98,7 +98,7 @@ pub emptied-does : (w : Work) {v : Work} {next : Typed} → v ≡ goesOn (onType
 unfolding keysOf tokenOf
 emptied-does w h e l t m = goes-does w l (withTyped [] []) (h ∙ ap (λ n. goesOn (onTyped n (w .flow)) w) e) refl t m
 
--- A part that looks whether a read is pending.
+-- A rule that looks whether a read is pending.
 module _ (f : Option (state.Reading ℕ) → Rule ℕ) {pending : Bool} (r : state.Reading ℕ) {w v : Progress} {t t′ m m′ : List ℕ} where
   pub pending-does : pending ≡ true → Does (f (some r)) w t m v t′ m′ → Does (f (pendingOf pending r)) w t m v t′ m′
   pending-does e h = rw e h

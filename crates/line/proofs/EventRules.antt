@@ -1,4 +1,4 @@
--- What an event does is a part of the rules.
+-- What an event does is a rule.
 use mathlib.Core.Path.{_≡_, refl, sym, ap, _∙_}
 use Prim.Native.Nat.{ℕ, _<_}
 use mathlib.Core.Bool.{true}
@@ -31,7 +31,7 @@ Admitted l s Tick = Unit {0}
 Admitted l s Step = Unit {0}
 Admitted l s (Host m) = Accepted l s m
 
--- the rules answer an event that is admitted by the part that it is
+-- the rules answer an event that is admitted by the rule that it is
 module _ (l : Line) (s : List ℕ) where
   pub event-answers : (e : Event) → Admitted l s e → answers codes (eventOf s e) (view l) ≡ does (eventRule s e) (view l)
   unfolding eventOf eventRule answers answersMessage obeysHeld

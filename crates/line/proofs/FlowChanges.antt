@@ -1,4 +1,4 @@
--- More parts of a call as parts of the rules: nothing written, another read or token, no read.
+-- Rules that change the flow: nothing written, another read or token, no read.
 use mathlib.Core.Path.{_≡_, refl, sym, ap, _∙_}
 use Prim.Native.Nat.{ℕ, _-_, _≤_, _<_}
 use native.Mathlib.Omega.{arith}

@@ -56,7 +56,7 @@ use Rattle.line.proofs.EventRules.{eventOf, event-answers, event-bytes}
 use Rattle.line.proofs.ReceivedMessage.{true-false}
 use Rattle.line.proofs.HostAccepted.{questions-known}
 
--- a part with nothing behind it
+-- a rule with nothing behind it
 still-behind : {f : Rule ℕ} {w v r : Progress} {t t₁ t₂ m m₁ m₂ : List ℕ} → Does f w t m v t₁ m₁ → Does still v t₁ m₁ r t₂ m₂ → Does f w t m r t₂ m₂
 unfolding still messageBytes joined puts
 still-behind a b =
@@ -68,7 +68,7 @@ still-behind a b =
       messagesLength = b .messagesLength ∙ a .messagesLength;
     }
 
--- another line that looks the same, before a part and after it
+-- another line that looks the same, before a rule and after it
 at-view : {f : Rule ℕ} {v l : Line} {at sent : ℕ} {r : Progress} {t t′ m m′ : List ℕ} → view v ≡ view l →
     Does f (record { line = v; at = at; sent = sent }) t m r t′ m′ → Does f (record { line = l; at = at; sent = sent }) t m r t′ m′
 at-view {f} {v} {l} {at} {sent} {r} {t} {t′} {m} {m′} e h =

@@ -1,4 +1,4 @@
--- What the parts of an accepted host message look at, as the rules have it.
+-- What an accepted host message looks at, as the rules have it.
 use mathlib.Core.Path.{_≡_, refl, sym, ap, ap₂}
 use Prim.Native.Nat.{ℕ, _+_}
 use native.Mathlib.Omega.{arith}

@@ -1,4 +1,4 @@
--- Parts of a call one after the other, and what a part that writes does.
+-- Rules done one after the other, and what a rule that writes does.
 use mathlib.Core.Path.{_≡_, refl, sym, ap, ap₂, _∙_}
 use Prim.Native.Nat.{ℕ}
 use mathlib.Core.List.{List, [], _∷_, _++_, map-append, append-assoc}
@@ -45,7 +45,7 @@ module _ {f g : Rule ℕ} {w v r : Progress} {t₀ t₁ t₂ m₀ m₁ m₂ : Li
         messagesLength = b .messagesLength ∙ a .messagesLength;
       }
 
--- what was shown, as a part of the rules
+-- what was shown, as a rule
 module _ (w : Work) (s : Shown) {bs t t′ : List ℕ} (c : CountedFlow (w .flow)) (h : Writes bs t (w .at) (w .flow .terminal .screen) s t′) where
   shown-does : (l : Line) (m : List ℕ) → Does (writes bs) (on l w) t m (on l (afterShown s w)) t′ m
   unfolding writes messageBytes joined puts
@@ -62,7 +62,7 @@ module _ (w : Work) (s : Shown) {bs t t′ : List ℕ} (c : CountedFlow (w .flow
       CountedFlow (r .flow) × ((l : Line) (m : List ℕ) → Does (writes bs) (on l w) t m (on l r) t′ m)
   writes-does e = rw e (record { typed = c .typed; within = c .within }, shown-does)
 
--- What a part of the rules is told of fates does not show.
+-- What a rule tells of fates does not show.
 module _ {g : Rule ℕ} {w r : Progress} {t t′ m m′ : List ℕ} where
   pub told-does : (fs : List (Fate ℕ)) → Does g w t m r t′ m′ → Does (tells fs then g) w t m r t′ m′
   unfolding _then_ behind tells messageBytes
@@ -75,7 +75,7 @@ module _ {g : Rule ℕ} {w r : Progress} {t t′ m m′ : List ℕ} where
         messagesLength = h .messagesLength;
       }
 
--- A choice of parts.
+-- A choice of rules.
 module _ {test : Bool} (f g : Rule ℕ) {w r : Progress} {t t′ m m′ : List ℕ} where
   pub first-does : test ≡ true → Does f w t m r t′ m′ → Does (pick test f g) w t m r t′ m′
   first-does e h = rw (pick-true f g e) h
@@ -83,7 +83,7 @@ module _ {test : Bool} (f g : Rule ℕ) {w r : Progress} {t t′ m m′ : List �
   pub second-does : test ≡ false → Does g w t m r t′ m′ → Does (pick test f g) w t m r t′ m′
   second-does e h = rw (pick-false f g e) h
 
--- A part that only changes the line.
+-- A rule that only changes the line.
 module _ {w r : Progress} (t m : List ℕ) where
   pub changes-does : (f : State ℕ → State ℕ) → view (r .line) ≡ f (view (w .line)) → r .at ≡ w .at → r .sent ≡ w .sent →
       Does (changes f) w t m r t m

@@ -1,4 +1,4 @@
--- Acts: which part of the rules each is, and what an event meets.
+-- Acts: which rule each does, and what an event meets.
 use Prim.Native.Nat.{ℕ, _<_}
 use mathlib.Core.Path.{_≡_}
 use mathlib.Core.Bool.{Bool, true, false}
@@ -49,7 +49,7 @@ takenRule (Terminator c) r = terminates codes c r
 takenRule (Edit c) r = edits codes c r
 takenRule (Data c) r = takesData codes c r
 
--- The part of the rules that an act is; `s` is the slice of a host message. `quotes` and `flipsDiscard` want their key only
+-- The rule that an act does; `s` is the slice of a host message. `quotes` and `flipsDiscard` want their key only
 -- to say what became of it.
 abbrev pub actRule : List ℕ → Line → Act → Rule ℕ
 actRule s l Nothing = still
@@ -119,7 +119,7 @@ pub record Effect : Type 0 where
 unfoldable pub effectOf : Turn ℕ → Effect
 effectOf t = record { state = t .state; bytes = t .bytes; messages = messageBytes codes t }
 
--- from this line a part of the rules does what the act does
+-- from this line a rule does what the act does
 pub record Meets (rule : Rule ℕ) (s : List ℕ) (l : Line) (a : Act) : Type 0 where
   pub same : effectOf (rule (view l)) ≡ effectOf (actRule s l a (view l))
   pub ready : Ready s l a
@@ -154,7 +154,7 @@ Fits s f t TimesOut = Unit {0}
 Fits s f t (Idles idle) = Unit {0}
 Fits s f t (Obeys m) = StartableMessage s m
 
--- the act's part, but of a host message without what it sets and reports
+-- the act's rule, but of a host message without what it sets and reports
 abbrev pub flowAct : List ℕ → Line → Act → Rule ℕ
 flowAct s l Nothing = actRule s l Nothing
 flowAct s l (Stores c) = actRule s l (Stores c)

@@ -40,7 +40,7 @@ isActOf Tick a = callKindsOf a .tick
 isActOf Step a = callKindsOf a .step
 isActOf (Host m) a = callKindsOf a .host
 
--- the part of the rules that an event is
+-- the rule that an event is
 unfoldable pub eventRule : List ℕ → Event → Rule ℕ
 eventRule s (Key c) = arrives codes c
 eventRule s Tick = ticks codes

@@ -1,4 +1,4 @@
--- What a part of a call promises: from the line's view it does what a part of the rules does, to both areas and to the line.
+-- What a method of a call on its way promises: from the line's view it does what a rule does, to both areas and to the line.
 use Prim.Native.Nat.{ℕ}
 use mathlib.Core.Path.{_≡_}
 use mathlib.Core.List.{List}
@@ -22,19 +22,19 @@ pub record Progress : Type 0 where
 abbrev pub on : Line → Work → Progress
 on l w = record { line = onFlow (w .flow) l; at = w .at; sent = w .sent }
 
-pub record Does (part : Rule ℕ) (w : Progress) (terminal messages : List ℕ) (r : Progress) (terminal′ messages′ : List ℕ) : Type 0 where
-  pub state : view (r .line) ≡ part (view (w .line)) .state
-  pub shows : spot terminal′ (r .at) ≡ puts (part (view (w .line)) .bytes) (spot terminal (w .at))
-  pub sends : spot messages′ (r .sent) ≡ puts (messageBytes codes (part (view (w .line)))) (spot messages (w .sent))
+pub record Does (rule : Rule ℕ) (w : Progress) (terminal messages : List ℕ) (r : Progress) (terminal′ messages′ : List ℕ) : Type 0 where
+  pub state : view (r .line) ≡ rule (view (w .line)) .state
+  pub shows : spot terminal′ (r .at) ≡ puts (rule (view (w .line)) .bytes) (spot terminal (w .at))
+  pub sends : spot messages′ (r .sent) ≡ puts (messageBytes codes (rule (view (w .line)))) (spot messages (w .sent))
   pub terminalLength : length terminal′ ≡ length terminal
   pub messagesLength : length messages′ ≡ length messages
 
--- `Does` for a part that depends on the line, whose arrays it leaves alone
+-- `Does` for a rule that depends on the line, whose arrays it leaves alone
 abbrev pub DoesOn : (Line → Rule ℕ) → Line → Work → List ℕ → List ℕ → Work → List ℕ → List ℕ → Type 0
-DoesOn part l w terminal messages r terminal′ messages′ =
-    Does (part l) (on l w) terminal messages (on l r) terminal′ messages′
+DoesOn rule l w terminal messages r terminal′ messages′ =
+    Does (rule l) (on l w) terminal messages (on l r) terminal′ messages′
 
 -- the same, where keys or text change: one line before, another after
 abbrev pub DoesAcross : (Line → Rule ℕ) → Line → Work → List ℕ → List ℕ → Line → Work → List ℕ → List ℕ → Type 0
-DoesAcross part l w terminal messages l′ r terminal′ messages′ =
-    Does (part l) (on l w) terminal messages (on l′ r) terminal′ messages′
+DoesAcross rule l w terminal messages l′ r terminal′ messages′ =
+    Does (rule l) (on l w) terminal messages (on l′ r) terminal′ messages′

@@ -242,7 +242,7 @@ impl Work {
         self
     }
 
-    // Both of these, with the clear rule between them, unseen.
+    // Rule 2, immediate clear: Out-of-Band, the clear rule without rubbing out, then a pending read completes.
     pub(crate) fn clears_at_once(self, messages: &mut [u8], c: u8, text: &[u8], t: Terms) -> Work
         requires { ⌜ CountedFlow (self .flow) ⌝ }
         requires { ⌜ length (now text) ≡ inputSize ⌝ }

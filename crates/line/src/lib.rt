@@ -50,7 +50,7 @@ pub struct Terms {
     recognises: bool,
     echoes: bool,
     terminator_echo: bool,
-    // code 1 is to be written before the prompt: the characteristic, for a rule that sees no line
+    // code 1 is to be written before the prompt: kept here because the rule that writes it is not lent the switches
     auto_prompt: bool,
     timed: bool,
     timeout: u16,

@@ -1,4 +1,4 @@
-// Parts of a call that only write to the terminal.
+// What only writes to the terminal.
 ghost use Prim.Native.Nat.{ℕ};
 ghost use mathlib.Core.List.{List, [], _∷_};
 ghost use Rattle.rules.specs.Screen as rules;

@@ -1,4 +1,4 @@
--- What a call does, put together from parts: each writes bytes, sends messages, says what became of keys, and hands the state on.
+-- What a call does, put together from rules: each writes bytes, sends messages, says what became of keys, and hands the state on.
 use Prim.Native.Nat.{ℕ}
 use mathlib.Core.Bool.{Bool}
 use mathlib.Core.List.{List, [], _∷_, _++_}
@@ -62,7 +62,7 @@ module _ {C : Type 0} where
   unfoldable pub changes : (State C → State C) → Rule C
   changes f s = record { bytes = []; messages = []; fates = []; state = f s }
 
-  -- a part that looks at the state it begins with
+  -- a rule that looks at the state it begins with
   abbrev pub here : (State C → Rule C) → Rule C
   here f s = f s s
 
@@ -76,10 +76,10 @@ module _ {C : Type 0} where
         state = u .state;
       }
 
-  -- one part, then the next from the state it left
+  -- one rule, then the next from the state it left
   unfoldable pub _then_ : Rule C → Rule C → Rule C
   (f then g) s = let t = f s in behind t (g (t .state))
 
-  -- a part where a test holds, nothing where it does not
+  -- a rule where a test holds, nothing where it does not
   unfoldable pub only : Bool → Rule C → Rule C
   only test f = pick test f still

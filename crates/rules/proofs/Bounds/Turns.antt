@@ -1,5 +1,5 @@
--- What a part does within bounds: it leaves a bounded line, writes so many terminal bytes and so many bytes of messages, and
--- every message fits. One law for each way that parts are put together.
+-- What a rule does within bounds: it leaves a bounded line, writes so many terminal bytes and so many bytes of messages, and
+-- every message fits. One law for each way that rules are put together.
 use mathlib.Core.Path.{_≡_}
 use Prim.Native.Nat.{ℕ, _+_, _*_, _≤_}
 use native.Mathlib.Omega.{arith}
@@ -49,7 +49,7 @@ module _ {R : OfRead} {s : State ℕ} (h : Steady R s) where
   pub reread : {P : OfRead} (o : Option (Reading ℕ)) → P o → Steady P (withRead o s)
   reread o b = record { host = h .host; terminal = h .terminal; typed = h .typed; read = b }
 
--- One part alone.
+-- One rule alone.
 module _ {R : OfRead} {bytes area : ℕ} {s : State ℕ} where
   pub still-good : Steady R s → Good R bytes area (still s)
   unfolding still joined
@@ -76,7 +76,7 @@ module _ {R : OfRead} {bytes area : ℕ} {s : State ℕ} where
       let n = area-one m in
       record { state = h; terminal = omega arith; messages = omega arith; fit = (sent .fit, tt) }
 
-  -- a part that writes and sends nothing, then another
+  -- a rule that writes and sends nothing, then another
   pub tells-then : (fs : List (Fate ℕ)) (g : Rule ℕ) → Good R bytes area (g s) → Good R bytes area ((tells fs then g) s)
   unfolding _then_ behind tells
   tells-then fs g h = record { state = h .state; terminal = h .terminal; messages = h .messages; fit = h .fit }
@@ -85,7 +85,7 @@ module _ {R : OfRead} {bytes area : ℕ} {s : State ℕ} where
   unfolding _then_ behind changes
   changes-then f g h = record { state = h .state; terminal = h .terminal; messages = h .messages; fit = h .fit }
 
--- A part, then another from any state that it may leave: what they write adds up.
+-- A rule, then another from any state that it may leave: what they write adds up.
 module _ {P R : OfRead} {bytes area : ℕ} {s : State ℕ} (f g : Rule ℕ) where
   pub then-good : (b₁ b₂ a₁ a₂ : ℕ) → b₁ + b₂ ≤ bytes → a₁ + a₂ ≤ area →
       Good P b₁ a₁ (f s) → ((s′ : State ℕ) → Steady P s′ → Good R b₂ a₂ (g s′)) → Good R bytes area ((f then g) s)
@@ -118,7 +118,7 @@ module _ {P R : OfRead} {bytes area : ℕ} {s : State ℕ} (f g : Rule ℕ) wher
 pub roomier : {R : OfRead} {t : Turn ℕ} (b a : ℕ) {bytes area : ℕ} → b ≤ bytes → a ≤ area → Good R b a t → Good R bytes area t
 roomier b a p q h = record { state = h .state; terminal = omega arith; messages = omega arith; fit = h .fit }
 
--- A choice of parts, and a part under a test.
+-- A choice of rules, and a rule under a test.
 module _ {R : OfRead} {bytes area : ℕ} {s : State ℕ} (t : Bool) where
   pub pick-good : (f g : Rule ℕ) → (t ≡ true → Good R bytes area (f s)) → (t ≡ false → Good R bytes area (g s)) →
       Good R bytes area (pick t f g s)

@@ -1,4 +1,4 @@
--- Erasure of a part, and one law for each word that parts are put together with.
+-- Erasure of a rule, and one law for each word that rules are put together with.
 use mathlib.Core.Path.{_≡_, refl}
 use Prim.Native.Nat.{ℕ}
 use mathlib.Core.Bool.{Bool}
@@ -12,7 +12,7 @@ use Rattle.rules.specs.Calls.{mapText}
 use Rattle.rules.proofs.Tests.{pick-both}
 use Rattle.rules.proofs.Erasure.Maps.{mapReading, mapState, mapFate, mapTurn}
 
--- The first part, mapped, is the second. It is a record, so that a law can read both parts off its type.
+-- The first rule, mapped, is the second. It is a record, so that a law can read both rules off its type.
 pub record Erases {C D : Type 0} (f : C → D) (F : Rule C) (G : Rule D) : Type 0 where
   pub at : (s : State C) → mapTurn f (F s) ≡ G (mapState f s)
 

@@ -15,7 +15,7 @@ use Rattle.rules.proofs.TwoRuns.Twins.{Twin, both, apart, isBoth, code�
 use Rattle.rules.proofs.TwoRuns.Twins.{LevelRead, Level, spared, Spared, isGuarded, Agrees, RulesAt, Rules, Agreeing}
 
 module _ {changed : ℕ → Bool} where
-  -- One part after another.
+  -- One rule after another.
 
   -- the second may use that the first one's fates were spared
   then-by : (f f′ g g′ : Rule (Twin changed)) (s : State (Twin changed)) → RulesAt s f f′ →

@@ -151,7 +151,7 @@ module _ {changed : ℕ → Bool} where
   pub record Agrees (t u : Turn (Twin changed)) : Type 0 where
     pub agreed : Spared code₁ (t .fates) → Spared code₂ (u .fates) → Agree t u
 
-  -- two parts, from one state, and from any level state
+  -- two rules, from one state, and from any level state
   abbrev pub RulesAt : State (Twin changed) → Rule (Twin changed) → Rule (Twin changed) → Type 0
   RulesAt s f g = Agrees (f s) (g s)
 
