@@ -25,10 +25,7 @@ startReadWords f =
     bytesOf 2 (f .«max_length») ++ (bytesOf 2 (f .«end_of_data») ++ (bytesOf 2 (f .timeout) ++
     (bytesOf 2 (f .«end_of_prompt») ++ (bytesOf 2 (f .«start_of_display») ++ bytesOf 2 (f .«low_water»)))))
 
--- the flags of a Write, and their widths
-abbrev pub writeWidths : List ℕ
-writeWidths = 2 ∷ 1 ∷ 1 ∷ 1 ∷ 1 ∷ 2 ∷ 2 ∷ 1 ∷ 1 ∷ []
-
+-- the flags of a Write
 abbrev pub writeFlags : WriteFields → List ℕ
 writeFlags f =
     f .lock ∷ f .newline ∷ f .«keeps_output» ∷ f .first ∷ f .last ∷ f .prefix ∷ f .postfix ∷ f .«wants_completion» ∷

@@ -2,11 +2,12 @@
 ghost use mathlib.Core.Path.{_≡_};
 ghost use Prim.Native.Nat.{_+_, _*_};
 ghost use Rattle.rules.specs.Messages.Layout.{byte, numberOf, writeGroups};
+ghost use Rattle.rules.specs.Messages.Forms.{writeWidths};
 ghost use lib.ListN.{replicate};
 ghost use Rattle.message.specs.declared.Message.the-variants as variants;
 ghost use Rattle.message.specs.Found.{heldIn, spanOf};
 ghost use Rattle.areas.specs.Puts.{Puts};
-ghost use Rattle.fronts.specs.Front.{frontBytes, writeWidths, writeFlags};
+ghost use Rattle.fronts.specs.Front.{frontBytes, writeFlags};
 use crate::put::put_span;
 use crate::start_read::LOW_FLAGS;
 use crate::start_read::low_flags;
@@ -25,7 +26,7 @@ use rules::layout;
 const REVISION: usize = layout::REVISION as usize;
 
 // Fields of FLAGS, by how many values they have.
-const CODES: u32 = bits::FOUR as u32;
+const FOUR_BITS: u32 = bits::FOUR as u32;
 
 const ONE_BIT: u16 = bits::ONE as u16;
 
@@ -59,7 +60,7 @@ pub(crate) fn put_read_data(f: ReadDataFields, s: &[u8], area: &mut [u8], at: us
     ensures { λ r. ⌜ Puts (frontBytes (heldIn (now (s .entry)) (variants.ReadData f))) (now (area .entry)) at r (now (area .exit)) ⌝ }
 {
     let text = f.text;
-    let flags = f.code as u32 + CODES * (f.more as u32);
+    let flags = f.code as u32 + FOUR_BITS * (f.more as u32);
     let next = put_byte(rules::READ_DATA, area, at);
     let next = put_number(1, flags, area, next);
     let next = put_word(f.low_water, area, next);

@@ -2,8 +2,9 @@
 ghost use mathlib.Core.Path.{_≡_};
 ghost use Prim.Native.Nat.{_+_, _*_};
 ghost use Rattle.rules.specs.Messages.Layout.{numberOf};
+ghost use Rattle.rules.specs.Messages.Forms.{startReadWidths};
 ghost use Rattle.message.specs.declared.Message.the-variants as variants;
-ghost use Rattle.message.specs.Found.{heldIn, flagWidths, flagsOf};
+ghost use Rattle.message.specs.Found.{heldIn, flagsOf};
 ghost use Rattle.areas.specs.Puts.{Puts};
 ghost use Rattle.fronts.specs.Front.{frontBytes, startReadWords};
 use crate::put::put_span;
@@ -48,7 +49,7 @@ fn high_flags(terminator_echo: u8, timed: u8, set_choice: u8, escapes: u8) -> u1
 }
 
 fn start_read_flags(f: StartReadFields) -> u32
-    ensures { λ r. ⌜ r ≡ numberOf flagWidths (flagsOf f) ⌝ }
+    ensures { λ r. ⌜ r ≡ numberOf startReadWidths (flagsOf f) ⌝ }
 {
     let low = low_flags(f.underflow, f.clears, f.formats, f.vertical);
     let middle = middle_flags(f.continues, f.raises, f.disables, f.silent);

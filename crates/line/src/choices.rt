@@ -18,7 +18,7 @@ use rules::characters;
 // From a small letter to the capital.
 const SMALL_SHIFT: u8 = b'a' - b'A';
 
-// DDD: the most with which 127 and 23 still edit, and 21 and 18.
+// DDD: up to which 127 and 23 edit, and with which alone 21 and 18 do.
 const DISABLES_LINES: u8 = 1;
 
 const DISABLES_NOTHING: u8 = 0;

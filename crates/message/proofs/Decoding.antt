@@ -135,6 +135,16 @@ module _ (kind : ℕ) (s : List ℕ) where
       list-fields shape is =
           ap (λ bytes. listMessage kind vs (map (cleaned shape) (cut shape 0 bytes))) (e .same) ∙ ap message (fields-are v (list shape) is)
 
+      -- a message whose one span is its list
+      pub list-sound : (shape : Shape) → formOf kind .tail ≡ list shape → isFree kind ≡ true → {m : declared.Message} →
+          heldIn s m ≡ listMessage kind vs (parametersOf shape s p) → placesOf m ≡ p ∷ [] → head ≤ length s → whole ≡ true →
+          Finds s (decodedAs kind s) (found.Message m)
+      unfolding allAre
+      list-sound shape is free held place n w =
+          decodes-sound
+          (record { fields = held ∙ list-fields shape is; inside = λ passed. ap (allAre (lies (length s))) place ∙ both (rest-lies e passed) refl })
+          n w (free-defined free)
+
   -- Messages of a fixed length.
   module _ (is : formOf kind .tail ≡ nothing) where
     nothing-behind : whole ≡ isEmpty rest

@@ -43,10 +43,7 @@ abbrev pub listMessage : ℕ → List ℕ → List (List ℕ) → Held
 listMessage kind numbers parameters =
     codec.message (record { kind = kind; numbers = numbers; set = []; parameters = parameters; text = [] })
 
--- Start Read: its flags and their widths, and all of it
-abbrev pub flagWidths : List ℕ
-flagWidths = 2 ∷ 1 ∷ 1 ∷ 1 ∷ 1 ∷ 2 ∷ 3 ∷ 1 ∷ 1 ∷ 1 ∷ 2 ∷ 2 ∷ []
-
+-- Start Read: its flags, and all of it
 abbrev pub flagsOf : StartReadFields → List ℕ
 flagsOf f =
     f .underflow ∷ f .clears ∷ f .formats ∷ f .vertical ∷ f .continues ∷ f .raises ∷ f .disables ∷ f .silent ∷
@@ -171,7 +168,7 @@ pub record FieldsIn (kind : ℕ) (s : List ℕ) (m : Message) : Type 0 where
 
 -- the flags of a Start Read, with spans that are given
 pub record FlagsAre (s : List ℕ) (set text : Span) (f : StartReadFields) : Type 0 where
-  pub flags : flagsOf f ≡ fieldsIn flagWidths (numberAt 3 1 s)
+  pub flags : flagsOf f ≡ fieldsIn forms.startReadWidths (numberAt 3 1 s)
   pub set-kept : f .set ≡ set
   pub text-kept : f .text ≡ text
 

@@ -39,6 +39,13 @@ pub record Form : Type 0 where
 abbrev pub form : List Group → Tail → Form
 form head tail = record { head = head; tail = tail }
 
+-- how many bits each field of FLAGS has, in a Start Read and in a Write
+abbrev pub startReadWidths : List ℕ
+startReadWidths = 2 ∷ 1 ∷ 1 ∷ 1 ∷ 1 ∷ 2 ∷ 3 ∷ 1 ∷ 1 ∷ 1 ∷ 2 ∷ 2 ∷ []
+
+abbrev pub writeWidths : List ℕ
+writeWidths = 2 ∷ 1 ∷ 1 ∷ 1 ∷ 1 ∷ 2 ∷ 2 ∷ 1 ∷ 1 ∷ []
+
 -- MSGTYPE 1 to 14, each behind its type byte
 unfoldable pub forms : List Form
 forms =
@@ -47,7 +54,7 @@ forms =
     -- Start Read: UU, C, F, V, K, II, DDD, N, T, Q, ZZ, EE; MAX-LENGTH, END-OF-DATA, TIMEOUT, END-OF-PROMPT,
     -- START-OF-DISPLAY, LOW-WATER; TERMINATION-SET, DATA
     form
-    (flags 3 (2 ∷ 1 ∷ 1 ∷ 1 ∷ 1 ∷ 2 ∷ 3 ∷ 1 ∷ 1 ∷ 1 ∷ 2 ∷ 2 ∷ []) ∷ word ∷ word ∷ word ∷ word ∷ word ∷ word ∷ [])
+    (flags 3 startReadWidths ∷ word ∷ word ∷ word ∷ word ∷ word ∷ word ∷ [])
     setAndText ∷
     -- Read Data: completion code, more-data; LOW-WATER, VERTICAL-POSITION, HORIZONTAL-POSITION, TERMINATION-POSITION; DATA
     form (flags 1 (4 ∷ 1 ∷ []) ∷ word ∷ byte ∷ byte ∷ word ∷ []) text ∷
@@ -58,7 +65,7 @@ forms =
     -- Clear Input
     form (flags 1 [] ∷ []) nothing ∷
     -- Write: UU, L, D, B, E, PP, QQ, S, T; PREFIX-VALUE, POSTFIX-VALUE; DATA
-    form (flags 2 (2 ∷ 1 ∷ 1 ∷ 1 ∷ 1 ∷ 2 ∷ 2 ∷ 1 ∷ 1 ∷ []) ∷ byte ∷ byte ∷ []) text ∷
+    form (flags 2 writeWidths ∷ byte ∷ byte ∷ []) text ∷
     -- Write Completion: discard status; HORIZONTAL-POS, VERTICAL-POS
     form (flags 1 (1 ∷ []) ∷ word ∷ word ∷ []) nothing ∷
     -- Discard State: discard control

@@ -1,9 +1,8 @@
 use mathlib.Core.Path.{_∙_}
 use Rattle.rules.specs.Messages.Layout.{fieldsIn, numberOf}
 use Rattle.message.specs.Found.{spanOf}
-use Rattle.fronts.specs.Front.{writeWidths}
 use Rattle.fronts.proofs.Groups.{headed, flags-first, field-first, no-more}
-use Rattle.rules.specs.Messages.Forms.{forms, formOf}
+use Rattle.rules.specs.Messages.Forms.{forms, formOf, writeWidths}
 use Rattle.message.specs.Found.{heldIn}
 use Rattle.fronts.specs.Front.{frontBytes, frontTail}
 use Rattle.areas.proofs.Putting.{joins}

@@ -3,9 +3,9 @@ use Prim.Native.Nat.{_%_}
 use mathlib.Core.List.{_∷_, _++_}
 use lib.ListN.{length}
 use Rattle.rules.specs.Messages.Layout.{fieldsIn, numberOf, writeGroups}
-use Rattle.message.specs.Found.{spanOf, flagWidths, startReadIn}
+use Rattle.message.specs.Found.{spanOf, startReadIn}
 use Rattle.fronts.proofs.Groups.{headed, flags-first, field-first, no-more}
-use Rattle.rules.specs.Messages.Forms.{forms, formOf}
+use Rattle.rules.specs.Messages.Forms.{forms, formOf, startReadWidths}
 use Rattle.message.specs.Found.{heldIn}
 use Rattle.fronts.specs.Front.{frontBytes, frontTail}
 use Rattle.areas.proofs.Putting.{equals, joins}
@@ -66,7 +66,7 @@ returns c =
     let rest = spanOf (a .s .now) (a .f .set) ++ spanOf (a .s .now) (a .f .text) in
     equals (ap (λ b. 2 ∷ (writeGroups (formOf 2 .head) numbers ++ length b % 256 ∷ rest)) (bytes .ensures))
     (headed 2 (length (bytes .result .now) % 256 ∷ rest)
-    (flags-first 3 flagWidths (w .result) (w .ensures)
+    (flags-first 3 startReadWidths (w .result) (w .ensures)
     (field-first 2 16 (a .f .«max_length») (field-first 2 16 (a .f .«end_of_data») (field-first 2 16 (a .f .timeout)
     (field-first 2 16 (a .f .«end_of_prompt») (field-first 2 16 (a .f .«start_of_display») (field-first 2 16 (a .f .«low_water») no-more)))))))
     (joins (p1 .put-byte .ensures) (joins (p2 .put-number .ensures) (joins (p3 .put-words .ensures) (joins (p4 .put-byte2 .ensures) (joins (p5 .put-span .ensures) (p6 .put-span2 .ensures)))))))

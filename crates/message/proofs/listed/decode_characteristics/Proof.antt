@@ -1,22 +1,21 @@
 use mathlib.Core.Path.{refl, sym, _∙_}
 use borrow.Author.Tests.{not-true, not-false}
 use borrow.Author.Needs.{needs}
-use Rattle.rules.specs.Choice.{pick, allAre}
+use Rattle.rules.specs.Choice.{pick}
 use Rattle.rules.specs.Messages.Layout.{sizeOf}
-use Rattle.rules.specs.Messages.Forms.{forms, formOf}
+use Rattle.rules.specs.Messages.Forms.{forms, formOf, characteristics}
 use Rattle.rules.specs.Messages.Parameters.{setting}
 use Rattle.rules.specs.Messages.Codec.{behindHead, wholeTail}
-use Rattle.rules.proofs.Tests.{both}
 use Rattle.message.specs.Found.{heldIn, placesOf}
 use Rattle.parameters.specs.Lists.{shapeOf, soundFrom}
 use Rattle.message.proofs.Heads.{no-more, none-first}
-use Rattle.message.proofs.Decoding.{isFree, head-cut, tail-unsound, rest-lies, list-fields, free-defined, decodes-sound}
+use Rattle.message.proofs.Decoding.{isFree, head-cut, tail-unsound, list-sound}
 use Rattle.message.proofs.listed.decode_characteristics.Statement.{statement}
 use Rattle.message.proofs.listed.decode_characteristics.Tie as tie
 
 returns : tie.Need-returns
 unfolding formOf forms sizeOf
-returns c = head-cut 11 (c .before .before .args .s .now) (c .if1 .taken)
+returns c = head-cut characteristics (c .before .before .args .s .now) (c .if1 .taken)
 
 whole-list-requires : tie.Need-whole-list-requires
 whole-list-requires c κs = search needs
@@ -25,23 +24,18 @@ returns-2 : tie.Need-returns-2
 unfolding formOf forms sizeOf behindHead wholeTail soundFrom shapeOf pick
 returns-2 c =
     let b = c .before in
-    tail-unsound 11 (b .before .before .before .args .s .now) (sym (b .whole-list .ensures) ∙ not-true _ (c .if2 .taken))
+    tail-unsound characteristics (b .before .before .before .args .s .now) (sym (b .whole-list .ensures) ∙ not-true _ (c .if2 .taken))
 
 rest-from-requires : tie.Need-rest-from-requires
 rest-from-requires c κs = search needs
 
 returns-3 : tie.Need-returns-3
-unfolding heldIn placesOf allAre formOf forms sizeOf behindHead wholeTail soundFrom shapeOf pick isFree
+unfolding heldIn placesOf formOf forms sizeOf behindHead wholeTail soundFrom shapeOf pick isFree
 returns-3 c =
     let b = c .before .before in
     let a = b .before .before .before in
-    let s = a .args .s .now in
-    let k = a .pre .typed in
-    let rest = c .rest-from .ensures in
-    decodes-sound 11 s
-    (record { fields = list-fields 11 s k (none-first no-more) rest setting refl; inside = λ e. both (rest-lies 11 s rest e) refl })
-    (b .before .if1 .left)
-    (sym (b .whole-list .ensures) ∙ not-false _ (c .before .if2 .left)) (free-defined 11 s k refl)
+    list-sound characteristics (a .args .s .now) (a .pre .typed) (none-first no-more) (c .rest-from .ensures) setting refl refl refl refl
+    (b .before .if1 .left) (sym (b .whole-list .ensures) ∙ not-false _ (c .before .if2 .left))
 
 pub decode-characteristics-spec : {M : Type 1} → statement M
 decode-characteristics-spec =

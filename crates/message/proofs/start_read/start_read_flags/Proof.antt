@@ -1,7 +1,7 @@
 use mathlib.Core.Path.{refl, ap}
 use borrow.Author.Needs.{needs}
 use Rattle.rules.specs.Messages.Layout.{fieldsIn}
-use Rattle.message.specs.Found.{flagWidths}
+use Rattle.rules.specs.Messages.Forms.{startReadWidths}
 use Rattle.message.proofs.start_read.start_read_flags.Statement.{statement}
 use Rattle.message.proofs.start_read.start_read_flags.Tie as tie
 
@@ -46,7 +46,7 @@ cast-t39 c = search needs
 
 returns : tie.Need-returns
 unfolding fieldsIn
-returns c = record { flags = ap (fieldsIn flagWidths) (c .three-at .ensures); set-kept = refl; text-kept = refl }
+returns c = record { flags = ap (fieldsIn startReadWidths) (c .three-at .ensures); set-kept = refl; text-kept = refl }
 
 pub start-read-flags-spec : {M : Type 1} → statement M
 start-read-flags-spec =

@@ -1,10 +1,9 @@
 use mathlib.Core.Path.{refl}
-use mathlib.Core.List.{[], _∷_}
 use native.Mathlib.Omega.{arith}
 use borrow.Author.Needs.{needs}
 use Rattle.rules.specs.Choice.{allAre}
 use Rattle.rules.specs.Messages.Layout.{sizeOf, fieldsIn}
-use Rattle.rules.specs.Messages.Forms.{forms, formOf}
+use Rattle.rules.specs.Messages.Forms.{forms, formOf, writeWidths}
 use Rattle.rules.proofs.Tests.{both}
 use Rattle.message.specs.Found.{heldIn, placesOf}
 use Rattle.message.proofs.Heads.{no-more, flags-first, byte-first}
@@ -60,7 +59,7 @@ returns c =
     let rest = c .rest-from .ensures in
     record {
       fields = text-fields 7 s (a .pre .typed)
-          (flags-first 2 (2 ∷ 1 ∷ 1 ∷ 1 ∷ 1 ∷ 2 ∷ 2 ∷ 1 ∷ 1 ∷ []) (b .word-at .result) (b .word-at .ensures)
+          (flags-first 2 writeWidths (b .word-at .result) (b .word-at .ensures)
           (byte-first (c .before .before .byte-at .ensures) (omega arith)
           (byte-first (c .before .byte-at2 .ensures) (omega arith) no-more)))
           rest refl;
