@@ -63,16 +63,16 @@ pub struct Terms {
     line: u8,
 }
 
-// How a read goes on.
+// How a read goes on. `idle`, which every key sets, stands before what is copied in one piece.
 pub struct Reading {
+    idle: u16,
     // of what stands after its prompt
     count: u16,
     low_water: u16,
-    // the first character is the LF that F hides
-    hidden: bool,
     // the column where the data's display last began
     from: u16,
-    idle: u16,
+    // the first character is the LF that F hides
+    hidden: bool,
 }
 
 // What the rules change besides the arrays. In this order it is copied fastest (docs/PERFORMANCE.md).
