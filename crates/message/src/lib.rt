@@ -34,15 +34,18 @@ pub struct InitiateFields {
 }
 
 pub struct StartReadFields {
+    // FLAGS from bit 0: UU, C, F, V, K
     pub underflow: u8,
     pub clears: u8,
     pub formats: u8,
     pub vertical: u8,
     pub continues: u8,
+    // II, DDD, N, T
     pub raises: u8,
     pub disables: u8,
     pub silent: u8,
     pub terminator_echo: u8,
+    // Q, ZZ, EE
     pub timed: u8,
     pub set_choice: u8,
     pub escapes: u8,
@@ -67,11 +70,13 @@ pub struct ReadDataFields {
 }
 
 pub struct WriteFields {
+    // FLAGS from bit 0: UU, L, D, B, E
     pub lock: u8,
     pub newline: u8,
     pub keeps_output: u8,
     pub first: u8,
     pub last: u8,
+    // PP, QQ, S, T
     pub prefix: u8,
     pub postfix: u8,
     pub wants_completion: u8,
