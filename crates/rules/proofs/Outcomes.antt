@@ -11,7 +11,7 @@ use Rattle.rules.specs.Numbers.{messageSize, messageArea, unsound}
 use Rattle.rules.specs.Messages.Layout.{byteAt}
 use Rattle.rules.specs.Messages.Forms.{Message, formOf}
 use Rattle.rules.specs.Messages.Codec.{Outcome, refused, sound, definedKind, soundLength, soundAs, fieldsAs, readRefusals, read}
-use Rattle.rules.specs.Messages.Codec.{Held, kindOf, bytesOf, fitsHeld, writeRefusals, written}
+use Rattle.rules.specs.Messages.Codec.{Held, kindOf, heldBytes, fitsHeld, writeRefusals, written}
 use Rattle.rules.proofs.Tests.{pick-true, pick-false, pick-first, pick-second}
 
 module _ {A : Type 0} where
@@ -55,10 +55,10 @@ read-refused bytes {n} size kind e =
 -- writing: its tests, and the bytes
 pub record Writable (area : ℕ) (h : Held) (b : List ℕ) : Type 0 where
   pub room : messageArea ≤ area
-  pub size : length (bytesOf h) ≤ messageSize
+  pub size : length (heldBytes h) ≤ messageSize
   pub kind : definedKind (kindOf h) ≡ true
   pub fits : fitsHeld h ≡ true
-  pub bytes : bytesOf h ≡ b
+  pub bytes : heldBytes h ≡ b
 
 pub writable : (area : ℕ) (h : Held) (b : List ℕ) → written area h ≡ sound b → Writable area h b
 unfolding written writeRefusals firstOf
@@ -69,7 +69,7 @@ writable area h b e =
     let s = pick-second _ refused-sound (k .1) in
     record {
       room = ltb-false area messageArea (a .0);
-      size = ltb-false messageSize (length (bytesOf h)) (l .0);
+      size = ltb-false messageSize (length (heldBytes h)) (l .0);
       kind = not-false _ (k .0);
       fits = not-false _ (s .0);
       bytes = sound-same (s .1);
@@ -79,7 +79,7 @@ pub written-sound : (area : ℕ) (h : Held) (b : List ℕ) → Writable area h b
 unfolding written writeRefusals firstOf
 written-sound area h b w =
     pick-false _ _ (le-ltb area messageArea (w .room)) ∙
-    pick-false _ _ (le-ltb messageSize (length (bytesOf h)) (w .size)) ∙
+    pick-false _ _ (le-ltb messageSize (length (heldBytes h)) (w .size)) ∙
     pick-false _ _ (ap not (w .kind)) ∙
     pick-false _ _ (ap not (w .fits)) ∙
     ap sound (w .bytes)

@@ -13,7 +13,7 @@ use Rattle.rules.specs.Messages.Layout.{byteAt, sizeOf, widthsOf, fits, 
 use Rattle.rules.specs.Messages.Forms.{Message, Form, formOf}
 use Rattle.rules.specs.Messages.Codec.{sound, definedFields, soundLength, soundAs, fieldsAs, behindHead, read}
 use Rattle.rules.specs.Messages.Codec.{wholeTail, allBytes, tailBytes, bytesAs, fitsTail, fitsAs}
-use Rattle.rules.specs.Messages.Codec.{Held, message, other, kindOf, bytesOf, fitsHeld, written}
+use Rattle.rules.specs.Messages.Codec.{Held, message, other, kindOf, heldBytes, fitsHeld, written}
 use Rattle.rules.specs.Messages.Unused.{clearAs, unusedZero}
 use Rattle.rules.proofs.Tests.{both, thirds, within-bounds, within-true, all-split}
 use Rattle.rules.proofs.Fields.{roomy, length-writeGroups, readGroups-fit, groups-back, groups-clear}
@@ -101,7 +101,7 @@ module _
 
 -- The theorems.
 pub written-reads : (area : ℕ) (m : Message ℕ) (b : List ℕ) → written area (message m) ≡ sound b → read b ≡ sound m
-unfolding bytesOf kindOf fitsHeld bytesAs soundLength
+unfolding heldBytes kindOf fitsHeld bytesAs soundLength
 written-reads area m b e =
     let w = writable area (message m) b e in
     let f = formOf (m .kind) in
@@ -117,7 +117,7 @@ written-reads area m b e =
 
 pub read-writes : (bytes : List ℕ) (m : Message ℕ) (area : ℕ) → allBytes bytes ≡ true → read bytes ≡ sound m → messageArea ≤ area →
     (b : List ℕ) × (written area (message m) ≡ sound b)
-unfolding bytesOf kindOf fitsHeld fieldsAs soundLength
+unfolding heldBytes kindOf fitsHeld fieldsAs soundLength
 read-writes bytes m area small e room =
     let r = readable bytes m e in
     let f = formOf (byteAt bytes 0) in
@@ -141,7 +141,7 @@ round-trip bytes m area small e room =
     (w .0, w .1, written-reads area m (w .0) (w .1))
 
 pub unused-zero : (area : ℕ) (h : Held) (b : List ℕ) → written area h ≡ sound b → unusedZero b ≡ true
-unfolding bytesOf kindOf fitsHeld bytesAs unusedZero
+unfolding heldBytes kindOf fitsHeld bytesAs unusedZero
 unused-zero area (message m) b e =
     let w = writable area (message m) b e in
     subst (λ bytes. unusedZero bytes ≡ true) (w .bytes) (clear-back (formOf (m .kind)) m (form-roomy (m .kind)) (w .fits))

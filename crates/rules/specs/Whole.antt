@@ -45,7 +45,7 @@ unfolding Forms.forms Forms.formOf
 openForms = tt
 
 unfoldable pub openCodec : Unit {0}
-unfolding Codec.definedKind Codec.definedFields Codec.wholeTail Codec.setIn Codec.parametersIn Codec.textIn Codec.behindHead Codec.fieldsAs Codec.soundAs Codec.soundLength Codec.readRefusals Codec.read Codec.allBytes Codec.tailBytes Codec.bytesAs Codec.fitsTail Codec.fitsAs Codec.kindOf Codec.bytesOf Codec.fitsHeld Codec.writeRefusals Codec.written
+unfolding Codec.definedKind Codec.definedFields Codec.wholeTail Codec.setIn Codec.parametersIn Codec.textIn Codec.behindHead Codec.fieldsAs Codec.soundAs Codec.soundLength Codec.readRefusals Codec.read Codec.allBytes Codec.tailBytes Codec.bytesAs Codec.fitsTail Codec.fitsAs Codec.kindOf Codec.heldBytes Codec.fitsHeld Codec.writeRefusals Codec.written
 openCodec = tt
 
 unfoldable pub openUnused : Unit {0}

@@ -16,7 +16,7 @@ use Rattle.rules.specs.Messages.Layout.{writeGroups}
 use Rattle.rules.specs.Messages.Parameters.{Shape, initiation, question, setting, limitsOf, parameterSize, cleaned, cut}
 use Rattle.rules.specs.Messages.Forms as forms
 use Rattle.rules.specs.Messages.Forms.{Tail, nothing, text, setAndText, list, Form, formOf}
-use Rattle.rules.specs.Messages.Codec.{tailBytes, bytesAs, bytesOf}
+use Rattle.rules.specs.Messages.Codec.{tailBytes, bytesAs, heldBytes}
 use Rattle.rules.proofs.Tests.{both, quarters, all-cons}
 use Rattle.rules.proofs.Fields.{length-writeGroups}
 use Rattle.rules.proofs.ParameterLists.{joined-cut}
@@ -96,8 +96,8 @@ module _ (s : List ℕ) where
       let l = list-length shape (take (p .len) (drop (p .start) s)) in
       omega arith
 
-  pub held-length : (m : Message) → length (bytesOf (heldIn s m)) ≡ sizeIn (spansOf m)
-  unfolding heldIn startReadIn bytesOf spansOf formOf forms.forms layout.sizeOf tailBytes spanOf
+  pub held-length : (m : Message) → length (heldBytes (heldIn s m)) ≡ sizeIn (spansOf m)
+  unfolding heldIn startReadIn heldBytes spansOf formOf forms.forms layout.sizeOf tailBytes spanOf
   held-length (Initiate f) = listed 1 13 initiation (f .parameters) _ refl refl refl
   held-length (StartRead f) =
       let l = form-length (formOf 2) (startReadIn s f) in
@@ -134,7 +134,7 @@ module _ (s : List ℕ) where
       let h = quarters (lies n (p .list)) (lies n (p .set)) (lies n (p .text)) (lies n (p .revision)) e in
       (span-length (p .list) (h .0), span-length (p .set) (h .1), span-length (p .text) (h .2), span-length (p .revision) (h .3))
 
-  pub inside-length : (m : Message) → inside (length s) (spansOf m) ≡ true → spans.spannedSize (spansOf m) ≡ length (bytesOf (heldIn s m))
+  pub inside-length : (m : Message) → inside (length s) (spansOf m) ≡ true → spans.spannedSize (spansOf m) ≡ length (heldBytes (heldIn s m))
   inside-length m e =
       let h = spans-length (spansOf m) e in
       let list = h .0 in
@@ -198,6 +198,6 @@ module _ {s : List ℕ} {m : Message} {x : forms.Message ℕ} (h : Sendable s m 
       ap (λ t. x .kind ∷ (writeGroups (formOf (x .kind) .head) (x .numbers) ++ t)) (same-tail (formOf (x .kind) .tail))
 
   pub sent-framed : layout.bytesOf 2 (spans.spannedSize (spansOf m)) ++ frontBytes (heldIn s m) ≡ framed (sentBytes x)
-  unfolding framed sentBytes bytesOf
+  unfolding framed sentBytes heldBytes
   sent-framed =
-      ap₂ (λ n b. layout.bytesOf 2 n ++ b) (inside-length s m (h .lie) ∙ ap (λ y. length (bytesOf y)) (h .held)) sent-front
+      ap₂ (λ n b. layout.bytesOf 2 n ++ b) (inside-length s m (h .lie) ∙ ap (λ y. length (heldBytes y)) (h .held)) sent-front

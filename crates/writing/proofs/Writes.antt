@@ -18,7 +18,7 @@ use Rattle.rules.specs.Messages.Parameters as parameters
 use Rattle.rules.specs.Messages.Forms as forms
 use Rattle.rules.specs.Messages.Forms.{formOf, text, setAndText, list}
 use Rattle.rules.specs.Messages.Codec.{Outcome, refused, sound, Held, message, other, allBytes, definedKind, definedFields, fitsTail, fitsAs, fitsHeld}
-use Rattle.rules.specs.Messages.Codec.{tailBytes, bytesAs, bytesOf, kindOf, read, writeRefusals, written}
+use Rattle.rules.specs.Messages.Codec.{tailBytes, bytesAs, heldBytes, kindOf, read, writeRefusals, written}
 use Rattle.rules.proofs.Tests.{halves, thirds, quarters, pick-true, pick-false, pick-case, all-cons, all-joined}
 use Rattle.rules.proofs.Sizes.{longest-room}
 use Rattle.rules.proofs.Areas.{puts-front}
@@ -42,14 +42,14 @@ use Rattle.fronts.specs.Front.{frontTail, frontBytes}
 use Rattle.writing.specs.declared.spans.Spans.{Spans}
 use Rattle.writing.specs.Spans.{spansOf, spannedSize, inside, listBytes}
 use Rattle.writing.specs.Fits.{FitsIn}
-use Rattle.writing.specs.Writing.{Answers, firstRefusal, writing, again, copied, numberIn, bytesIn}
+use Rattle.writing.specs.Writing.{Encodes, firstRefusal, writing, again, copied, numberIn, bytesIn}
 use Rattle.writing.proofs.Lengths.{cut-short, inside-length, all-inside}
 use Rattle.writing.proofs.Fitting.{span-bytes}
 use Rattle.writing.proofs.WholeLists.{setting-fits}
 
 -- A refusal leaves the area as it was.
 pub refusal : {o : Outcome (List ℕ)} {before : List ℕ} {n : ℕ} → o ≡ refused n →
-    Answers o before (record { number = n; len = 0 }) before
+    Encodes o before (record { number = n; len = 0 }) before
 unfolding numberIn bytesIn areaAfter
 refusal {before = before} e =
     record {
@@ -60,11 +60,11 @@ refusal {before = before} e =
     }
 
 -- one outcome for another that it equals
-pub answers-as : {o o′ : Outcome (List ℕ)} {before after : List ℕ} {r : Written} → o ≡ o′ → Answers o′ before r after → Answers o before r after
+pub answers-as : {o o′ : Outcome (List ℕ)} {before after : List ℕ} {r : Written} → o ≡ o′ → Encodes o′ before r after → Encodes o before r after
 answers-as e w = rw e w
 
 -- bytes that were written stand in front
-module _ {bytes before after : List ℕ} {r : Written} (w : Answers (sound bytes) before r after) where
+module _ {bytes before after : List ℕ} {r : Written} (w : Encodes (sound bytes) before r after) where
   answer-accepted : r .number ≡ accepted
   unfolding numberIn
   answer-accepted = w .number
@@ -75,7 +75,7 @@ module _ {bytes before after : List ℕ} {r : Written} (w : Answers (sound bytes
 
 -- bytes put from the front on, where there is room
 pub put-in-front : {o : Outcome (List ℕ)} {bytes before after : List ℕ} {n : ℕ} → o ≡ sound bytes → length bytes ≤ length before →
-    Puts bytes before 0 n after → Answers o before (record { number = 0; len = n }) after
+    Puts bytes before 0 n after → Encodes o before (record { number = 0; len = n }) after
 unfolding numberIn bytesIn
 put-in-front {o} {bytes} {before} {after} {n} e room w =
     let there = w .area ∙ puts-front bytes before room in
@@ -181,8 +181,8 @@ module _ (s : List ℕ) (bytes : allBytes s ≡ true) where
       mod-eq-of-lt (omega arith)
 
   pub whole-bytes : (m : Message) → fitsHeld (heldIn s m) ≡ true →
-      frontBytes (heldIn s m) ++ listBytes (spansOf m .kind) (spanOf s (spansOf m .list)) ≡ bytesOf (heldIn s m)
-  unfolding frontBytes bytesOf bytesAs frontTail tailBytes listBytes spansOf heldIn startReadIn formOf forms.forms pick spanOf parametersOf
+      frontBytes (heldIn s m) ++ listBytes (spansOf m .kind) (spanOf s (spansOf m .list)) ≡ heldBytes (heldIn s m)
+  unfolding frontBytes heldBytes bytesAs frontTail tailBytes listBytes spansOf heldIn startReadIn formOf forms.forms pick spanOf parametersOf
   whole-bytes (Initiate f) e =
       listed-bytes 1 (f .version ∷ f .eco ∷ f .modification ∷ spanOf s (f .revision))
       (own-bytes initiation (λ low high. full-replicate high) (spanOf s (f .parameters)) (span-bytes s (f .parameters) bytes))
@@ -262,13 +262,13 @@ writing-inside : (area : ℕ) (s : List ℕ) (m : Message) → inside (length s)
 unfolding writing written writeRefusals firstOf
 writing-inside area s m e =
     rw (e, inside-length s m e, kind-held s m)
-    (same-rows (ltb area messageArea) (ltb messageSize (length (bytesOf (heldIn s m)))) (not (definedKind (kindOf (heldIn s m)))) _ _ _ _ _)
+    (same-rows (ltb area messageArea) (ltb messageSize (length (heldBytes (heldIn s m)))) (not (definedKind (kindOf (heldIn s m)))) _ _ _ _ _)
 
 -- The same rows, by the test of its spans and the test of its fields together.
-written-rows : (area : ℕ) (h : Held) {size kind : ℕ} → length (bytesOf h) ≡ size → kindOf h ≡ kind →
-    written area h ≡ rows area size kind (fitsHeld h) (sound (bytesOf h))
+written-rows : (area : ℕ) (h : Held) {size kind : ℕ} → length (heldBytes h) ≡ size → kindOf h ≡ kind →
+    written area h ≡ rows area size kind (fitsHeld h) (sound (heldBytes h))
 unfolding written
-written-rows area h long is = λ i. rows area (long i) (is i) (fitsHeld h) (sound (bytesOf h))
+written-rows area h long is = λ i. rows area (long i) (is i) (fitsHeld h) (sound (heldBytes h))
 
 outside-rows : (area : ℕ) (s : List ℕ) (m : Message) (x : Outcome (List ℕ)) → inside (length s) (spansOf m) ≡ false →
     writing area s m ≡ rows area (spannedSize (spansOf m)) (spansOf m .kind) false x
@@ -294,31 +294,31 @@ module _ (area : ℕ) (s : List ℕ) (m : Message) {p : Spans} (is : p ≡ spans
       by-places true l = fit .same l
       by-places false l = refl
 
-  as-rows : writing area s m ≡ rows area (spannedSize (spansOf m)) (spansOf m .kind) (lying && fitsHeld held) (sound (bytesOf held))
+  as-rows : writing area s m ≡ rows area (spannedSize (spansOf m)) (spansOf m .kind) (lying && fitsHeld held) (sound (heldBytes held))
   as-rows = by-places lying refl
     where
       by-places : (b : Bool) → lying ≡ b →
-          writing area s m ≡ rows area (spannedSize (spansOf m)) (spansOf m .kind) (b && fitsHeld held) (sound (bytesOf held))
+          writing area s m ≡ rows area (spannedSize (spansOf m)) (spansOf m .kind) (b && fitsHeld held) (sound (heldBytes held))
       by-places true l =
           writing-inside area s m l ∙ written-rows area held (sym (inside-length s m l)) (sym (kind-held s m))
-      by-places false l = outside-rows area s m (sound (bytesOf held)) l
+      by-places false l = outside-rows area s m (sound (heldBytes held)) l
 
   pub encode-refused : (n ≡ 0 → ⊥) → writing area s m ≡ refused n
   encode-refused z =
-      as-rows ∙ rows-refused area (spannedSize (spansOf m)) (spansOf m .kind) (lying && fitsHeld held) own z (sound (bytesOf held))
+      as-rows ∙ rows-refused area (spannedSize (spansOf m)) (spansOf m .kind) (lying && fitsHeld held) own z (sound (heldBytes held))
 
   module _ (z : n ≡ 0) where
     passed : (lying ≡ true) × (fitsHeld held ≡ true)
     passed = halves lying (fitsHeld held) (tests area (spannedSize (spansOf m)) (spansOf m .kind) (lying && fitsHeld held) own z .3)
 
-    pub encode-sound : writing area s m ≡ sound (bytesOf held)
+    pub encode-sound : writing area s m ≡ sound (heldBytes held)
     encode-sound =
-        as-rows ∙ rows-passed area (spannedSize (spansOf m)) (spansOf m .kind) (lying && fitsHeld held) own z (sound (bytesOf held))
+        as-rows ∙ rows-passed area (spannedSize (spansOf m)) (spansOf m .kind) (lying && fitsHeld held) own z (sound (heldBytes held))
 
     pub encode-fits : fitsHeld held ≡ true
     encode-fits = passed .1
 
-    pub encode-room : length (bytesOf held) ≤ area
+    pub encode-room : length (heldBytes held) ≤ area
     encode-room =
         let long = inside-length s m (passed .0) in
         let room = rows-room area (spannedSize (spansOf m)) (spansOf m .kind) (lying && fitsHeld held) own z in
@@ -359,8 +359,8 @@ module _ {s : List ℕ} {f : Found} (found : Finds s (asHeld (read s)) f) {m : M
       copy-found area s (ap (foundIn s) (sym e) ∙ found .fields) ∙
       sym (writing-inside area s m (all-inside (length s) m (ap (foundInside (length s)) (sym e) ∙ found .inside)))
 
-  module _ {before after : List ℕ} {r : Written} (w : Answers (writing (length before) s m) before r after) where
-    pub answers-again : Answers (copied (length before) s) before r after
+  module _ {before after : List ℕ} {r : Written} (w : Encodes (writing (length before) s m) before r after) where
+    pub answers-again : Encodes (copied (length before) s) before r after
     answers-again = answers-as (writes-found (length before)) w
 
     abbrev wrote : List ℕ
@@ -377,7 +377,7 @@ module _ {s : List ℕ} {f : Found} (found : Finds s (asHeld (read s)) f) {m : M
         by-outcome (refused n) o = absurd (refused-sound (sym (ap asHeld o) ∙ sym (found .fields) ∙ ap (foundIn s) e))
         by-outcome (sound x) o =
             let b = copy-back (length before) s x bytes o room in
-            let answer : Answers (sound (b .0)) before r after = answers-as (sym (b .1)) answers-again in
+            let answer : Encodes (sound (b .0)) before r after = answers-as (sym (b .1)) answers-again in
             let there = front-bytes answer in (
               answer-accepted answer,
               λ g h. h .fields ∙ ap (λ bytes. asHeld (read bytes)) there ∙ ap asHeld (b .2 ∙ sym o) ∙ sym (found .fields),

@@ -41,7 +41,7 @@ bytesIn (refused n) = []
 bytesIn (sound bytes) = bytes
 
 -- the bytes stand in front, and behind them what stood there
-pub record Answers (o : Outcome (List ℕ)) (before : List ℕ) (r : Written) (after : List ℕ) : Type 0 where
+pub record Encodes (o : Outcome (List ℕ)) (before : List ℕ) (r : Written) (after : List ℕ) : Type 0 where
   pub number : r .number ≡ numberIn o
   pub len : r .len ≡ length (bytesIn o)
   pub area : after ≡ areaAfter (bytesIn o) before

@@ -2,7 +2,7 @@
 ghost use mathlib.Core.Path.{_≡_};
 ghost use lib.ListN.{length};
 ghost use Rattle.rules.specs.Messages.Codec.{definedKind};
-ghost use Rattle.writing.specs.Writing.{Answers, firstRefusal, writing, copied};
+ghost use Rattle.writing.specs.Writing.{Encodes, firstRefusal, writing, copied};
 use crate::Written;
 use crate::fits::fits_message;
 use crate::lists::put_list;
@@ -40,7 +40,7 @@ fn first_refusal(room: usize, size: u32, kind: u8, fits: bool) -> u8
 
 // The length is judged by the spans' own lengths, before a span that lies outside the slice is refused.
 pub fn encode(m: Message, s: &[u8], area: &mut [u8]) -> Written
-    ensures { λ r. ⌜ Answers (writing (length (now (area .entry))) (now (s .entry)) m) (now (area .entry)) r (now (area .exit)) ⌝ }
+    ensures { λ r. ⌜ Encodes (writing (length (now (area .entry))) (now (s .entry)) m) (now (area .entry)) r (now (area .exit)) ⌝ }
 {
     let p = spans_of(m);
     let kind = p.kind;
@@ -65,7 +65,7 @@ pub fn encode(m: Message, s: &[u8], area: &mut [u8]) -> Written
 
 // Decodes a message and encodes it again.
 pub fn copy(s: &[u8], area: &mut [u8]) -> Written
-    ensures { λ r. ⌜ Answers (copied (length (now (area .entry))) (now (s .entry))) (now (area .entry)) r (now (area .exit)) ⌝ }
+    ensures { λ r. ⌜ Encodes (copied (length (now (area .entry))) (now (s .entry))) (now (area .entry)) r (now (area .exit)) ⌝ }
 {
     let f = message::decode(s);
     let Found::Message(m) = f else {

@@ -89,7 +89,7 @@ area-one m =
 
 -- A message that fits can be written, so it reads as what was meant.
 sent-meant : (m : Message ℕ) → Sent messageSize m → read (sentBytes m) ≡ sound m
-unfolding codec.bytesOf kindOf fitsHeld sentBytes
+unfolding codec.heldBytes kindOf fitsHeld sentBytes
 sent-meant m h =
     written-reads messageArea m (sentBytes m)
     (written-sound messageArea (message m) (sentBytes m)
@@ -105,7 +105,7 @@ area-meant (m ∷ ms) h room =
 
 -- A message that was read can be written again, so it fits.
 pub read-sent : (bytes : List ℕ) (m : Message ℕ) → allBytes bytes ≡ true → read bytes ≡ sound m → Sent messageSize m
-unfolding codec.bytesOf kindOf fitsHeld sentBytes
+unfolding codec.heldBytes kindOf fitsHeld sentBytes
 read-sent bytes m small e =
     let w = read-writes bytes m messageArea small e (le-refl messageArea) in
     let h = writable messageArea (message m) (w .0) (w .1) in

@@ -141,9 +141,9 @@ unfoldable pub kindOf : Held → ℕ
 kindOf (message m) = m .kind
 kindOf (other kind body) = kind
 
-unfoldable pub bytesOf : Held → List ℕ
-bytesOf (message m) = bytesAs (formOf (m .kind)) m
-bytesOf (other kind body) = kind ∷ body
+unfoldable pub heldBytes : Held → List ℕ
+heldBytes (message m) = bytesAs (formOf (m .kind)) m
+heldBytes (other kind body) = kind ∷ body
 
 unfoldable pub fitsHeld : Held → Bool
 fitsHeld (message m) = fitsAs (formOf (m .kind)) m
@@ -160,4 +160,4 @@ writeRefusals area size kind passes =
 
 -- writing into an area of this length: the first refusal that applies, else the bytes
 unfoldable pub written : ℕ → Held → Outcome (List ℕ)
-written area h = firstOf refused (sound (bytesOf h)) (writeRefusals area (length (bytesOf h)) (kindOf h) (fitsHeld h))
+written area h = firstOf refused (sound (heldBytes h)) (writeRefusals area (length (heldBytes h)) (kindOf h) (fitsHeld h))
