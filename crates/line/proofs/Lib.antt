@@ -5,15 +5,14 @@ mod WordDeletion
 mod InputLaws
 mod InputAppended
 mod TokenPlaces
-mod Sizes
 mod SentMessages
 mod FlowChanges
 mod ArrivalLaws
 mod ActChoice
+mod FirstKey
 mod PendingRead
 mod OurInitiate
 mod StartRead
-mod FreshLine
 mod HostLaws
 mod HostAccepted
 mod ActsDone

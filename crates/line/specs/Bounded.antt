@@ -42,14 +42,6 @@ pub record Bounded (l : Line) : Type 0 where
   pub state : rules.Bounded (view l)
   pub counted : Counted l
 
--- nothing shown, nothing typed, no read
-pub record IsFreshFlow (f : Flow) : Type 0 where
-  pub terminal : terminalOf (f .terminal) ≡ state.freshTerminal
-  pub waiting : f .typed .waiting ≡ 0
-  pub token : f .typed .«token_len» ≡ 0
-  pub pending : f .pending ≡ false
-  pub counted : CountedFlow f
-
 pub record IsFresh (l : Line) : Type 0 where
   pub state : view l ≡ state.fresh
   pub bounded : Bounded l

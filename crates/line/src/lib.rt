@@ -10,7 +10,6 @@ mod changes;
 mod choices;
 mod editing;
 mod events;
-mod fresh;
 mod host;
 mod initiate;
 mod input;
@@ -29,76 +28,76 @@ mod waiting;
 
 // What is known of the terminal.
 pub struct Terminal {
-    screen: Screen,
-    discarding: bool,
-    quoting: bool,
-    dropped: u16,
+    pub screen: Screen,
+    pub discarding: bool,
+    pub quoting: bool,
+    pub dropped: u16,
 }
 
 // Typed and not yet in a read: how many keys wait, and a partial or held token.
 pub struct Typed {
-    waiting: u16,
-    token: [u8; rules::TOKEN],
-    token_len: u16,
+    pub waiting: u16,
+    pub token: [u8; rules::TOKEN],
+    pub token_len: u16,
 }
 
 // What is fixed for the whole of a read.
 pub struct Terms {
-    underflow: u8,
-    disables: u8,
-    raises: bool,
-    recognises: bool,
-    echoes: bool,
-    terminator_echo: bool,
+    pub underflow: u8,
+    pub disables: u8,
+    pub raises: bool,
+    pub recognises: bool,
+    pub echoes: bool,
+    pub terminator_echo: bool,
     // code 1 is to be written before the prompt: kept here because the rule that writes it is not lent the switches
-    auto_prompt: bool,
-    timed: bool,
-    timeout: u16,
-    max_length: u16,
-    end_of_prompt: u16,
+    pub auto_prompt: bool,
+    pub timed: bool,
+    pub timeout: u16,
+    pub max_length: u16,
+    pub end_of_prompt: u16,
     // of the prompt as it is displayed
-    prompt_len: u16,
+    pub prompt_len: u16,
     // the note of column and line
-    column: u16,
-    line: u8,
+    pub column: u16,
+    pub line: u8,
 }
 
 // How a read goes on. `idle`, which every key sets, stands before what is copied in one piece.
 pub struct Reading {
-    idle: u16,
+    pub idle: u16,
     // of what stands after its prompt
-    count: u16,
-    low_water: u16,
+    pub count: u16,
+    pub low_water: u16,
     // the column where the data's display last began
-    from: u16,
+    pub from: u16,
     // the first character is the LF that F hides
-    hidden: bool,
+    pub hidden: bool,
 }
 
 // What the rules change besides the arrays. In this order it is copied fastest (docs/PERFORMANCE.md).
 pub struct Flow {
-    reading: Reading,
+    pub reading: Reading,
     // a read is pending; if not, `reading` stands for nothing
-    pending: bool,
-    typed: Typed,
-    terminal: Terminal,
+    pub pending: bool,
+    pub typed: Typed,
+    pub terminal: Terminal,
 }
 
 // The line between calls. What lies behind a count is left over.
 pub struct Line {
-    attributes: [u8; rules::CODES],
+    pub attributes: [u8; rules::CODES],
     // keys that wait, each its code, and QUOTED more if it is quoted
-    keys: [u16; rules::TYPE_AHEAD],
+    pub keys: [u16; rules::TYPE_AHEAD],
     // what stands after the read's prompt, from the front; the prompt as it is displayed, at the end
-    text: [u8; rules::INPUT],
+    pub text: [u8; rules::INPUT],
     // the read's termination set, and the last given with ZZ 1
-    set: Set,
-    last_set: Set,
+    pub set: Set,
+    pub last_set: Set,
     // Initiate was accepted
-    initiated: bool,
-    switches: Switches,
-    terms: Terms,
-    flow: Flow,
+    pub initiated: bool,
+    pub switches: Switches,
+    pub terms: Terms,
+    pub flow: Flow,
 }
 
 // A call's answer: the next line, the number, and the bytes written to the front of each area.

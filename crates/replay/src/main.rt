@@ -43,7 +43,7 @@ fn message(kept: &[u8], count: usize) -> &[u8]
 fn dropped(line: Line) -> u16
     ensures { λ r. ⌜ IsCount line r ⌝ }
 {
-    line.dropped()
+    console::dropped(line)
 }
 
 // From a fresh line to the line at the script's end. It stays a local of the loop: to hand it on is to copy it.
@@ -52,7 +52,7 @@ fn replay(input: &mut [u8], terminal: &mut [u8], messages: &mut [u8], buffer: &m
     ensures { λ r. ⌜ Played r ⌝ }
 {
     let mut kept = [0u8; KEPT];
-    let mut line = Line::fresh();
+    let mut line = console::fresh();
     let mut run = Run::begun();
     while 0 < run.turns {
         run = run.next(input, &mut kept, terminal, messages, buffer);
@@ -79,7 +79,7 @@ fn replay(input: &mut [u8], terminal: &mut [u8], messages: &mut [u8], buffer: &m
                 line = a.line;
                 run = run.telling(Told::Answer(a.number, a.terminal, a.messages));
             }
-            Call::Fresh => line = Line::fresh(),
+            Call::Fresh => line = console::fresh(),
             Call::Dropped => run = run.telling(Told::Count(dropped(line))),
             Call::Nothing => {}
         }

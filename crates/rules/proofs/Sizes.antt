@@ -1,8 +1,8 @@
 -- What the laws need of the sizes. Nothing else looks at their numerals.
 use mathlib.Core.Path.{_≡_, refl}
-use Prim.Native.Nat.{_+_, _*_, _≤_, _<_}
+use Prim.Native.Nat.{ℕ, _+_, _*_, _≤_, _<_}
 use native.Mathlib.Omega.{arith}
-use Rattle.rules.specs.Numbers.{inputSize, typeAheadSize, tokenSize, messageSize, terminalArea, messageArea, topColumn}
+use Rattle.rules.specs.Numbers.{inputSize, typeAheadSize, tokenSize, messageSize, terminalArea, messageArea, topColumn, topDropped}
 
 -- rubbing out a whole buffer, three bytes for each of a character's eight marks; or one echo and a byte or two
 pub rubbing-room : 24 * inputSize + 8 ≤ terminalArea
@@ -53,13 +53,29 @@ unfolding messageSize messageArea
 longest-room = omega arith
 
 -- The sizes as the code has them, in src/lib.rt.
-pub input-size : inputSize ≡ 132
+-- for proofs that write what the code computes
+abbrev pub inputNumeral : ℕ
+inputNumeral = 132
+
+pub input-size : inputSize ≡ inputNumeral
 unfolding inputSize
 input-size = refl
 
 pub message-size : messageSize ≡ 256
 unfolding messageSize
 message-size = refl
+
+pub type-ahead-size : typeAheadSize ≡ 64
+unfolding typeAheadSize
+type-ahead-size = refl
+
+pub token-size : tokenSize ≡ 16
+unfolding tokenSize
+token-size = refl
+
+pub terminal-area : terminalArea ≡ 4096
+unfolding terminalArea
+terminal-area = refl
 
 pub message-area : messageArea ≡ 256
 unfolding messageArea
@@ -68,3 +84,7 @@ message-area = refl
 pub top-column : topColumn ≡ 999
 unfolding topColumn
 top-column = refl
+
+pub top-dropped : topDropped ≡ 65535
+unfolding topDropped
+top-dropped = refl

@@ -1,12 +1,11 @@
-use mathlib.Core.Path.{refl, sym, ap, _∙_}
-use Rattle.rules.specs.State.{codes}
+use mathlib.Core.Path.{sym, ap, _∙_}
 use Rattle.rules.specs.StartRead.{inSet}
-use Rattle.rules.specs.Steps.{beginsToken, addsToToken, takesData, takesPlain, raisedBy, takes}
 use Rattle.characteristics.specs.View.{setOf}
-use Rattle.line.specs.View.{view, readingOf}
+use Rattle.rules.specs.State.{codes}
+use Rattle.rules.specs.Steps.{beginsToken, raisedBy}
+use Rattle.line.specs.View.{keyOf, readingOf}
 use Rattle.line.specs.With.{onFlow, lent}
-use Rattle.line.specs.Acts.{idleAtZero, keyTaken}
-use Rattle.line.proofs.ActChoice.{met, meets-behind, behind-first, behind-second}
+use Rattle.line.proofs.FirstKey.{first-partial, first-quoted, first-begins, first-plain}
 use borrow.Author.Needs.{needs}
 use Rattle.line.proofs.Flow.takes.Statement.{statement}
 use Rattle.line.proofs.Flow.takes.Tie as tie
@@ -26,44 +25,34 @@ is-partial-requires : tie.Need-is-partial-requires
 is-partial-requires c κs = search needs
 
 returns : tie.Need-returns
-unfolding takes raisedBy beginsToken
 returns c =
     let a = c .before .before .before .before .args in
-    let char = c .before .before .code-of .ensures in
     λ s l can ends.
-    let line = onFlow (a .self) (lent (a .t) (l .text) l) in
-    behind-first _ _ _ refl (sym (c .before .is-partial .ensures) ∙ c .if1 .taken)
-    (meets-behind _ _ (ap (λ n. addsToToken codes n (idleAtZero line) (keyTaken line (view line))) (sym char)) (met can))
+    first-partial s (onFlow (a .self) (lent (a .t) (l .text) l)) can (keyOf (a .key)) (c .before .before .code-of .ensures) (sym (c .before .is-partial .ensures) ∙ c .if1 .taken)
 
 is-quoted-requires : tie.Need-is-quoted-requires
 is-quoted-requires c κs = search needs
 
 returns-2 : tie.Need-returns-2
-unfolding takes raisedBy beginsToken
 returns-2 c =
     let a = c .before .before .before .before .before .before .args in
-    let char = c .before .before .before .before .code-of .ensures in
     λ s l can ends.
-    let line = onFlow (a .self) (lent (a .t) (l .text) l) in
-    behind-second _ _ _ refl (sym (c .before .before .before .is-partial .ensures) ∙ c .before .before .if1 .left)
-    (behind-first _ _ _ refl (sym (c .before .is-quoted .ensures) ∙ c .if2 .taken)
-    (meets-behind _ _ (ap (λ n. takesData codes n (idleAtZero line) (keyTaken line (view line))) (sym char)) (met can)))
+    first-quoted s (onFlow (a .self) (lent (a .t) (l .text) l)) can (keyOf (a .key)) (c .before .before .before .before .code-of .ensures)
+    (sym (c .before .before .before .is-partial .ensures) ∙ c .before .before .if1 .left)
+    (sym (c .before .is-quoted .ensures) ∙ c .if2 .taken)
 
 begins-token-requires : tie.Need-begins-token-requires
 begins-token-requires c κs = search needs
 
 returns-3 : tie.Need-returns-3
-unfolding takes raisedBy beginsToken
+unfolding beginsToken
 returns-3 c =
     let a = c .before .before .before .before .before .before .before .before .args in
-    let char = c .before .before .before .before .before .before .code-of .ensures in
     λ s l can ends.
-    let line = onFlow (a .self) (lent (a .t) (l .text) l) in
-    let begins = ap (λ n. beginsToken n (idleAtZero line)) (sym char) ∙ sym (c .before .begins-token .ensures (l .text) l (a .self .reading)) ∙ c .if3 .taken in
-    behind-second _ _ _ refl (sym (c .before .before .before .before .before .is-partial .ensures) ∙ c .before .before .before .before .if1 .left)
-    (behind-second _ _ _ refl (sym (c .before .before .before .is-quoted .ensures) ∙ c .before .before .if2 .left)
-    (behind-first _ _ _ refl begins
-    (meets-behind _ _ (ap (λ n. addsToToken codes n (idleAtZero line) (keyTaken line (view line))) (sym char)) (met can))))
+    first-begins s (onFlow (a .self) (lent (a .t) (l .text) l)) can (keyOf (a .key)) (c .before .before .before .before .before .before .code-of .ensures)
+    (sym (c .before .before .before .before .before .is-partial .ensures) ∙ c .before .before .before .before .if1 .left)
+    (sym (c .before .before .before .is-quoted .ensures) ∙ c .before .before .if2 .left)
+    (sym (c .before .begins-token .ensures (l .text) l (a .self .reading)) ∙ c .if3 .taken)
 
 raised-by-requires : tie.Need-raised-by-requires
 raised-by-requires c κs = search needs
@@ -72,19 +61,20 @@ takes-plain-requires : tie.Need-takes-plain-requires
 takes-plain-requires c κs = search needs
 
 returns-4 : tie.Need-returns-4
-unfolding takes raisedBy beginsToken
+unfolding beginsToken raisedBy
 returns-4 c =
     let a = c .before .before .before .before .before .before .before .before .before .before .args in
     let char = c .before .before .before .before .before .before .before .before .code-of .ensures in
     λ s l can ends.
     let line = onFlow (a .self) (lent (a .t) (l .text) l) in
-    let begins = ap (λ n. beginsToken n (idleAtZero line)) (sym char) ∙ sym (c .before .before .before .begins-token .ensures (l .text) l (a .self .reading)) ∙ c .before .before .if3 .left in
-    let raised = c .before .raised-by .ensures (l .text) l (a .self .reading) ∙ ap (raisedBy codes (readingOf line (a .self .reading))) char in
-    let plain = ap (λ n. takesPlain codes n (idleAtZero line) (keyTaken line (view line))) (sym raised) in
-    behind-second _ _ _ refl (sym (c .before .before .before .before .before .before .before .is-partial .ensures) ∙ c .before .before .before .before .before .before .if1 .left)
-    (behind-second _ _ _ refl (sym (c .before .before .before .before .before .is-quoted .ensures) ∙ c .before .before .before .before .if2 .left)
-    (behind-second _ _ _ refl begins
-    (meets-behind _ _ plain (c .takes-plain .ensures s line can (ends ∙ ap (inSet (setOf (l .set))) (sym raised))))))
+    let raised = c .before .raised-by .ensures (l .text) l (a .self .reading) in
+    let ended = ends ∙ ap (inSet (setOf (l .set))) (ap (raisedBy codes (readingOf line (a .self .reading))) (sym char) ∙ sym raised) in
+    first-plain s line can (keyOf (a .key)) char
+    (sym (c .before .before .before .before .before .before .before .is-partial .ensures) ∙ c .before .before .before .before .before .before .if1 .left)
+    (sym (c .before .before .before .before .before .is-quoted .ensures) ∙ c .before .before .before .before .if2 .left)
+    (sym (c .before .before .before .begins-token .ensures (l .text) l (a .self .reading)) ∙ c .before .before .if3 .left)
+    raised
+    (c .takes-plain .ensures s line can ended)
 
 pub takes-spec : {M : Type 1} → statement M
 takes-spec =

@@ -1,6 +1,6 @@
 use native.Mathlib.Omega.{arith}
 use borrow.Author.Needs.{needs}
-use Rattle.line.proofs.Sizes.{token-size, token-byte}
+use Rattle.rules.proofs.Sizes.{token-size, waiting-word}
 use Rattle.line.proofs.Typed.tokened.Statement.{statement}
 use Rattle.line.proofs.Typed.tokened.Tie as tie
 
@@ -11,7 +11,7 @@ array-write-token : tie.Need-array-write-token
 array-write-token c = omega (arith, token-size)
 
 add-next : tie.Need-add-next
-add-next c = omega (arith, token-byte)
+add-next c = omega (arith, waiting-word)
 
 returns : tie.Need-returns
 returns c = search needs

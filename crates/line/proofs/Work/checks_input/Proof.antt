@@ -5,7 +5,7 @@ use borrow.Author.Needs.{needs}
 use Rattle.rules.specs.Messages.Forms.{plain, inputCount}
 use Rattle.rules.specs.Messages.Codec as codec
 use Rattle.rules.specs.ReadData.{checksInput}
-use Rattle.line.proofs.Sizes.{waiting-byte, token-byte}
+use Rattle.rules.proofs.Sizes.{waiting-word}
 use Rattle.message.specs.Found.{heldIn}
 use Rattle.writing.specs.Spans.{spansOf, inside}
 use Rattle.line.proofs.FlowChanges.{here-rule}
@@ -14,7 +14,7 @@ use Rattle.line.proofs.Work.checks_input.Statement.{statement}
 use Rattle.line.proofs.Work.checks_input.Tie as tie
 
 add-count : tie.Need-add-count
-add-count c = omega (arith, waiting-byte, token-byte)
+add-count c = omega (arith, waiting-word)
 
 sends-plain-requires : tie.Need-sends-plain-requires
 sends-plain-requires c κs = search needs

@@ -1,5 +1,5 @@
 use native.Mathlib.Omega.{arith}
-use Rattle.line.proofs.Sizes.{waiting-byte}
+use Rattle.rules.proofs.Sizes.{waiting-word}
 use Rattle.line.proofs.ArrivalLaws.{kept-counted, keeps-does}
 use Rattle.line.proofs.Work.keeps.Statement.{statement}
 use Rattle.line.proofs.Work.keeps.Tie as tie
@@ -7,7 +7,7 @@ use Rattle.line.proofs.Work.keeps.Reads as reads
 use Rattle.line.proofs.Work.keeps.Lts as lts
 
 add-typed : tie.Need-add-typed
-add-typed c = omega (arith, waiting-byte)
+add-typed c = omega (arith, waiting-word)
 
 returns : tie.Need-returns
 returns c =

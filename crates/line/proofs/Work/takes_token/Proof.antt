@@ -6,10 +6,9 @@ use lib.ListN.{length}
 use borrow.Author.Tests.{le-leb, lt-leb}
 use Rattle.rules.specs.Editing.{endOf}
 use Rattle.rules.specs.Steps.{takesToken}
-use Rattle.rules.proofs.Sizes.{input-word}
+use Rattle.rules.proofs.Sizes.{input-word, waiting-word}
 use Rattle.line.specs.View.{readingOf, tokenOf}
 use Rattle.line.specs.With.{lent}
-use Rattle.line.proofs.Sizes.{token-byte}
 use Rattle.line.proofs.InputAppended.{end-is}
 use Rattle.line.proofs.TokenBytes.{token-counted}
 use Rattle.line.proofs.FlowChanges.{here-first, here-second}
@@ -31,7 +30,7 @@ cast-if1 c = search needs
 add-if1 : tie.Need-add-if1
 add-if1 c =
     let pre = c .before .before .before .before .before .pre in
-    omega (arith, c .before .end .ensures, pre .1 .1 .room, pre .1 .1 .largest, pre .0 .typed .tokenLength, input-word, token-byte)
+    omega (arith, c .before .end .ensures, pre .1 .1 .room, pre .1 .1 .largest, pre .0 .typed .tokenLength, input-word, waiting-word)
 
 cast-if1-2 : tie.Need-cast-if1-2
 cast-if1-2 c = search needs

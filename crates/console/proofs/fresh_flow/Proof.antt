@@ -1,11 +1,11 @@
 use mathlib.Core.Path.{refl, sym}
 use native.Mathlib.Omega.{arith}
 use Rattle.rules.specs.State.{freshTerminal}
-use Rattle.line.proofs.Sizes.{token-size}
-use Rattle.line.proofs.fresh.fresh_flow.Statement.{statement}
-use Rattle.line.proofs.fresh.fresh_flow.Tie as tie
-use Rattle.line.proofs.fresh.fresh_flow.Reads as reads
-use Rattle.line.proofs.fresh.fresh_flow.Lts as lts
+use Rattle.rules.proofs.Sizes.{token-size}
+use Rattle.console.proofs.fresh_flow.Statement.{statement}
+use Rattle.console.proofs.fresh_flow.Tie as tie
+use Rattle.console.proofs.fresh_flow.Reads as reads
+use Rattle.console.proofs.fresh_flow.Lts as lts
 
 returns : tie.Need-returns
 unfolding freshTerminal

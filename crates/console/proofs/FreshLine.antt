@@ -12,11 +12,12 @@ use Rattle.rules.specs.Bounds as bounds
 use Rattle.rules.proofs.Bounds.Calls.{fresh-bounded}
 use Rattle.characteristics.specs.declared.Set.{Set}
 use Rattle.characteristics.specs.View.{setOf, CountedSet}
 use Rattle.line.specs.declared.Terms.{Terms}
 use Rattle.line.specs.declared.Flow.{Flow}
 use Rattle.line.specs.declared.Line.{Line}
 use Rattle.line.specs.View.{keysOf, tokenOf, readingOf, pendingOf, view}
-use Rattle.line.specs.Bounded.{IsFreshFlow, IsFresh}
+use Rattle.line.specs.Bounded.{IsFresh}
+use Rattle.console.specs.FreshFlow.{IsFreshFlow}
 
 module _ (keys text : List ℕ) (set : Set) (terms : Terms) (flow : Flow) where
   abbrev lineOf : Line

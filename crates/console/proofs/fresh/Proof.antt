@@ -1,13 +1,13 @@
 use mathlib.Core.Path.{sym}
-use Rattle.line.proofs.Sizes.{input-size, type-ahead-size}
-use Rattle.line.proofs.FreshLine.{is-fresh}
+use Rattle.rules.proofs.Sizes.{input-size, type-ahead-size}
+use Rattle.console.proofs.FreshLine.{is-fresh}
 use borrow.Author.Needs.{needs}
-use Rattle.line.proofs.Line.fresh.Statement.{statement}
-use Rattle.line.proofs.Line.fresh.Tie as tie
-use Rattle.line.proofs.Line.fresh.Reads as reads
-use Rattle.line.proofs.Line.fresh.Lts as lts
-use Rattle.line.proofs.fresh.fresh_flow.Reads as fresh-flow-reads
-use Rattle.line.proofs.fresh.no_terms.Reads as no-terms-reads
+use Rattle.console.proofs.fresh.Statement.{statement}
+use Rattle.console.proofs.fresh.Tie as tie
+use Rattle.console.proofs.fresh.Reads as reads
+use Rattle.console.proofs.fresh.Lts as lts
+use Rattle.console.proofs.fresh_flow.Reads as fresh-flow-reads
+use Rattle.console.proofs.no_terms.Reads as no-terms-reads
 use Rattle.characteristics.proofs.Set.universal.Reads as universal-reads
 
 universal-requires : tie.Need-universal-requires

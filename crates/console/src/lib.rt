@@ -1,15 +1,16 @@
-// A fresh line, and what can be read off a line.
+// A line between its calls: how a console begins, and the count that can be asked of it.
 ghost use mathlib.Core.Path.{_≡_};
 ghost use Rattle.line.specs.View.{view};
-ghost use Rattle.line.specs.Bounded.{IsFreshFlow, IsFresh};
-use crate::Flow;
-use crate::Line;
-use crate::Reading;
-use crate::Terminal;
-use crate::Terms;
-use crate::Typed;
+ghost use Rattle.line.specs.Bounded.{IsFresh};
+ghost use Rattle.console.specs.FreshFlow.{IsFreshFlow};
 use characteristics::Set;
 use characteristics::Switches;
+use line::Flow;
+use line::Line;
+use line::Reading;
+use line::Terminal;
+use line::Terms;
+use line::Typed;
 use screen::Screen;
 
 // The terms of a line that has no read pending.
@@ -69,38 +70,36 @@ fn fresh_flow() -> Flow
     }
 }
 
-impl Line {
-    pub fn fresh() -> Line
-        ensures { λ r. ⌜ IsFresh r ⌝ }
-    {
-        let switches = Switches {
-            raising: false,
-            echoing: true,
-            recognising: false,
-            prompting: false,
-        };
-        let set = Set::universal();
-        let terms = no_terms();
-        let flow = fresh_flow();
-        Line {
-            attributes: [0u8; rules::CODES],
-            keys: [0u16; rules::TYPE_AHEAD],
-            text: [0u8; rules::INPUT],
-            set,
-            last_set: set,
-            initiated: false,
-            switches,
-            terms,
-            flow,
-        }
+pub fn fresh() -> Line
+    ensures { λ r. ⌜ IsFresh r ⌝ }
+{
+    let switches = Switches {
+        raising: false,
+        echoing: true,
+        recognising: false,
+        prompting: false,
+    };
+    let set = Set::universal();
+    let terms = no_terms();
+    let flow = fresh_flow();
+    Line {
+        attributes: [0u8; rules::CODES],
+        keys: [0u16; rules::TYPE_AHEAD],
+        text: [0u8; rules::INPUT],
+        set,
+        last_set: set,
+        initiated: false,
+        switches,
+        terms,
+        flow,
     }
+}
 
-    // Keys dropped for want of room.
-    pub fn dropped(self) -> u16
-        ensures { λ r. ⌜ r ≡ view self .terminal .dropped ⌝ }
-    {
-        let flow = self.flow;
-        let known = flow.terminal;
-        known.dropped
-    }
+// Keys dropped for want of room.
+pub fn dropped(line: Line) -> u16
+    ensures { λ r. ⌜ r ≡ view line .terminal .dropped ⌝ }
+{
+    let flow = line.flow;
+    let known = flow.terminal;
+    known.dropped
 }
