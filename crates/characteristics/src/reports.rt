@@ -12,7 +12,7 @@ ghost use Rattle.rules.specs.Characteristics.{switchOf, reported};
 ghost use Rattle.rules.specs.Calls.{carriesQuestions};
 ghost use Rattle.parameters.specs.Lists.{ParameterIs, usedAt};
 ghost use Rattle.areas.specs.Puts.{Puts};
-ghost use Rattle.characteristics.specs.View.{switchesOf, hostOf};
+ghost use Rattle.characteristics.specs.View.{switchesOf, hostView};
 ghost use Rattle.characteristics.specs.Lists.{questionsIn, answersFrom, answerTo, reportBytes};
 use crate::Host;
 use crate::Switches;
@@ -77,7 +77,7 @@ impl Switches {
 impl Host {
     // All are of the five, and the answer and its length fit the message area.
     pub fn carries_questions(self, list: &[u8]) -> bool
-        ensures { λ r. ⌜ ((s : State ℕ) → r ≡ carriesQuestions (withHost (hostOf self) s) (questionsIn (now (list .entry)))) ⌝ }
+        ensures { λ r. ⌜ ((s : State ℕ) → r ≡ carriesQuestions (withHost (hostView self) s) (questionsIn (now (list .entry)))) ⌝ }
     {
         if !all_carried(rules::READ_CHARACTERISTICS, list) {
             return false;
@@ -89,7 +89,7 @@ impl Host {
     fn put_answer(self, p: Parameter, area: &mut [u8], at: usize) -> usize
         ensures { λ r.
             ⌜ ((i : ℕ) (s : List ℕ) → ParameterIs readCharacteristics i s p →
-            Puts (reported (hostOf self) (usedAt readCharacteristics i s)) (now (area .entry)) at r (now (area .exit))) ⌝ }
+            Puts (reported (hostView self) (usedAt readCharacteristics i s)) (now (area .entry)) at r (now (area .exit))) ⌝ }
     {
         if p.selector == selectors::CHARACTER_ATTRIBUTES {
             let attributes = self.attribute(p.first);
@@ -111,7 +111,7 @@ impl Host {
     // The answers to all questions, in order.
     fn put_answers(self, list: &[u8], area: &mut [u8], at: usize) -> usize
         ensures { λ r.
-            ⌜ Puts (answersFrom 0 (now (list .entry)) (hostOf self)) (now (area .entry)) at r (now (area .exit)) ⌝ }
+            ⌜ Puts (answersFrom 0 (now (list .entry)) (hostView self)) (now (area .entry)) at r (now (area .exit)) ⌝ }
     {
         let mut next = at;
         let mut i = 0;
@@ -125,7 +125,7 @@ impl Host {
 
     // The answer behind its length where it is carried; else nothing.
     pub fn put_report(self, list: &[u8], area: &mut [u8], at: usize) -> usize
-        ensures { λ r. ⌜ Puts (reportBytes (hostOf self) (now (list .entry))) (now (area .entry)) at r (now (area .exit)) ⌝ }
+        ensures { λ r. ⌜ Puts (reportBytes (hostView self) (now (list .entry))) (now (area .entry)) at r (now (area .exit)) ⌝ }
     {
         if !self.carries_questions(list) {
             return at;

@@ -51,7 +51,7 @@ fn high_flags(terminator_echo: u8, timed: u8, set_choice: u8, escapes: u8) -> u1
 fn start_read_flags(f: StartReadFields) -> u32
     ensures { λ r. ⌜ r ≡ numberOf startReadWidths (flagsOf f) ⌝ }
 {
-    let low = low_flags(f.underflow, f.clears, f.formats, f.vertical);
+    let low = low_flags(f.underflow, f.clears_type_ahead, f.formats, f.vertical);
     let middle = middle_flags(f.continues, f.raises, f.disables, f.silent);
     let high = high_flags(f.terminator_echo, f.timed, f.set_choice, f.escapes);
     low as u32 + LOW_FLAGS * (middle as u32 + MIDDLE_FLAGS * (high as u32))

@@ -46,7 +46,7 @@ listMessage kind numbers parameters =
 -- Start Read: its flags, and all of it
 abbrev pub flagsOf : StartReadFields → List ℕ
 flagsOf f =
-    f .underflow ∷ f .clears ∷ f .formats ∷ f .vertical ∷ f .continues ∷ f .raises ∷ f .disables ∷ f .silent ∷
+    f .underflow ∷ f .«clears_type_ahead» ∷ f .formats ∷ f .vertical ∷ f .continues ∷ f .raises ∷ f .disables ∷ f .silent ∷
     f .«terminator_echo» ∷ f .timed ∷ f .«set_choice» ∷ f .escapes ∷ []
 
 unfoldable pub startReadIn : List ℕ → StartReadFields → forms.Message ℕ

@@ -54,8 +54,8 @@ fn start_read_flags(s: &[u8], set: Span, text: Span) -> StartReadFields
     ensures { λ r. ⌜ FlagsAre (now (s .entry)) set text r ⌝ }
 {
     let flags = three_at(s, layout::FLAGS);
-    let clears = flags / TWO_BITS;
-    let formats = clears / ONE_BIT;
+    let clears_type_ahead = flags / TWO_BITS;
+    let formats = clears_type_ahead / ONE_BIT;
     let vertical = formats / ONE_BIT;
     let continues = vertical / ONE_BIT;
     let raises = continues / ONE_BIT;
@@ -67,7 +67,7 @@ fn start_read_flags(s: &[u8], set: Span, text: Span) -> StartReadFields
     let escapes = set_choice / TWO_BITS;
     StartReadFields {
         underflow: (flags % TWO_BITS) as u8,
-        clears: (clears % ONE_BIT) as u8,
+        clears_type_ahead: (clears_type_ahead % ONE_BIT) as u8,
         formats: (formats % ONE_BIT) as u8,
         vertical: (vertical % ONE_BIT) as u8,
         continues: (continues % ONE_BIT) as u8,

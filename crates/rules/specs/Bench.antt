@@ -123,7 +123,7 @@ recognising = told (0x0B ∷ 0x00 ∷ 0x06 ∷ 0x02 ∷ 0x01 ∷ []) accepted []
 -- the numbers of a Start Read by name, and in the order of its head
 pub record StartReadNumbers : Type 0 where
   pub underflow : ℕ
-  pub clears : ℕ
+  pub clearsTypeAhead : ℕ
   pub formats : ℕ
   pub vertical : ℕ
   pub continues : ℕ
@@ -143,7 +143,7 @@ pub record StartReadNumbers : Type 0 where
 
 abbrev pub inOrder : StartReadNumbers → List ℕ
 inOrder h =
-    h .underflow ∷ h .clears ∷ h .formats ∷ h .vertical ∷ h .continues ∷ h .raises ∷ h .disables ∷ h .silent ∷ h .terminatorEcho ∷ h .timed ∷
+    h .underflow ∷ h .clearsTypeAhead ∷ h .formats ∷ h .vertical ∷ h .continues ∷ h .raises ∷ h .disables ∷ h .silent ∷ h .terminatorEcho ∷ h .timed ∷
     h .setChoice ∷ h .escapes ∷ h .maxLength ∷ h .endOfData ∷ h .timeout ∷ h .endOfPrompt ∷ h .startOfDisplay ∷ h .lowWater ∷ []
 
 -- The starred cases in order; D and H have two rows each.
@@ -157,7 +157,7 @@ starred =
           inOrder
           (record {
             underflow = 1;
-            clears = 0;
+            clearsTypeAhead = 0;
             formats = 0;
             vertical = 0;
             continues = 0;

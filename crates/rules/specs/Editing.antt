@@ -69,11 +69,11 @@ module _ {C : Type 0} (chars : Characters C) where
   displayed r = drop (hiddenCount r) (inputCodes r)
 
   -- what deleting writes, in a read that echoes
-  unfoldable pub rubbing : ℕ → Reading C → List ℕ
-  rubbing left r = pick (r .terms .echoes) (rubOut (marksBehind (left - hiddenCount r) (r .from) (displayed r))) []
+  unfoldable pub rubOutBytes : ℕ → Reading C → List ℕ
+  rubOutBytes left r = pick (r .terms .echoes) (rubOut (marksBehind (left - hiddenCount r) (r .from) (displayed r))) []
 
   unfoldable pub deletes : (C → Fate C) → ℕ → Reading C → Rule C
-  deletes fate left r = writes (rubbing left r) then deletesUnseen fate left r
+  deletes fate left r = writes (rubOutBytes left r) then deletesUnseen fate left r
 
   -- if the read echoes, the echo of what follows the prompt; its display begins here
   unfoldable pub displaysData : Reading C → Rule C

@@ -21,8 +21,8 @@ abbrev pub underflowCompletes : ℕ
 underflowCompletes = 2
 
 -- C: clear type-ahead
-abbrev pub clears : {D : Type 0} → Message D → ℕ
-clears m = number m 1
+abbrev pub clearsTypeAhead : {D : Type 0} → Message D → ℕ
+clearsTypeAhead m = number m 1
 
 -- F: formatting
 abbrev pub formats : {D : Type 0} → Message D → ℕ

@@ -48,7 +48,7 @@ fn fits_flags(f: StartReadFields) -> bool
     ensures { λ r. ⌜ r ≡ fits (widthsOf (formOf startRead .head)) (startReadIn [] f .numbers) ⌝ }
 {
     (f.underflow < bits::TWO)
-        & (f.clears < bits::ONE)
+        & (f.clears_type_ahead < bits::ONE)
         & (f.formats < bits::ONE)
         & (f.vertical < bits::ONE)
         & (f.continues < bits::ONE)

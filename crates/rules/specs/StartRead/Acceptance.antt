@@ -38,7 +38,7 @@ hidesInput m = hidesLF m && eqb (fields.endOfPrompt m) 0
 module _ {C : Type 0} where
   -- C clears type-ahead and any held token
   unfoldable pub clearsFirst : Message ℕ → Rule C
-  clearsFirst m = only (isOn (fields.clears m)) emptiesTyped
+  clearsFirst m = only (isOn (fields.clearsTypeAhead m)) emptiesTyped
 
   -- F writes LF if the last terminal byte was CR
   unfoldable pub feedsLine : Message ℕ → Rule C
