@@ -139,20 +139,20 @@ pub record HasTakenKey (w v : Work) : Type 0 where
   pub token : v .flow .typed .«token_len» ≡ w .flow .typed .«token_len»
 
 -- what the acts of a call ask: `Ready`, of a message only the Start Read test
-abbrev pub Fits : List ℕ → Flow → Terms → Act → Type 0
-Fits s f t Nothing = Unit {0}
-Fits s f t (Stores c) = c < codeCount
-Fits s f t (StoresQuoted c) = c < codeCount
-Fits s f t (SendsOutOfBand c) = Unit {0}
-Fits s f t (ClearsAtOnce c) = Unit {0}
-Fits s f t Quotes = Unit {0}
-Fits s f t Clears = Unit {0}
-Fits s f t FlipsDiscard = Unit {0}
-Fits s f t TakesToken = HasRoom t (f .reading)
-Fits s f t (Takes k) = CanTakeKey f t
-Fits s f t TimesOut = Unit {0}
-Fits s f t (Idles idle) = Unit {0}
-Fits s f t (Obeys m) = StartableMessage s m
+abbrev pub Doable : List ℕ → Flow → Terms → Act → Type 0
+Doable s f t Nothing = Unit {0}
+Doable s f t (Stores c) = c < codeCount
+Doable s f t (StoresQuoted c) = c < codeCount
+Doable s f t (SendsOutOfBand c) = Unit {0}
+Doable s f t (ClearsAtOnce c) = Unit {0}
+Doable s f t Quotes = Unit {0}
+Doable s f t Clears = Unit {0}
+Doable s f t FlipsDiscard = Unit {0}
+Doable s f t TakesToken = HasRoom t (f .reading)
+Doable s f t (Takes k) = CanTakeKey f t
+Doable s f t TimesOut = Unit {0}
+Doable s f t (Idles idle) = Unit {0}
+Doable s f t (Obeys m) = StartableMessage s m
 
 -- the act's rule, but of a host message without what it sets and reports
 abbrev pub flowAct : List ℕ → Line → Act → Rule ℕ

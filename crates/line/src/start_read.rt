@@ -287,7 +287,7 @@ impl Work {
         let known = flow.terminal;
         let screen = known.screen;
         let r = reading_at(f, s, screen.column);
-        let emptied = self.empties_typed_if(f.clears == fields::ON);
+        let emptied = self.empties_typed_if(f.clears_type_ahead == fields::ON);
         let next = emptied.flow;
         let shown = next.terminal;
         let cursor = shown.screen;
