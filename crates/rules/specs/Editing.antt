@@ -7,7 +7,7 @@ use lib.Dec.{ltb}
 use lib.ListN.{length, take, drop}
 use Rattle.rules.specs.Choice.{pick, within, bit}
 use Rattle.rules.specs.Screen.{CR, LF, echoAll, marksBehind, rubOut}
-use Rattle.rules.specs.State.{Characters, Reading, withRead, withFrom}
+use Rattle.rules.specs.State.{isSmall, Characters, Reading, withRead, withFrom}
 use Rattle.rules.specs.Turns.{Fate, Rule, writes, tells, changes, here, _then_}
 
 -- keys that edit, with DEL
@@ -20,9 +20,15 @@ deleteLineKey = 21
 abbrev pub redisplayKey : ℕ
 redisplayKey = 18
 
+abbrev pub isDigit : ℕ → Bool
+isDigit n = within 48 57 n
+
+abbrev pub isCapital : ℕ → Bool
+isCapital n = within 65 90 n
+
 -- word class: ASCII letter or digit, or neither
 unfoldable pub isWord : ℕ → Bool
-isWord n = within 48 57 n || within 65 90 n || within 97 122 n
+isWord n = isDigit n || isCapital n || isSmall n
 
 -- how many at the front pass a test
 unfoldable pub leading : (ℕ → Bool) → List ℕ → ℕ

@@ -6,7 +6,7 @@ use mathlib.Core.List.{List, [], _∷_}
 use lib.Dec.{leb, eqb}
 use lib.ListN.{length}
 use Rattle.rules.specs.Choice.{pick, isOn}
-use Rattle.rules.specs.Messages.Layout.{byteAt}
+use Rattle.rules.specs.Messages.Layout.{byteBits, byteAt}
 use Rattle.rules.specs.Messages.Forms.{Message, number}
 
 -- UU: what 127 or 23 does with nothing to delete
@@ -77,12 +77,15 @@ timed m = number m 9
 abbrev pub setChoice : {D : Type 0} → Message D → ℕ
 setChoice m = number m 10
 
--- the last one given, or this one; 2 is the universal set
+-- the last one given, this one, or the universal set
 abbrev pub choosesLast : ℕ
 choosesLast = 0
 
 abbrev pub choosesThis : ℕ
 choosesThis = 1
+
+abbrev pub choosesUniversal : ℕ
+choosesUniversal = 2
 
 -- EE: recognise escape sequences
 abbrev pub escapes : {D : Type 0} → Message D → ℕ
@@ -112,14 +115,27 @@ startOfDisplay m = number m 16
 abbrev pub lowWater : {D : Type 0} → Message D → ℕ
 lowWater m = number m 17
 
+-- the last values of UU, of II and EE, of ZZ and of DDD
+abbrev pub lastUnderflow : ℕ
+lastUnderflow = underflowCompletes
+
+abbrev pub lastSwitch : ℕ
+lastSwitch = switchedOn
+
+abbrev pub lastSetChoice : ℕ
+lastSetChoice = choosesUniversal
+
+abbrev pub lastDisable : ℕ
+lastDisable = disablesControls
+
 -- The Start Read test, but for the count of set bytes, which reading tests. The largest read is an argument.
 unfoldable pub soundStartRead : {D : Type 0} → ℕ → Message D → Bool
 soundStartRead largest m =
-    leb (underflow m) 2 &&
-    leb (raises m) 2 &&
-    leb (setChoice m) 2 &&
-    leb (escapes m) 2 &&
-    leb (disables m) 3 &&
+    leb (underflow m) lastUnderflow &&
+    leb (raises m) lastSwitch &&
+    leb (setChoice m) lastSetChoice &&
+    leb (escapes m) lastSwitch &&
+    leb (disables m) lastDisable &&
     leb (endOfPrompt m) (endOfData m) &&
     leb (lowWater m) (endOfData m) &&
     leb (startOfDisplay m) (endOfData m) &&
@@ -129,7 +145,7 @@ soundStartRead largest m =
 
 -- code c is in the set when bit c mod 8 of byte c div 8 is 1
 unfoldable pub inSet : List ℕ → ℕ → Bool
-inSet set c = isOn (byteAt set (c / 8) / 2 ^ (c % 8) % 2)
+inSet set c = isOn (byteAt set (c / byteBits) / 2 ^ (c % byteBits) % 2)
 
 -- the universal set: codes 0 to 31 except 8, 9, 18, 21, 23
 unfoldable pub universal : List ℕ

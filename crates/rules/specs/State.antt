@@ -16,9 +16,16 @@ pub record Characters (C : Type 0) : Type 0 where
   -- a character of the text that a Start Read brings
   pub given : ℕ → C
 
+-- the small letters, and what lies between one and its capital
+abbrev pub isSmall : ℕ → Bool
+isSmall n = within 97 122 n
+
+abbrev pub smallShift : ℕ
+smallShift = 32
+
 -- raised form: 97 to 122 less 32, others themselves
 unfoldable pub raised : ℕ → ℕ
-raised n = pick (within 97 122 n) (n - 32) n
+raised n = pick (isSmall n) (n - smallShift) n
 
 -- the characters that a program has: their codes
 abbrev pub codes : Characters ℕ

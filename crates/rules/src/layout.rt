@@ -28,9 +28,17 @@ pub const INPUT_COUNT: u16 = 4;
 // Initiate's REVISION
 pub const REVISION: u16 = 8;
 
-// FLAGS of a Start Read and of a Write, and a word
+// bytes of FLAGS, of a Start Read and of a Write, and of a byte and a word
 pub const START_READ_FLAGS: u8 = 3;
 
 pub const WRITE_FLAGS: u8 = 2;
 
+pub const BYTE: u8 = 1;
+
 pub const WORD: u8 = 2;
+
+// how many values a byte has, as in specs/Messages/Layout.antt
+pub const BYTE_VALUES: u32 = 256;
+
+// FLAGS of one byte in which no flag is set
+pub const NO_FLAGS: u8 = 0;

@@ -11,7 +11,7 @@ module _ {D : Type 0} where
   abbrev pub unreadCondition : Message D → ℕ
   unreadCondition m = number m 0
 
-  -- Write, UU
+  -- Write, UU: 0 is no lock handling
   abbrev pub lock : Message D → ℕ
   lock m = number m 0
 
@@ -23,7 +23,7 @@ module _ {D : Type 0} where
   abbrev pub keepsOutput : Message D → ℕ
   keepsOutput m = number m 2
 
-  -- PP
+  -- PP; 0 is none, and so it is of QQ
   abbrev pub prefix : Message D → ℕ
   prefix m = number m 5
 
@@ -41,3 +41,9 @@ module _ {D : Type 0} where
 
 abbrev pub unreadAlways : ℕ
 unreadAlways = 0
+
+abbrev pub noLock : ℕ
+noLock = 0
+
+abbrev pub noFix : ℕ
+noFix = 0

@@ -4,9 +4,9 @@ use mathlib.Core.Bool.{Bool, true, _&&_}
 use mathlib.Core.List.{List, [], _∷_}
 use lib.Dec.{ltb}
 use Rattle.rules.specs.Choice.{allAre}
-use Rattle.rules.specs.Messages.Layout.{Group, byteAt, numberAt}
+use Rattle.rules.specs.Messages.Layout.{Group, numberAt}
 use Rattle.rules.specs.Messages.Parameters.{fitsParameter, cut}
-use Rattle.rules.specs.Messages.Forms.{Tail, nothing, text, setAndText, list, Form, formOf}
+use Rattle.rules.specs.Messages.Forms.{typeIn, headAt, Tail, nothing, text, setAndText, list, Form, formOf}
 use Rattle.rules.specs.Messages.Codec.{behindHead}
 
 -- how many bits fields of these widths take
@@ -26,8 +26,8 @@ clearTail setAndText rest = true
 clearTail (list shape) rest = allAre (fitsParameter shape) (cut shape zero rest)
 
 unfoldable pub clearAs : Form → List ℕ → Bool
-clearAs f bytes = clearGroups (f .head) 1 bytes && clearTail (f .tail) (behindHead f bytes)
+clearAs f bytes = clearGroups (f .head) headAt bytes && clearTail (f .tail) (behindHead f bytes)
 
 -- the message in these bytes has its unused bits 0
 unfoldable pub unusedZero : List ℕ → Bool
-unusedZero bytes = clearAs (formOf (byteAt bytes 0)) bytes
+unusedZero bytes = clearAs (formOf (typeIn bytes)) bytes

@@ -4,7 +4,7 @@ use mathlib.Core.Bool.{Bool, _&&_}
 use mathlib.Core.List.{List, [], _∷_, map}
 use lib.Dec.{eqb}
 use lib.ListN.{take, drop}
-use Rattle.rules.specs.Choice.{pick, isOn, bit}
+use Rattle.rules.specs.Choice.{pick, isOn, isOff, bit}
 use Rattle.rules.specs.Messages.Layout.{byteAt}
 use Rattle.rules.specs.Messages.Forms.{Message}
 use Rattle.rules.specs.Screen.{SOH, LF}
@@ -57,7 +57,7 @@ module _ {C : Type 0} (chars : Characters C) where
         disables = fields.disables m;
         raises = chosen (fields.raises m) (s .host .switches .raising);
         recognises = chosen (fields.escapes m) (s .host .switches .recognising);
-        echoes = eqb (fields.silent m) 0 && s .host .switches .echoing;
+        echoes = isOff (fields.silent m) && s .host .switches .echoing;
         terminatorEcho = isOn (fields.terminatorEcho m);
         timed = isOn (fields.timed m);
         timeout = fields.timeout m;
