@@ -81,7 +81,7 @@ fn column_before(column: u16) -> u16
 
 // Lines count modulo 256.
 fn line_after(line: u8, b: u8) -> u8
-    ensures { λ r. ⌜ r ≡ pick (eqb b rules.LF) ((line + 1) % 256) line ⌝ }
+    ensures { λ r. ⌜ r ≡ pick (eqb b rules.LF) ((line + 1) % rules.positions) line ⌝ }
 {
     if b == characters::LF {
         return ((line as u16 + 1) % LINES) as u8;
