@@ -24,7 +24,7 @@ const MODIFICATION: usize = 4;
 const REVISION: u16 = 5;
 
 fn initiate_fields(s: &[u8]) -> InitiateFields
-    requires { ⌜ IsType forms.initiate (now s) × (13 ≤ length (now s)) ⌝ }
+    requires { ⌜ IsType forms.initiate (now s) × (forms.initiateHeader ≤ length (now s)) ⌝ }
     ensures { λ r. ⌜ FieldsIn forms.initiate (now (s .entry)) (variants.Initiate r) ⌝ }
 {
     let version = byte_at(s, VERSION);
