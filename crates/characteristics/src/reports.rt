@@ -13,7 +13,7 @@ ghost use Rattle.rules.specs.Calls.{carriesQuestions};
 ghost use Rattle.parameters.specs.Lists.{ParameterIs, usedAt};
 ghost use Rattle.areas.specs.Puts.{Puts};
 ghost use Rattle.characteristics.specs.View.{switchesOf, hostView};
-ghost use Rattle.characteristics.specs.Lists.{questionsIn, answersFrom, answerTo, reportBytes};
+ghost use Rattle.characteristics.specs.Lists.{longestAnswer, questionsIn, answersFrom, answerTo, reportBytes};
 use crate::Host;
 use crate::Switches;
 use crate::attributes::WHOLE_MASK;
@@ -27,14 +27,19 @@ use parameters::selectors;
 // Bytes of an answer for character attributes, and of a switch.
 const ATTRIBUTE_ANSWER: usize = parameters::HEAD + parameters::LONGEST_VALUE;
 
-const SWITCH_ANSWER: usize = parameters::HEAD + 1;
+const SWITCH_ANSWER: usize = parameters::HEAD + SWITCH_VALUE;
+
+// A switch's value has one byte; the others are handed on as 0.
+const SWITCH_VALUE: usize = 1;
+
+const NO_BYTE: u8 = 0;
 
 // Bytes in front of the answers: the message's length, MSGTYPE and FLAGS.
 const FRONT: usize = 4;
 
 // How many bytes the answer to one question takes.
 fn size_of_one(n: u16) -> usize
-    ensures { λ r. ⌜ ((h : rules.Host) (p : List ℕ) → n ≡ selector p → r ≡ length (reported h p)) × (r ≤ 5) ⌝ }
+    ensures { λ r. ⌜ ((h : rules.Host) (p : List ℕ) → n ≡ selector p → r ≡ length (reported h p)) × (r ≤ longestAnswer) ⌝ }
 {
     if n == selectors::CHARACTER_ATTRIBUTES {
         return ATTRIBUTE_ANSWER;
@@ -105,7 +110,7 @@ impl Host {
         }
         let switches = self.switches;
         let value = fields::bit_of(switches.value(p.selector));
-        parameters::put_setting(p.selector, value, 0, 0, 1, area, at)
+        parameters::put_setting(p.selector, value, NO_BYTE, NO_BYTE, SWITCH_VALUE, area, at)
     }
 
     // The answers to all questions, in order.
