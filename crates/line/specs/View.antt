@@ -6,7 +6,7 @@ use mathlib.Core.List.{List, [], _∷_}
 use mathlib.Core.Option.{Option, none, some}
 use lib.Dec.{leb}
 use lib.ListN.{take, drop}
-use Rattle.rules.specs.Numbers.{inputSize}
+use Rattle.rules.specs.Numbers.{codeCount, inputSize}
 use Rattle.rules.specs.State as rules
 use Rattle.screen.specs.View as screen
 use Rattle.characteristics.specs.View.{setOf, switchesOf}
@@ -22,7 +22,7 @@ terminalOf t =
 
 -- what a quoted key has above its code
 abbrev pub quotedMark : ℕ
-quotedMark = 256
+quotedMark = codeCount
 
 -- a key as its array has it: its code, and the mark if it is quoted
 abbrev pub keyOf : ℕ → rules.Key ℕ

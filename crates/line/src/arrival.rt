@@ -20,6 +20,7 @@ use crate::Terms;
 use crate::Work;
 use crate::acts::Act;
 use crate::read_data;
+use crate::read_data::NO_ENDING;
 use characteristics::out_of_band;
 use message::Message;
 use rules::characters;
@@ -237,7 +238,7 @@ impl Work {
             (now (messages .exit))) ⌝ }
     {
         if pending {
-            return self.completes(messages, read_data::OUT_OF_BAND, 0, r, text, t);
+            return self.completes(messages, read_data::OUT_OF_BAND, NO_ENDING, r, text, t);
         }
         self
     }

@@ -16,6 +16,7 @@ use crate::Terms;
 use crate::Work;
 use crate::events::HostMessage;
 use crate::read_data;
+use crate::read_data::NO_ENDING;
 use message::Message;
 
 // Unread's condition.
@@ -52,7 +53,7 @@ impl Work {
         let r = flow.reading;
         let nothing = (typed.waiting == 0) & (typed.token_len == 0) & (r.count == 0);
         if (condition == ALWAYS) | nothing {
-            return self.completes(messages, read_data::UNREAD, 0, r, text, t);
+            return self.completes(messages, read_data::UNREAD, NO_ENDING, r, text, t);
         }
         self
     }

@@ -40,6 +40,11 @@ pub(crate) const UNDERFLOW: u8 = 7;
 
 pub(crate) const ABSENTEE: u8 = 8;
 
+// How many characters at the end of a read are a terminator or an underflow code; a token's are as many as it has.
+pub(crate) const NO_ENDING: u16 = 0;
+
+pub(crate) const ONE_ENDING: u16 = 1;
+
 impl Work {
     // A partial token is dropped.
     fn loses_partial(self) -> Work

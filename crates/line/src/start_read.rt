@@ -27,6 +27,7 @@ use crate::Reading;
 use crate::Terms;
 use crate::Work;
 use crate::read_data;
+use crate::read_data::NO_ENDING;
 use characteristics::Set;
 use characteristics::Switches;
 use message::StartReadFields;
@@ -258,7 +259,7 @@ impl Work {
             (now (messages .exit))) ⌝ }
     {
         if full {
-            return self.completes(messages, read_data::BUFFER_FULL, 0, r, text, t);
+            return self.completes(messages, read_data::BUFFER_FULL, NO_ENDING, r, text, t);
         }
         self
     }

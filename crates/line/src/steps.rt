@@ -16,6 +16,8 @@ use crate::Reading;
 use crate::Terms;
 use crate::Work;
 use crate::read_data;
+use crate::read_data::NO_ENDING;
+use crate::read_data::ONE_ENDING;
 use rules::characters;
 
 // Codes that edit, by step rule 6.
@@ -85,7 +87,7 @@ impl Work {
         if r.end(t) + typed.token_len as u32 <= t.max_length as u32 {
             return self.ends_by_token(messages, r, text, t);
         }
-        self.completes(messages, read_data::ABSENTEE, 0, r, text, t)
+        self.completes(messages, read_data::ABSENTEE, NO_ENDING, r, text, t)
     }
 
     // Rules 1 and 3.
@@ -163,7 +165,7 @@ impl Work {
         let ready = self.with_read(next);
         let shown = ready.echoes_if(terminal, t.echoes, c);
         if r.end(t) + 1 == t.max_length as u32 {
-            return shown.completes(messages, read_data::BUFFER_FULL, 0, next, text, t);
+            return shown.completes(messages, read_data::BUFFER_FULL, NO_ENDING, next, text, t);
         }
         shown
     }
@@ -190,7 +192,7 @@ impl Work {
     {
         let next = r.push(text, c);
         let shown = self.echoes_terminator_if(terminal, t.terminator_echo & t.echoes, c);
-        shown.completes(messages, read_data::TERMINATOR, 1, next, text, t)
+        shown.completes(messages, read_data::TERMINATOR, ONE_ENDING, next, text, t)
     }
 
     // 127 or 23 with nothing to delete.
@@ -216,7 +218,7 @@ impl Work {
         let underflow = t.underflow;
         if underflow == UNDERFLOW_COMPLETES {
             let next = r.push(text, c);
-            return self.completes(messages, read_data::UNDERFLOW, 1, next, text, t);
+            return self.completes(messages, read_data::UNDERFLOW, ONE_ENDING, next, text, t);
         }
         if underflow == UNDERFLOW_RINGS {
             return self.put(terminal, characters::BEL);
