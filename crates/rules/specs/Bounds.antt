@@ -55,7 +55,7 @@ pub record BoundedReading (r : Reading ℕ) : Type 0 where
   pub lowWater : r .lowWater ≤ endOf r
   pub inputBytes : allBytes (r .input) ≡ true
   pub idle : r .terms .timed ≡ true → 0 < r .terms .timeout → r .idle < r .terms .timeout
-  pub from : r .from ≤ topColumn
+  pub displayColumn : r .displayColumn ≤ topColumn
 
 abbrev pub BoundedRead : Option (Reading ℕ) → Type 0
 BoundedRead none = Unit {0}

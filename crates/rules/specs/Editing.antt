@@ -7,7 +7,7 @@ use lib.Dec.{ltb}
 use lib.ListN.{length, take, drop}
 use Rattle.rules.specs.Choice.{pick, within, bit}
 use Rattle.rules.specs.Screen.{CR, LF, echoAll, marksBehind, rubOut}
-use Rattle.rules.specs.State.{isSmall, Characters, Reading, withRead, withFrom}
+use Rattle.rules.specs.State.{isSmall, Characters, Reading, withRead, withDisplayColumn}
 use Rattle.rules.specs.Turns.{Fate, Rule, writes, tells, changes, here, _then_}
 
 -- keys that edit, with DEL
@@ -49,7 +49,7 @@ module _ {C : Type 0} where
 
   -- the LF that F hides is never displayed
   unfoldable pub hiddenCount : Reading C → ℕ
-  hiddenCount r = bit (r .hidden)
+  hiddenCount r = bit (r .hiddenLF)
 
   -- the read with its first characters left; LOW-WATER falls to the new end if lower
   unfoldable pub shortened : ℕ → Reading C → Reading C
@@ -58,8 +58,8 @@ module _ {C : Type 0} where
         terms = r .terms;
         input = take left (r .input);
         lowWater = min (r .lowWater) (r .terms .endOfPrompt + left);
-        hidden = r .hidden && ltb 0 left;
-        from = r .from;
+        hiddenLF = r .hiddenLF && ltb 0 left;
+        displayColumn = r .displayColumn;
         idle = r .idle;
       }
 
@@ -76,7 +76,7 @@ module _ {C : Type 0} (chars : Characters C) where
 
   -- what deleting writes, in a read that echoes
   unfoldable pub rubOutBytes : ℕ → Reading C → List ℕ
-  rubOutBytes left r = pick (r .terms .echoes) (rubOut (marksBehind (left - hiddenCount r) (r .from) (displayed r))) []
+  rubOutBytes left r = pick (r .terms .echoes) (rubOut (marksBehind (left - hiddenCount r) (r .displayColumn) (displayed r))) []
 
   unfoldable pub deletes : (C → Fate C) → ℕ → Reading C → Rule C
   deletes fate left r = writes (rubOutBytes left r) then deletesUnseen fate left r
@@ -85,7 +85,7 @@ module _ {C : Type 0} (chars : Characters C) where
   unfoldable pub displaysData : Reading C → Rule C
   displaysData r =
       here (λ s.
-      changes (withRead (some (withFrom (s .terminal .screen .column) r))) then
+      changes (withRead (some (withDisplayColumn (s .terminal .screen .column) r))) then
       writes (pick (r .terms .echoes) (echoAll (s .terminal .screen .column) (displayed r)) []))
 
   -- the prompt raw, and what follows it

@@ -26,7 +26,7 @@ pub idle-bounded : (n : ℕ) (r : Reading ℕ) → (r .terms .timed ≡ true →
     BoundedReading r → BoundedReading (withIdle n r)
 unfolding endOf
 idle-bounded n r due b =
-    record { terms = b .terms; room = b .room; lowWater = b .lowWater; inputBytes = b .inputBytes; idle = due; from = b .from }
+    record { terms = b .terms; room = b .room; lowWater = b .lowWater; inputBytes = b .inputBytes; idle = due; displayColumn = b .displayColumn }
 
 idleAgain-bounded : (o : Option (Reading ℕ)) → BoundedRead o → BoundedRead (idleAgain o)
 unfolding idleAgain

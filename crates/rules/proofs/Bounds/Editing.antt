@@ -7,7 +7,7 @@ use lib.ListN.{length, length-take, length-drop, length-map}
 use Rattle.rules.specs.Choice.{pick}
 use Rattle.rules.specs.Numbers.{inputSize, topColumn}
 use Rattle.rules.specs.Screen.{echoAll}
-use Rattle.rules.specs.State.{Reading, State, codes, withFrom}
+use Rattle.rules.specs.State.{Reading, State, codes, withDisplayColumn}
 use Rattle.rules.specs.Turns.{Fate}
 use Rattle.rules.specs.Editing.{endOf, hiddenCount, inputCodes, shortened, deletesUnseen, displayed, rubOutBytes, deletes, displaysData, displays, redisplays}
 use Rattle.rules.specs.Bounds.{BoundedReading, BoundedRead}
@@ -37,7 +37,7 @@ shortened-bounded left r h =
       lowWater = omega arith;
       inputBytes = bytes-take left (r .input) (h .inputBytes);
       idle = h .idle;
-      from = h .from;
+      displayColumn = h .displayColumn;
     }
 
 module _ (fate : ℕ → Fate ℕ) (left : ℕ) (r : Reading ℕ) (b : BoundedReading r) where
@@ -51,7 +51,7 @@ module _ (fate : ℕ → Fate ℕ) (left : ℕ) (r : Reading ℕ) (b : BoundedRe
   rubOutBytes-length =
       let n = displayed-length r in
       let a = bounded-answerable r b in
-      let rubbed = rubbed-length (left - hiddenCount r) (r .from) (displayed codes r) in
+      let rubbed = rubbed-length (left - hiddenCount r) (r .displayColumn) (displayed codes r) in
       pick-case (λ (bs : List ℕ). length bs ≤ 24 * inputSize) _ (λ y. omega arith) (λ n. omega arith)
 
   pub deletes-good : {R : OfRead} {area : ℕ} {s : State ℕ} → Steady R s → Good BoundedRead (24 * inputSize) area (deletes codes fate left r s)
@@ -66,7 +66,7 @@ echoed-length r column =
     pick-case (λ (bs : List ℕ). length bs ≤ 8 * length (r .input)) _ (λ y. omega arith) (λ n. omega arith)
 
 pub displays-good : {P R : OfRead} {bytes area : ℕ} {s : State ℕ} (r : Reading ℕ) →
-    ((column : ℕ) → column ≤ topColumn → R (some (withFrom column r))) →
+    ((column : ℕ) → column ≤ topColumn → R (some (withDisplayColumn column r))) →
     length (r .terms .prompt) + 8 * length (r .input) ≤ bytes → Steady P s → Good R bytes area (displays codes r s)
 unfolding displays displaysData
 displays-good {area = area} r begun room h =
@@ -74,16 +74,16 @@ displays-good {area = area} r begun room h =
     (writes-good _ (omega arith) h) λ s₁ h₁.
     let column = s₁ .terminal .screen .column in
     changes-then _ _
-    (writes-good _ (echoed-length r column) (reread h₁ (some (withFrom column r)) (begun column (h₁ .terminal .column))))
+    (writes-good _ (echoed-length r column) (reread h₁ (some (withDisplayColumn column r)) (begun column (h₁ .terminal .column))))
 
-from-bounded : (r : Reading ℕ) → BoundedReading r → (column : ℕ) → column ≤ topColumn → BoundedReading (withFrom column r)
+display-column-bounded : (r : Reading ℕ) → BoundedReading r → (column : ℕ) → column ≤ topColumn → BoundedReading (withDisplayColumn column r)
 unfolding endOf
-from-bounded r b column h =
-    record { terms = b .terms; room = b .room; lowWater = b .lowWater; inputBytes = b .inputBytes; idle = b .idle; from = h }
+display-column-bounded r b column h =
+    record { terms = b .terms; room = b .room; lowWater = b .lowWater; inputBytes = b .inputBytes; idle = b .idle; displayColumn = h }
 
 pub redisplays-good : {R : OfRead} {area : ℕ} {s : State ℕ} (r : Reading ℕ) → BoundedReading r → Steady R s →
     Good BoundedRead (2 + 8 * inputSize) area (redisplays codes r s)
 unfolding redisplays endOf
 redisplays-good {area = area} r b h =
     then-good _ _ 2 (8 * inputSize) 0 area (omega arith) (omega arith) (writes-good _ (omega arith) h) λ s₁ h₁.
-    displays-good r (from-bounded r b) (omega arith) h₁
+    displays-good r (display-column-bounded r b) (omega arith) h₁

@@ -12,7 +12,7 @@ use Rattle.rules.specs.Choice.{bit, allAre}
 use Rattle.rules.specs.Numbers.{inputSize, topColumn}
 use Rattle.rules.specs.Messages.Forms.{Message}
 use Rattle.rules.specs.Messages.Codec.{allBytes}
-use Rattle.rules.specs.State.{State, codes, withFrom}
+use Rattle.rules.specs.State.{State, codes, withDisplayColumn}
 use Rattle.rules.specs.Editing.{endOf}
 use Rattle.rules.specs.StartRead as fields
 use Rattle.rules.specs.StartRead.{universal, chosenSet}
@@ -76,7 +76,7 @@ module _ (m : Message ℕ) (known : AcceptedStartRead m) {s : State ℕ} (h : St
   abbrev full : Bool
   full = eqb (fields.endOfData m) (fields.maxLength m)
 
-  reading-bounded : (column : ℕ) → column ≤ topColumn → Unless full (some (withFrom column (openedRead codes m s)))
+  reading-bounded : (column : ℕ) → column ≤ topColumn → Unless full (some (withDisplayColumn column (openedRead codes m s)))
   unfolding openedRead dataBehind hidesInput openedTerms shownPrompt endOf
   reading-bounded column top n =
       let end = input-length in
@@ -87,7 +87,7 @@ module _ (m : Message ℕ) (known : AcceptedStartRead m) {s : State ℕ} (h : St
         lowWater = omega arith;
         inputBytes = input-bytes;
         idle = λ timed due. due;
-        from = top;
+        displayColumn = top;
       }
 
   begins-good : Good BoundedRead (2 + 8 * inputSize) (10 + inputSize) (begins codes m (openedRead codes m s) s)

@@ -47,7 +47,7 @@ appended-bounded cs r b bytes room =
       lowWater = omega arith;
       inputBytes = bytes-append (r .input) cs (b .inputBytes) bytes;
       idle = b .idle;
-      from = b .from;
+      displayColumn = b .displayColumn;
     }
 
 -- Tokens: one that is not whole has room.

@@ -35,7 +35,7 @@ module _ {changed : ℕ → Bool} where
   unfolding deletes rubOutBytes
   deletes-agrees fate left r h =
       agrees-then
-      (agrees-writes (same-shown r h (λ ns. rubOut (marksBehind (left - hiddenCount r) (r .from) ns))))
+      (agrees-writes (same-shown r h (λ ns. rubOut (marksBehind (left - hiddenCount r) (r .displayColumn) ns))))
       (deletesUnseen-agrees fate left r h)
 
   pub displays-agrees : (r : Reading (Twin changed)) → LevelReading r → Agreeing (λ chars. displays chars r)

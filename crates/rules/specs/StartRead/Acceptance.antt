@@ -75,8 +75,8 @@ module _ {C : Type 0} (chars : Characters C) where
         terms = openedTerms m s;
         input = map (chars .given) (dataBehind m);
         lowWater = fields.lowWater m;
-        hidden = hidesInput m;
-        from = s .terminal .screen .column;
+        hiddenLF = hidesInput m;
+        displayColumn = s .terminal .screen .column;
         idle = 0;
       }
 
