@@ -23,7 +23,7 @@ use rules::bits;
 use rules::layout;
 
 // Bytes of Initiate's REVISION.
-const REVISION: usize = layout::REVISION as usize;
+const REVISION_SIZE: usize = layout::REVISION_SIZE as usize;
 
 // Fields of FLAGS, by how many values they have.
 const FOUR_BITS: u32 = bits::FOUR as u32;
@@ -39,7 +39,7 @@ fn put_eight(s: &[u8], p: Span, area: &mut [u8], at: usize) -> usize
     let t = message::span_of(s, p);
     let mut next = at;
     let mut i = 0;
-    while i < REVISION {
+    while i < REVISION_SIZE {
         next = put_byte(fields::byte_at(t, i), area, next);
         i += 1;
     }

@@ -95,10 +95,10 @@ fn start_read_fields(s: &[u8]) -> StartReadFields
 {
     let count = byte_at(s, SET_COUNT) as u16;
     let set = Span {
-        start: layout::START_READ,
+        start: layout::START_READ_HEADER,
         len: count,
     };
-    let text = rest_from(s, layout::START_READ + count);
+    let text = rest_from(s, layout::START_READ_HEADER + count);
     let mut f = start_read_flags(s, set, text);
     f.max_length = word_at(s, MAX_LENGTH);
     f.end_of_data = word_at(s, END_OF_DATA);

@@ -83,7 +83,7 @@ fn fits_initiate(f: InitiateFields, s: &[u8]) -> bool
     let revision = f.revision;
     let parameters = f.parameters;
     let whole = fits_list(rules::INITIATE, parameters, s);
-    (revision.len == layout::REVISION) & whole
+    (revision.len == layout::REVISION_SIZE) & whole
 }
 
 pub(crate) fn fits_message(m: Message, s: &[u8]) -> bool
