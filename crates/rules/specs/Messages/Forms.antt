@@ -16,8 +16,9 @@ pub record Message (D : Type 0) : Type 0 where
   -- DATA
   pub text : List D
 
-abbrev pub number : {D : Type 0} → Message D → ℕ → ℕ
-number m at = getD (m .numbers) at 0
+-- a field of the head by its place, 0 for one that is not there
+abbrev pub fieldAt : {D : Type 0} → Message D → ℕ → ℕ
+fieldAt m at = getD (m .numbers) at 0
 
 -- MSGTYPE, the first byte; the head, which is FLAGS first, begins behind it
 abbrev pub typeIn : List ℕ → ℕ
