@@ -49,7 +49,7 @@ unfolding Codec.definedKind Codec.definedFields Codec.wholeTail Codec.setIn Code
 openCodec = tt
 
 unfoldable pub openUnused : Unit {0}
-unfolding Unused.bitsOf Unused.clearGroups Unused.clearTail Unused.clearAs Unused.unusedZero
+unfolding Unused.bitsOf Unused.zeroGroups Unused.zeroTail Unused.zeroAs Unused.unusedZero
 openUnused = tt
 
 unfoldable pub openStartRead : Unit {0}
