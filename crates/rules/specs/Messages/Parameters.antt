@@ -80,7 +80,7 @@ abbrev pub firstSelector : ℕ
 firstSelector = 0x0201
 
 abbrev pub lastSelector : ℕ
-lastSelector = 0x020A
+lastSelector = errorProcessing
 
 unfoldable pub definedSelector : ℕ → Bool
 definedSelector n = within firstSelector lastSelector n
