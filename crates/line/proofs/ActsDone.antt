@@ -135,7 +135,7 @@ none-accepted l m a =
 -- without a message, what an act does to the flow is all that it does but for the keys
 pub keyed-does : (l : Line) (a : Act) → Ready [] l a → length (l .keys) ≡ typeAheadSize → {t m : List ℕ} {r : Work} {text′ t′ m′ : List ℕ} →
     Done [] a (l .terms) l (begunWork l 0) (l .text) t m r text′ t′ m′ →
-    Does (actRule [] l a) (begun l) t m (on (lent (l .terms) text′ (onKeys (keysAfter a (l .flow .typed .waiting) (l .keys)) l)) r) t′ m′
+    Does (actRule [] l a) (begun l) t m (on (lent (l .terms) text′ (onKeys (keysAfter a (l .flow .typed .«keys_len») (l .keys)) l)) r) t′ m′
 keyed-does l Nothing k size d = d size tt
 keyed-does l (Stores c) k size d = d size tt
 keyed-does l (StoresQuoted c) k size d = d size tt
@@ -152,11 +152,11 @@ keyed-does l (Obeys m) k size d = absurd (none-accepted l m k)
 
 -- the line with keys moved, another text and another flow is counted
 pub done-counted : (l : Line) (a : Act) (text : List ℕ) (r : Work) → Counted l → length text ≡ inputSize → CountedFlow (r .flow) →
-    Counted (on (lent (l .terms) text (onKeys (keysAfter a (l .flow .typed .waiting) (l .keys)) l)) r .line)
+    Counted (on (lent (l .terms) text (onKeys (keysAfter a (l .flow .typed .«keys_len») (l .keys)) l)) r .line)
 done-counted l a text r c size f =
     record {
       table = c .table;
-      keys = after-length a (l .flow .typed .waiting) (l .keys) ∙ c .keys;
+      keys = after-length a (l .flow .typed .«keys_len») (l .keys) ∙ c .keys;
       text = size;
       set = c .set;
       lastSet = c .lastSet;
@@ -180,7 +180,7 @@ module _ (e : Event) (l : Line) (b : Bounded l) (t m : List ℕ) (acceptance : A
   pub keyed-doable : Doable [] (l .flow) (l .terms) a
   keyed-doable = asks roomy refl
 
-  module _ (r : Work) (keys′ text′ t′ m′ : List ℕ) (k : keys′ ≡ keysAfter a (l .flow .typed .waiting) (l .keys)) (f : CountedFlow (r .flow))
+  module _ (r : Work) (keys′ text′ t′ m′ : List ℕ) (k : keys′ ≡ keysAfter a (l .flow .typed .«keys_len») (l .keys)) (f : CountedFlow (r .flow))
       (full : length text′ ≡ inputSize) (d : Done [] a (l .terms) l (begunWork l 0) (l .text) t m r text′ t′ m′)
       (same : a ≡ Nothing → (r ≡ begunWork l 0) × (text′ ≡ l .text)) where
     -- the call's answer
@@ -195,9 +195,9 @@ module _ (e : Event) (l : Line) (b : Bounded l) (t m : List ℕ) (acceptance : A
         (act-answers e [] t m l b acceptance (sym size ∙ y) (h y) _ t′ m′ (keyed-does l a (h y .ready) (b .counted .keys) d) (done-counted l a text′ r (b .counted) full f))
     acted false y =
         let n = none y in
-        let still : Does still (begun l) t m (on (lent (l .terms) text′ (onKeys (keysAfter Nothing (l .flow .typed .waiting) (l .keys)) l)) r) t′ m′ =
+        let still : Does still (begun l) t m (on (lent (l .terms) text′ (onKeys (keysAfter Nothing (l .flow .typed .«keys_len») (l .keys)) l)) r) t′ m′ =
         subst (λ z. Done [] z (l .terms) l (begunWork l 0) (l .text) t m r text′ t′ m′) n d (b .counted .keys) tt in
-        let keys : keys′ ≡ l .keys = k ∙ ap (λ z. keysAfter z (l .flow .typed .waiting) (l .keys)) n in
+        let keys : keys′ ≡ l .keys = k ∙ ap (λ z. keysAfter z (l .flow .typed .«keys_len») (l .keys)) n in
         let areas = still-areas still in
         let answer : told keys′ text′ r 1 ≡ refusal 1 l = λ i. told (keys i) (same n .1 i) (same n .0 i) 1 in
         subst (λ z. Answers (eventOf [] e) l t m (told keys′ text′ r smallArea) z m′) (sym (areas .0))

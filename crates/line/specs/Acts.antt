@@ -37,7 +37,7 @@ idleAtZero l = withIdle 0 (readingOf l (l .flow .reading))
 
 -- what `takesFirst` changes before the key's rule: the first key of this line is taken
 abbrev pub keyTaken : Line → State ℕ → State ℕ
-keyTaken l = steps.keyTaken (drop 1 (keysOf (l .flow .typed .waiting) (l .keys))) (readingOf l (l .flow .reading))
+keyTaken l = steps.keyTaken (drop 1 (keysOf (l .flow .typed .«keys_len») (l .keys))) (readingOf l (l .flow .reading))
 
 abbrev pub takesKey : Line → Rule ℕ
 takesKey l = changes (keyTaken l)
@@ -69,7 +69,7 @@ actRule s l (Obeys m) = obeysHeld (heldIn s (messageOf m))
 -- a key can be taken: one waits, a read has room for it, and so has a token that is begun
 pub record CanTakeKey (f : Flow) (t : Terms) : Type 0 where
   pub room : HasRoom t (f .reading)
-  pub waits : 0 < f .typed .waiting
+  pub waits : 0 < f .typed .«keys_len»
   pub short : f .typed .«token_len» < tokenSize
 
 -- the calls that may meet an act
@@ -191,4 +191,4 @@ abbrev pub Done : List ℕ → Act → Terms → Line → Work → List ℕ → 
 Done s act t l w text terminal messages r text′ terminal′ messages′ =
     length (l .keys) ≡ typeAheadSize → PromptsBy t l act →
     Does (flowAct s (onFlow (w .flow) (lent t text l)) act) (on (lent t text l) w) terminal messages
-    (on (lent t text′ (onKeys (keysAfter act (w .flow .typed .waiting) (l .keys)) l)) r) terminal′ messages′
+    (on (lent t text′ (onKeys (keysAfter act (w .flow .typed .«keys_len») (l .keys)) l)) r) terminal′ messages′

@@ -16,17 +16,17 @@ use Rattle.line.specs.View.{terminalOf, view}
 
 -- The arrays' lengths are their types'; here they stand beside the counts, where a proof finds them.
 pub record CountedTyped (t : Typed) : Type 0 where
-  pub waiting : t .waiting ≤ typeAheadSize
+  pub keysLength : t .«keys_len» ≤ typeAheadSize
   pub token : length (t .token) ≡ tokenSize
   pub tokenLength : t .«token_len» ≤ tokenSize
 
 pub record CountedFlow (f : Flow) : Type 0 where
   pub typed : CountedTyped (f .typed)
-  pub within : f .reading .count ≤ inputSize
+  pub within : f .reading .«input_len» ≤ inputSize
 
 -- a read and the text that is lent for it
 pub record CountedReading (r : Reading) (text : List ℕ) : Type 0 where
-  pub within : r .count ≤ inputSize
+  pub within : r .«input_len» ≤ inputSize
   pub full : length text ≡ inputSize
 
 pub record Counted (l : Line) : Type 0 where
@@ -45,7 +45,7 @@ pub record Bounded (l : Line) : Type 0 where
 -- nothing shown, nothing typed, no read
 pub record IsFreshFlow (f : Flow) : Type 0 where
   pub terminal : terminalOf (f .terminal) ≡ state.freshTerminal
-  pub waiting : f .typed .waiting ≡ 0
+  pub keysLength : f .typed .«keys_len» ≡ 0
   pub token : f .typed .«token_len» ≡ 0
   pub pending : f .pending ≡ false
   pub counted : CountedFlow f

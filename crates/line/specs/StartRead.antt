@@ -34,10 +34,10 @@ pub record Startable (s : List ℕ) (f : StartReadFields) : Type 0 where
 abbrev pub readingAt : List ℕ → StartReadFields → ℕ → Reading
 readingAt s f column =
     record {
-      count = f .«end_of_data» - f .«end_of_prompt»;
+      «input_len» = f .«end_of_data» - f .«end_of_prompt»;
       «low_water» = f .«low_water»;
-      hidden = hidesInput (startReadIn s f);
-      from = column;
+      «hidden_lf» = hidesInput (startReadIn s f);
+      «display_column» = column;
       idle = 0;
     }
 

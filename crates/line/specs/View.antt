@@ -38,7 +38,7 @@ unfoldable pub tokenOf : Typed → List ℕ
 tokenOf t = take (t .«token_len») (t .token)
 
 abbrev pub typedOf : List ℕ → Typed → rules.Typed ℕ
-typedOf keys t = record { typeAhead = keysOf (t .waiting) keys; token = tokenOf t }
+typedOf keys t = record { typeAhead = keysOf (t .«keys_len») keys; token = tokenOf t }
 
 -- the text of a read: what stands after the prompt in front, the prompt at the end
 unfoldable pub inputOf : ℕ → List ℕ → List ℕ
@@ -71,10 +71,10 @@ abbrev pub readingOf : Line → Reading → rules.Reading ℕ
 readingOf l r =
     record {
       terms = termsOf l;
-      input = inputOf (r .count) (l .text);
+      input = inputOf (r .«input_len») (l .text);
       lowWater = r .«low_water»;
-      hidden = r .hidden;
-      from = r .from;
+      hiddenLF = r .«hidden_lf»;
+      displayColumn = r .«display_column»;
       idle = r .idle;
     }
 

@@ -53,7 +53,7 @@ impl Line {
             taken: NO_KEY,
         };
         let act = flow.act_if(roomy, Event::Key(code), lookup, terms);
-        move_keys(&mut next.keys, typed.waiting as usize, act);
+        move_keys(&mut next.keys, typed.keys_len as usize, act);
         let w = Work {
             flow,
             at: 0,
@@ -90,7 +90,7 @@ impl Line {
             taken: flow.takes(first, ends, terms),
         };
         let act = flow.act_if(roomy, Event::Step, lookup, terms);
-        move_keys(&mut next.keys, typed.waiting as usize, act);
+        move_keys(&mut next.keys, typed.keys_len as usize, act);
         let w = Work {
             flow,
             at: 0,
@@ -124,7 +124,7 @@ impl Line {
             taken: NO_KEY,
         };
         let act = flow.act_if(roomy, Event::Tick, lookup, terms);
-        move_keys(&mut next.keys, typed.waiting as usize, act);
+        move_keys(&mut next.keys, typed.keys_len as usize, act);
         let w = Work {
             flow,
             at: 0,

@@ -23,7 +23,7 @@ const ECO: u8 = 0;
 
 const MODIFICATION: u8 = 0;
 
-const REVISION: usize = layout::REVISION as usize;
+const REVISION_SIZE: usize = layout::REVISION_SIZE as usize;
 
 // How many values a byte has.
 const BYTE_VALUES: usize = layout::BYTE_VALUES as usize;
@@ -57,13 +57,13 @@ fn put_parameter(head: u16, value: usize, area: &mut [u8], at: usize) -> usize
 fn put_initiate(area: &mut [u8], at: usize) -> usize
     ensures { λ r. ⌜ Puts (framed (sentBytes (rules.ourInitiate {D = ℕ}))) (now (area .entry)) at r (now (area .exit)) ⌝ }
 {
-    let spaces = [characters::SP; REVISION];
+    let spaces = [characters::SP; REVISION_SIZE];
     let revision = Span {
         start: 0,
-        len: layout::REVISION,
+        len: layout::REVISION_SIZE,
     };
     let parameters = Span {
-        start: layout::REVISION,
+        start: layout::REVISION_SIZE,
         len: PARAMETERS,
     };
     let head = Message::Initiate(InitiateFields {

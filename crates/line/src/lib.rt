@@ -37,7 +37,7 @@ pub struct Terminal {
 
 // Typed and not yet in a read: how many keys wait, and a partial or held token.
 pub struct Typed {
-    waiting: u16,
+    keys_len: u16,
     token: [u8; rules::TOKEN],
     token_len: u16,
 }
@@ -67,12 +67,12 @@ pub struct Terms {
 pub struct Reading {
     idle: u16,
     // of what stands after its prompt
-    count: u16,
+    input_len: u16,
     low_water: u16,
     // the column where the data's display last began
-    from: u16,
+    display_column: u16,
     // the first character is the LF that F hides
-    hidden: bool,
+    hidden_lf: bool,
 }
 
 // What the rules change besides the arrays. In this order it is copied fastest (docs/PERFORMANCE.md).

@@ -184,10 +184,10 @@ pub(crate) fn reading_at(f: StartReadFields, s: &[u8], column: u16) -> Reading
     ensures { λ r. ⌜ r ≡ readingAt (now (s .entry)) f column ⌝ }
 {
     Reading {
-        count: f.end_of_data - f.end_of_prompt,
+        input_len: f.end_of_data - f.end_of_prompt,
         low_water: f.low_water,
-        hidden: hides_lf(f, s) & (f.end_of_prompt == 0),
-        from: column,
+        hidden_lf: hides_lf(f, s) & (f.end_of_prompt == 0),
+        display_column: column,
         idle: 0,
     }
 }

@@ -21,13 +21,13 @@ use crate::read_data::ONE_ENDING;
 use rules::characters;
 
 // Codes that edit, by step rule 6.
-pub(crate) const DELETE_CHARACTER: u8 = characters::DEL;
+pub(crate) const DELETE_KEY: u8 = characters::DEL;
 
-pub(crate) const DELETE_WORD: u8 = 23;
+pub(crate) const DELETE_WORD_KEY: u8 = 23;
 
-pub(crate) const DELETE_LINE: u8 = 21;
+pub(crate) const DELETE_LINE_KEY: u8 = 21;
 
-pub(crate) const REDISPLAY: u8 = 18;
+pub(crate) const REDISPLAY_KEY: u8 = 18;
 
 // UU: what 127 or 23 does with nothing to delete.
 const UNDERFLOW_RINGS: u8 = 1;
@@ -45,7 +45,7 @@ impl Work {
     ) -> Work
         requires { ⌜ CountedFlow (self .flow) ⌝ }
         requires { ⌜ CountedReading r (now text) ⌝ }
-        requires { ⌜ r .count + self .flow .typed .«token_len» + t .«prompt_len» ≤ inputSize ⌝ }
+        requires { ⌜ r .«input_len» + self .flow .typed .«token_len» + t .«prompt_len» ≤ inputSize ⌝ }
         ensures counted { λ w. ⌜ CountedFlow (w .flow) ⌝ }
         ensures sized { λ w. ⌜ length (now (text .exit)) ≡ inputSize ⌝ }
         ensures rule { λ w.
@@ -240,7 +240,7 @@ impl Work {
         requires { ⌜ CountedFlow (self .flow) ⌝ }
         requires { ⌜ CountedReading r (now text) ⌝ }
         requires { ⌜ HasRoom t r ⌝ }
-        requires { ⌜ left ≤ r .count ⌝ }
+        requires { ⌜ left ≤ r .«input_len» ⌝ }
         ensures counted { λ w. ⌜ CountedFlow (w .flow) ⌝ }
         ensures sized { λ w. ⌜ length (now (text .exit)) ≡ inputSize ⌝ }
         ensures rule { λ w.
@@ -248,7 +248,7 @@ impl Work {
             DoesAcross (λ k. rules.erases codes left c (readingOf k r)) (lent t (now (text .entry)) l) self (now (terminal .entry)) (now (messages .entry))
             (lent t (now (text .exit)) l) w (now (terminal .exit)) (now (messages .exit))) ⌝ }
     {
-        let count = r.count;
+        let count = r.input_len;
         if count == 0 {
             return self.underflows(terminal, messages, c, r, text, t);
         }
@@ -275,15 +275,15 @@ impl Work {
             DoesAcross (λ k. rules.edits codes c (readingOf k r)) (lent t (now (text .entry)) l) self (now (terminal .entry)) (now (messages .entry))
             (lent t (now (text .exit)) l) w (now (terminal .exit)) (now (messages .exit))) ⌝ }
     {
-        if c == DELETE_CHARACTER {
+        if c == DELETE_KEY {
             let left = r.left_by_127();
             return self.erases(terminal, messages, left, c, r, text, t);
         }
-        if c == DELETE_WORD {
+        if c == DELETE_WORD_KEY {
             let left = r.left_by_23(text);
             return self.erases(terminal, messages, left, c, r, text, t);
         }
-        if c == DELETE_LINE {
+        if c == DELETE_LINE_KEY {
             return self.deletes(terminal, 0, r, text, t);
         }
         self.redisplays(terminal, r, text, t)
