@@ -1,7 +1,8 @@
 // Bytes and numbers into a lent area, from a place on; the answer is the next place. Where there is no room, nothing changes.
 ghost use mathlib.Core.List.{[], _∷_, _++_};
-ghost use Rattle.rules.specs.Messages.Layout.{bytesOf};
+ghost use Rattle.rules.specs.Messages.Layout.{wordBytes, bytesOf};
 ghost use Rattle.areas.specs.Puts.{Puts};
+use rules::layout;
 
 pub fn put_byte(b: u8, area: &mut [u8], at: usize) -> usize
     ensures { λ r. ⌜ Puts (b ∷ []) (now (area .entry)) at r (now (area .exit)) ⌝ }
@@ -29,8 +30,8 @@ pub fn put_number(count: u8, n: u32, area: &mut [u8], at: usize) -> usize
     let mut rest = n;
     let mut next = at;
     while 0 < left {
-        next = put_byte((rest % 256) as u8, area, next);
-        rest /= 256;
+        next = put_byte((rest % layout::BYTE_VALUES) as u8, area, next);
+        rest /= layout::BYTE_VALUES;
         left -= 1;
     }
     next
@@ -51,7 +52,7 @@ pub fn put_bytes(s: &[u8], area: &mut [u8], at: usize) -> usize
 
 // Two bytes, low byte first.
 pub fn put_word(n: u16, area: &mut [u8], at: usize) -> usize
-    ensures { λ r. ⌜ Puts (bytesOf 2 n) (now (area .entry)) at r (now (area .exit)) ⌝ }
+    ensures { λ r. ⌜ Puts (bytesOf wordBytes n) (now (area .entry)) at r (now (area .exit)) ⌝ }
 {
-    put_number(rules::layout::WORD, n as u32, area, at)
+    put_number(layout::WORD, n as u32, area, at)
 }

@@ -9,6 +9,10 @@ use Rattle.rules.specs.Characteristics.{reported, report}
 use Rattle.rules.specs.Calls.{framed, sentBytes, carriesQuestions}
 use Rattle.parameters.specs.Lists.{parametersFrom}
 
+-- the bytes of the longest answer to one question: SELECTOR, CHARACTER, MASK and ATTRIBUTES
+abbrev pub longestAnswer : ℕ
+longestAnswer = 5
+
 -- a message of each type, by its list
 abbrev pub settingsIn : List ℕ → Message ℕ
 settingsIn list =

@@ -18,8 +18,8 @@ abbrev pub switchesOf : Switches → rules.Switches
 switchesOf s =
     record { raising = s .raising; echoing = s .echoing; recognising = s .recognising; prompting = s .prompting }
 
-abbrev pub hostOf : Host → rules.Host
-hostOf h =
+abbrev pub hostView : Host → rules.Host
+hostView h =
     record { initiated = h .initiated; switches = switchesOf (h .switches); attributes = h .attributes; lastSet = setOf (h .«last_set») }
 
 pub record CountedSet (s : Set) : Type 0 where

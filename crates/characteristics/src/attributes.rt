@@ -12,7 +12,7 @@ pub(crate) const WHOLE_MASK: u8 = bits::SEVEN - 1;
 
 impl Host {
     // What a character's attribute is.
-    pub fn attribute(self, c: u8) -> u8
+    pub(crate) fn attribute(self, c: u8) -> u8
         ensures { λ r. ⌜ r ≡ getD (self .attributes) c 0 ⌝ }
     {
         let attributes = self.attributes;

@@ -12,8 +12,8 @@ ghost use Rattle.rules.specs.Characteristics.{switchOf, reported};
 ghost use Rattle.rules.specs.Calls.{carriesQuestions};
 ghost use Rattle.parameters.specs.Lists.{ParameterIs, usedAt};
 ghost use Rattle.areas.specs.Puts.{Puts};
-ghost use Rattle.characteristics.specs.View.{switchesOf, hostOf};
-ghost use Rattle.characteristics.specs.Lists.{questionsIn, answersFrom, answerTo, reportBytes};
+ghost use Rattle.characteristics.specs.View.{switchesOf, hostView};
+ghost use Rattle.characteristics.specs.Lists.{longestAnswer, questionsIn, answersFrom, answerTo, reportBytes};
 use crate::Host;
 use crate::Switches;
 use crate::attributes::WHOLE_MASK;
@@ -27,14 +27,19 @@ use parameters::selectors;
 // Bytes of an answer for character attributes, and of a switch.
 const ATTRIBUTE_ANSWER: usize = parameters::HEAD + parameters::LONGEST_VALUE;
 
-const SWITCH_ANSWER: usize = parameters::HEAD + 1;
+const SWITCH_ANSWER: usize = parameters::HEAD + SWITCH_VALUE;
+
+// A switch's value has one byte; the others are handed on as 0.
+const SWITCH_VALUE: usize = 1;
+
+const NO_BYTE: u8 = 0;
 
 // Bytes in front of the answers: the message's length, MSGTYPE and FLAGS.
 const FRONT: usize = 4;
 
 // How many bytes the answer to one question takes.
 fn size_of_one(n: u16) -> usize
-    ensures { λ r. ⌜ ((h : rules.Host) (p : List ℕ) → n ≡ selector p → r ≡ length (reported h p)) × (r ≤ 5) ⌝ }
+    ensures { λ r. ⌜ ((h : rules.Host) (p : List ℕ) → n ≡ selector p → r ≡ length (reported h p)) × (r ≤ longestAnswer) ⌝ }
 {
     if n == selectors::CHARACTER_ATTRIBUTES {
         return ATTRIBUTE_ANSWER;
@@ -77,7 +82,7 @@ impl Switches {
 impl Host {
     // All are of the five, and the answer and its length fit the message area.
     pub fn carries_questions(self, list: &[u8]) -> bool
-        ensures { λ r. ⌜ ((s : State ℕ) → r ≡ carriesQuestions (withHost (hostOf self) s) (questionsIn (now (list .entry)))) ⌝ }
+        ensures { λ r. ⌜ ((s : State ℕ) → r ≡ carriesQuestions (withHost (hostView self) s) (questionsIn (now (list .entry)))) ⌝ }
     {
         if !all_carried(rules::READ_CHARACTERISTICS, list) {
             return false;
@@ -89,7 +94,7 @@ impl Host {
     fn put_answer(self, p: Parameter, area: &mut [u8], at: usize) -> usize
         ensures { λ r.
             ⌜ ((i : ℕ) (s : List ℕ) → ParameterIs readCharacteristics i s p →
-            Puts (reported (hostOf self) (usedAt readCharacteristics i s)) (now (area .entry)) at r (now (area .exit))) ⌝ }
+            Puts (reported (hostView self) (usedAt readCharacteristics i s)) (now (area .entry)) at r (now (area .exit))) ⌝ }
     {
         if p.selector == selectors::CHARACTER_ATTRIBUTES {
             let attributes = self.attribute(p.first);
@@ -105,13 +110,13 @@ impl Host {
         }
         let switches = self.switches;
         let value = fields::bit_of(switches.value(p.selector));
-        parameters::put_setting(p.selector, value, 0, 0, 1, area, at)
+        parameters::put_setting(p.selector, value, NO_BYTE, NO_BYTE, SWITCH_VALUE, area, at)
     }
 
     // The answers to all questions, in order.
     fn put_answers(self, list: &[u8], area: &mut [u8], at: usize) -> usize
         ensures { λ r.
-            ⌜ Puts (answersFrom 0 (now (list .entry)) (hostOf self)) (now (area .entry)) at r (now (area .exit)) ⌝ }
+            ⌜ Puts (answersFrom 0 (now (list .entry)) (hostView self)) (now (area .entry)) at r (now (area .exit)) ⌝ }
     {
         let mut next = at;
         let mut i = 0;
@@ -125,7 +130,7 @@ impl Host {
 
     // The answer behind its length where it is carried; else nothing.
     pub fn put_report(self, list: &[u8], area: &mut [u8], at: usize) -> usize
-        ensures { λ r. ⌜ Puts (reportBytes (hostOf self) (now (list .entry))) (now (area .entry)) at r (now (area .exit)) ⌝ }
+        ensures { λ r. ⌜ Puts (reportBytes (hostView self) (now (list .entry))) (now (area .entry)) at r (now (area .exit)) ⌝ }
     {
         if !self.carries_questions(list) {
             return at;

@@ -4,6 +4,7 @@ ghost use Rattle.rules.specs.StartRead as sets;
 ghost use Rattle.rules.specs.StartRead.{inSet};
 ghost use Rattle.characteristics.specs.View.{setOf, CountedSet};
 use crate::Set;
+use rules::bits;
 
 // Codes that a byte of a set holds, from its lowest bit on.
 const CODES_A_BYTE: u8 = 8;
@@ -36,6 +37,6 @@ impl Set {
         if self.len <= at {
             return false;
         }
-        (bytes[at as usize] >> (c % CODES_A_BYTE)) % 2 == 1
+        (bytes[at as usize] >> (c % CODES_A_BYTE)) % bits::ONE == fields::ON
     }
 }

@@ -7,7 +7,7 @@ ghost use Rattle.rules.specs.Messages.Forms.{characteristics};
 ghost use Rattle.rules.specs.Messages.Parameters.{selector};
 ghost use Rattle.rules.specs.Characteristics.{isCarried, withSwitch, withParameter, withParameters, carriesSettings};
 ghost use Rattle.parameters.specs.Lists.{ParameterIs, parametersFrom, usedAt};
-ghost use Rattle.characteristics.specs.View.{switchesOf, hostOf, KeepsSettings};
+ghost use Rattle.characteristics.specs.View.{switchesOf, hostView, KeepsSettings};
 ghost use Rattle.characteristics.specs.Lists.{settingsIn};
 use crate::Host;
 use crate::Switches;
@@ -77,7 +77,7 @@ impl Switches {
 impl Host {
     // One parameter of a Characteristics message, wherever it stood.
     fn with_setting(self, p: Parameter) -> Host
-        ensures same { λ r. ⌜ ((at : ℕ) (s : List ℕ) → ParameterIs characteristics at s p → hostOf r ≡ withParameter (usedAt characteristics at s) (hostOf self)) ⌝ }
+        ensures same { λ r. ⌜ ((at : ℕ) (s : List ℕ) → ParameterIs characteristics at s p → hostView r ≡ withParameter (usedAt characteristics at s) (hostView self)) ⌝ }
         ensures kept { λ r. ⌜ KeepsSettings self r ⌝ }
     {
         let mut next = self;
@@ -95,7 +95,7 @@ impl Host {
 
     // All parameters of a Characteristics message, in order.
     pub fn with_settings(self, list: &[u8]) -> Host
-        ensures { λ r. ⌜ (hostOf r ≡ withParameters (parametersFrom characteristics 0 (now (list .entry))) (hostOf self)) × KeepsSettings self r ⌝ }
+        ensures { λ r. ⌜ (hostView r ≡ withParameters (parametersFrom characteristics 0 (now (list .entry))) (hostView self)) × KeepsSettings self r ⌝ }
     {
         let mut host = self;
         let mut at = 0;
@@ -109,7 +109,7 @@ impl Host {
 
     // All are of the five, and no character is left deferred-clear.
     pub fn carries_settings(self, list: &[u8]) -> bool
-        ensures { λ r. ⌜ r ≡ carriesSettings (hostOf self) (settingsIn (now (list .entry))) ⌝ }
+        ensures { λ r. ⌜ r ≡ carriesSettings (hostView self) (settingsIn (now (list .entry))) ⌝ }
     {
         if !all_carried(rules::CHARACTERISTICS, list) {
             return false;

@@ -41,7 +41,7 @@ module _ (keys text : List ℕ) (set : Set) (terms : Terms) (flow : Flow) where
         record {
           host = record { initiated = false; switches = freshSwitches; attributes = replicate 256 0; lastSet = universal-set .0 i };
           terminal = f .terminal i;
-          typed = record { typeAhead = keysOf (f .waiting i) keys; token = take (f .token i) (flow .typed .token) };
+          typed = record { typeAhead = keysOf (f .keysLength i) keys; token = take (f .token i) (flow .typed .token) };
           read = pendingOf (f .pending i) (readingOf lineOf (flow .reading));
         }
 

@@ -8,7 +8,7 @@ use Rattle.line.specs.Bounded.{CountedFlow}
 
 pub record IsFreshFlow (f : Flow) : Type 0 where
   pub terminal : terminalOf (f .terminal) ≡ freshTerminal
-  pub waiting : f .typed .waiting ≡ 0
+  pub keysLength : f .typed .«keys_len» ≡ 0
   pub token : f .typed .«token_len» ≡ 0
   pub pending : f .pending ≡ false
   pub counted : CountedFlow f

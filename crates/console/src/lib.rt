@@ -51,15 +51,15 @@ fn fresh_flow() -> Flow
         dropped: 0,
     };
     let typed = Typed {
-        waiting: 0,
+        keys_len: 0,
         token: [0u8; rules::TOKEN],
         token_len: 0,
     };
     let reading = Reading {
-        count: 0,
+        input_len: 0,
         low_water: 0,
-        hidden: false,
-        from: 0,
+        hidden_lf: false,
+        display_column: 0,
         idle: 0,
     };
     Flow {

@@ -1,7 +1,11 @@
 // Fields of a message: numbers in a slice, low byte first, and flags as numbers. All are total: past the end of a slice stands 0.
 ghost use mathlib.Core.Path.{_≡_};
 ghost use Rattle.rules.specs.Choice.{bit};
-ghost use Rattle.rules.specs.Messages.Layout.{byteAt, numberAt};
+ghost use Rattle.rules.specs.Messages.Layout.{wordBytes, byteAt, numberAt};
+use rules::layout;
+
+// How many values a byte has.
+const BYTE_VALUES: u16 = layout::BYTE_VALUES as u16;
 
 pub fn byte_at(s: &[u8], at: usize) -> u8
     ensures { λ r. ⌜ r ≡ byteAt (now (s .entry)) at ⌝ }
@@ -11,14 +15,14 @@ pub fn byte_at(s: &[u8], at: usize) -> u8
 
 // Two bytes, low byte first.
 pub fn word_at(s: &[u8], at: usize) -> u16
-    ensures { λ r. ⌜ r ≡ numberAt 2 at (now (s .entry)) ⌝ }
+    ensures { λ r. ⌜ r ≡ numberAt wordBytes at (now (s .entry)) ⌝ }
 {
     if s.len() <= at {
         return 0;
     }
     let low = byte_at(s, at) as u16;
     let high = byte_at(s, at + 1) as u16;
-    low + 256 * high
+    low + BYTE_VALUES * high
 }
 
 // Three bytes, low byte first.
@@ -30,7 +34,7 @@ pub fn three_at(s: &[u8], at: usize) -> u32
     }
     let low = byte_at(s, at) as u32;
     let rest = word_at(s, at + 1) as u32;
-    low + 256 * rest
+    low + layout::BYTE_VALUES * rest
 }
 
 // A flag as a number.

@@ -2,7 +2,7 @@
 use Prim.Native.Nat.{ℕ, _%_}
 use mathlib.Core.List.{List, [], _∷_, _++_}
 use lib.ListN.{length}
-use Rattle.rules.specs.Messages.Layout.{bytesOf, writeGroups}
+use Rattle.rules.specs.Messages.Layout.{byteValues, wordBytes, bytesOf, writeGroups}
 use Rattle.rules.specs.Messages.Forms.{Message, Tail, nothing, text, setAndText, list, formOf}
 use Rattle.rules.specs.Messages.Codec.{Held, message, other}
 use Rattle.message.specs.declared.StartReadFields.{StartReadFields}
@@ -12,7 +12,7 @@ use Rattle.message.specs.declared.WriteFields.{WriteFields}
 unfoldable pub frontTail : Tail → Message ℕ → List ℕ
 frontTail nothing m = []
 frontTail text m = m .text
-frontTail setAndText m = length (m .set) % 256 ∷ (m .set ++ m .text)
+frontTail setAndText m = length (m .set) % byteValues ∷ (m .set ++ m .text)
 frontTail (list shape) m = []
 
 unfoldable pub frontBytes : Held → List ℕ
@@ -22,8 +22,8 @@ frontBytes (other kind body) = []
 -- the words of a Start Read
 abbrev pub startReadWords : StartReadFields → List ℕ
 startReadWords f =
-    bytesOf 2 (f .«max_length») ++ (bytesOf 2 (f .«end_of_data») ++ (bytesOf 2 (f .timeout) ++
-    (bytesOf 2 (f .«end_of_prompt») ++ (bytesOf 2 (f .«start_of_display») ++ bytesOf 2 (f .«low_water»)))))
+    bytesOf wordBytes (f .«max_length») ++ (bytesOf wordBytes (f .«end_of_data») ++ (bytesOf wordBytes (f .timeout) ++
+    (bytesOf wordBytes (f .«end_of_prompt») ++ (bytesOf wordBytes (f .«start_of_display») ++ bytesOf wordBytes (f .«low_water»)))))
 
 -- the flags of a Write
 abbrev pub writeFlags : WriteFields → List ℕ

@@ -2,7 +2,7 @@
 ghost use mathlib.Core.Path.{_≡_};
 ghost use Prim.Native.Nat.{_+_, _*_};
 ghost use Rattle.rules.specs.Messages.Layout.{byte, numberOf, writeGroups};
-ghost use Rattle.rules.specs.Messages.Forms.{writeWidths};
+ghost use Rattle.rules.specs.Messages.Forms.{revisionSize, writeWidths};
 ghost use lib.ListN.{replicate};
 ghost use Rattle.message.specs.declared.Message.the-variants as variants;
 ghost use Rattle.message.specs.Found.{heldIn, spanOf};
@@ -23,7 +23,7 @@ use rules::bits;
 use rules::layout;
 
 // Bytes of Initiate's REVISION.
-const REVISION: usize = layout::REVISION as usize;
+const REVISION_SIZE: usize = layout::REVISION_SIZE as usize;
 
 // Fields of FLAGS, by how many values they have.
 const FOUR_BITS: u32 = bits::FOUR as u32;
@@ -34,12 +34,12 @@ const TWO_BITS: u16 = bits::TWO as u16;
 
 // Eight bytes of a span; 0 for those that it does not have.
 fn put_eight(s: &[u8], p: Span, area: &mut [u8], at: usize) -> usize
-    ensures { λ r. ⌜ Puts (writeGroups (replicate 8 byte) (spanOf (now (s .entry)) p)) (now (area .entry)) at r (now (area .exit)) ⌝ }
+    ensures { λ r. ⌜ Puts (writeGroups (replicate revisionSize byte) (spanOf (now (s .entry)) p)) (now (area .entry)) at r (now (area .exit)) ⌝ }
 {
     let t = message::span_of(s, p);
     let mut next = at;
     let mut i = 0;
-    while i < REVISION {
+    while i < REVISION_SIZE {
         next = put_byte(fields::byte_at(t, i), area, next);
         i += 1;
     }
@@ -50,9 +50,9 @@ pub(crate) fn put_initiate(f: InitiateFields, s: &[u8], area: &mut [u8], at: usi
     ensures { λ r. ⌜ Puts (frontBytes (heldIn (now (s .entry)) (variants.Initiate f))) (now (area .entry)) at r (now (area .exit)) ⌝ }
 {
     let revision = f.revision;
-    let next = put_pair(rules::INITIATE, 0, area, at);
+    let next = put_pair(rules::INITIATE, layout::NO_FLAGS, area, at);
     let next = put_pair(f.version, f.eco, area, next);
-    let next = put_number(1, f.modification as u32, area, next);
+    let next = put_number(layout::BYTE, f.modification as u32, area, next);
     put_eight(s, revision, area, next)
 }
 
@@ -62,7 +62,7 @@ pub(crate) fn put_read_data(f: ReadDataFields, s: &[u8], area: &mut [u8], at: us
     let text = f.text;
     let flags = f.code as u32 + FOUR_BITS * (f.more as u32);
     let next = put_byte(rules::READ_DATA, area, at);
-    let next = put_number(1, flags, area, next);
+    let next = put_number(layout::BYTE, flags, area, next);
     let next = put_word(f.low_water, area, next);
     let next = put_pair(f.vertical, f.horizontal, area, next);
     let next = put_word(f.terminator, area, next);
@@ -137,6 +137,6 @@ pub(crate) fn put_write_completion(
 pub(crate) fn put_input_count(count: u16, s: &[u8], area: &mut [u8], at: usize) -> usize
     ensures { λ r. ⌜ Puts (frontBytes (heldIn (now (s .entry)) (variants.InputCount count))) (now (area .entry)) at r (now (area .exit)) ⌝ }
 {
-    let next = put_pair(rules::INPUT_COUNT, 0, area, at);
+    let next = put_pair(rules::INPUT_COUNT, layout::NO_FLAGS, area, at);
     put_word(count, area, next)
 }

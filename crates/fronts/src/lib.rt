@@ -11,6 +11,7 @@ use crate::heads::put_write_completion;
 use crate::start_read::put_start_read;
 use areas::put_pair;
 use message::Message;
+use rules::layout;
 
 mod heads;
 mod put;
@@ -32,7 +33,7 @@ pub fn put_message(m: Message, s: &[u8], area: &mut [u8], at: usize) -> usize
             at,
         ),
         Message::Unread { condition } => put_pair(rules::UNREAD, condition, area, at),
-        Message::ClearInput => put_pair(rules::CLEAR_INPUT, 0, area, at),
+        Message::ClearInput => put_pair(rules::CLEAR_INPUT, layout::NO_FLAGS, area, at),
         Message::Write(f) => put_write(f, s, area, at),
         Message::WriteCompletion {
             lost,
@@ -42,12 +43,17 @@ pub fn put_message(m: Message, s: &[u8], area: &mut [u8], at: usize) -> usize
         Message::DiscardState { kept } => put_pair(rules::DISCARD_STATE, kept, area, at),
         Message::ReadCharacteristics { parameters: _ } => put_pair(
             rules::READ_CHARACTERISTICS,
-            0,
+            layout::NO_FLAGS,
             area,
             at,
         ),
-        Message::Characteristics { parameters: _ } => put_pair(rules::CHARACTERISTICS, 0, area, at),
-        Message::CheckInput => put_pair(rules::CHECK_INPUT, 0, area, at),
+        Message::Characteristics { parameters: _ } => put_pair(
+            rules::CHARACTERISTICS,
+            layout::NO_FLAGS,
+            area,
+            at,
+        ),
+        Message::CheckInput => put_pair(rules::CHECK_INPUT, layout::NO_FLAGS, area, at),
         Message::InputCount { count } => put_input_count(count, s, area, at),
         Message::InputState { nonzero } => put_pair(rules::INPUT_STATE, nonzero, area, at),
         Message::Other { kind: _, body: _ } => at,

@@ -22,6 +22,9 @@ const TWO_BITS: u16 = bits::TWO as u16;
 
 const THREE_BITS: u16 = bits::THREE as u16;
 
+// How many values a byte has.
+const BYTE_VALUES: usize = layout::BYTE_VALUES as usize;
+
 // How many values the first four fields have together, and the four behind them.
 pub(crate) const LOW_FLAGS: u32 = 32;
 
@@ -51,7 +54,7 @@ fn high_flags(terminator_echo: u8, timed: u8, set_choice: u8, escapes: u8) -> u1
 fn start_read_flags(f: StartReadFields) -> u32
     ensures { λ r. ⌜ r ≡ numberOf startReadWidths (flagsOf f) ⌝ }
 {
-    let low = low_flags(f.underflow, f.clears, f.formats, f.vertical);
+    let low = low_flags(f.underflow, f.clears_type_ahead, f.formats, f.vertical);
     let middle = middle_flags(f.continues, f.raises, f.disables, f.silent);
     let high = high_flags(f.terminator_echo, f.timed, f.set_choice, f.escapes);
     low as u32 + LOW_FLAGS * (middle as u32 + MIDDLE_FLAGS * (high as u32))
@@ -76,7 +79,7 @@ pub(crate) fn put_start_read(f: StartReadFields, s: &[u8], area: &mut [u8], at: 
     let text = f.text;
     let flags = start_read_flags(f);
     let bytes = message::span_of(s, set);
-    let count = (bytes.len() % 256) as u8;
+    let count = (bytes.len() % BYTE_VALUES) as u8;
     let next = put_byte(rules::START_READ, area, at);
     let next = put_number(layout::START_READ_FLAGS, flags, area, next);
     let next = put_words(f, area, next);

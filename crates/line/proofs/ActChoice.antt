@@ -16,11 +16,11 @@ use Rattle.line.specs.declared.acts.Act.the-variants.{Nothing, Obeys}
 use Rattle.line.specs.declared.events.HostMessage.{HostMessage}
 use Rattle.line.specs.declared.events.Event.{Event}
 use Rattle.line.specs.declared.events.Event.the-variants.{Key, Tick, Step, Host}
-use Rattle.line.specs.declared.events.Seen.{Seen}
+use Rattle.line.specs.declared.events.Lookup.{Lookup}
 use Rattle.line.specs.Events.{Sees, isActOf, eventRule}
 use Rattle.line.specs.Answers.{Answers}
 use Rattle.line.specs.Bounded.{Counted, Bounded}
-use Rattle.line.proofs.EventRules.{eventOf, Admitted, event-answers, event-bytes}
+use Rattle.line.proofs.EventRules.{eventOf, AcceptedEvent, event-answers, event-bytes}
 use Rattle.line.proofs.Answers.{doneAnswer, begun, answered}
 use Rattle.line.specs.View.{view, pendingOf, readingOf}
 use Rattle.line.specs.Promise.{Progress, Does}
@@ -86,9 +86,9 @@ module _ {rule : Rule ℕ} {s : List ℕ} {w r : Progress} {a : Act} {t t′ m m
       }
 
 -- An event, by its case.
-module _ (s : List ℕ) (l : Line) (seen : Seen) {a : Act} {e f : Event} where
-  pub event-meets : e ≡ f → Sees s l seen e → (Sees s l seen f → Meets (eventRule s f) s l a) → Meets (eventRule s e) s l a
-  event-meets h b k = subst (λ x. Meets (eventRule s x) s l a) (sym h) (k (subst (Sees s l seen) h b))
+module _ (s : List ℕ) (l : Line) (lookup : Lookup) {a : Act} {e f : Event} where
+  pub event-meets : e ≡ f → Sees s l lookup e → (Sees s l lookup f → Meets (eventRule s f) s l a) → Meets (eventRule s e) s l a
+  event-meets h b k = subst (λ x. Meets (eventRule s x) s l a) (sym h) (k (subst (Sees s l lookup) h b))
 
 pub kind-as : (a : Act) {e f : Event} → e ≡ f → isActOf f a ≡ true → isActOf e a ≡ true
 kind-as a h k = ap (λ x. isActOf x a) h ∙ k
@@ -104,9 +104,9 @@ none-of Step = refl
 none-of (Host m) = refl
 
 -- The answer to an event is that of the act which it meets.
-module _ (e : Event) (s t m : List ℕ) (l : Line) (b : Bounded l) (admitted : Admitted l s e) (room : areRoomy (length t) (length m) ≡ true)
+module _ (e : Event) (s t m : List ℕ) (l : Line) (b : Bounded l) (acceptance : AcceptedEvent l s e) (room : areRoomy (length t) (length m) ≡ true)
     {a : Act} (h : Meets (eventRule s e) s l a) where
   pub act-answers : (w : Progress) (t′ m′ : List ℕ) → Does (actRule s l a) (begun l) t m w t′ m′ → Counted (w .line) →
       Answers (eventOf s e) l t m (doneAnswer w) t′ m′
   act-answers w t′ m′ d k =
-      answered (eventOf s e) l t m b (eventRule s e) (event-answers l s e admitted) (event-bytes l s e admitted) room w t′ m′ (act-does h d) k
+      answered (eventOf s e) l t m b (eventRule s e) (event-answers l s e acceptance) (event-bytes l s e acceptance) room w t′ m′ (act-does h d) k

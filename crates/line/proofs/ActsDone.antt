@@ -33,10 +33,10 @@ use Rattle.line.specs.With.{onKeys, lent}
 use Rattle.line.specs.KeyArray.{keysAfter}
 use Rattle.line.specs.Host.{Accepted}
 use Rattle.line.specs.Promise.{Progress, on, Does}
-use Rattle.line.specs.Acts.{actRule, callKindsOf, Ready, Fits, Done, Meets}
+use Rattle.line.specs.Acts.{actRule, callKindsOf, Ready, Doable, Done, Meets}
 use Rattle.line.proofs.acts.Act.{the-type}
 use Rattle.line.proofs.ReceivedMessage.{true-false}
-use Rattle.line.proofs.EventRules.{eventOf, Admitted}
+use Rattle.line.proofs.EventRules.{eventOf, AcceptedEvent}
 use Rattle.line.proofs.KeyArrays.{after-length}
 use Rattle.line.proofs.Answers.{begun, begunWork, refused, cramped}
 use Rattle.line.proofs.HostAccepted.{startables}
@@ -104,21 +104,21 @@ rest TimesOut = record { key = foreign; step = λ k h. absurd (miss stepRest 10 
 rest (Idles idle) = record { key = foreign; step = foreign; tick = λ k h. absurd (miss tickRest 11 tt h); host = foreign }
 rest (Obeys m) = record { key = foreign; step = foreign; tick = foreign; host = λ k h. absurd (miss hostRest 12 tt h) }
 
--- what is ready fits
-pub fits : (s : List ℕ) (l : Line) (a : Act) → Ready s l a → Fits s (l .flow) (l .terms) a
-fits s l Nothing r = tt
-fits s l (Stores c) r = r
-fits s l (StoresQuoted c) r = r
-fits s l (SendsOutOfBand c) r = tt
-fits s l (ClearsAtOnce c) r = tt
-fits s l Quotes r = tt
-fits s l Clears r = tt
-fits s l FlipsDiscard r = tt
-fits s l TakesToken r = r
-fits s l (Takes k) r = r
-fits s l TimesOut r = tt
-fits s l (Idles idle) r = tt
-fits s l (Obeys m) r = startables l s m r
+-- what is ready can be done
+pub doable : (s : List ℕ) (l : Line) (a : Act) → Ready s l a → Doable s (l .flow) (l .terms) a
+doable s l Nothing r = tt
+doable s l (Stores c) r = r
+doable s l (StoresQuoted c) r = r
+doable s l (SendsOutOfBand c) r = tt
+doable s l (ClearsAtOnce c) r = tt
+doable s l Quotes r = tt
+doable s l Clears r = tt
+doable s l FlipsDiscard r = tt
+doable s l TakesToken r = r
+doable s l (Takes k) r = r
+doable s l TimesOut r = tt
+doable s l (Idles idle) r = tt
+doable s l (Obeys m) r = startables l s m r
 
 -- nothing done leaves the areas
 still-areas : {w r : Progress} {t t′ m m′ : List ℕ} → Does still w t m r t′ m′ → (t′ ≡ t) × (m′ ≡ m)
@@ -135,7 +135,7 @@ none-accepted l m a =
 -- without a message, what an act does to the flow is all that it does but for the keys
 pub keyed-does : (l : Line) (a : Act) → Ready [] l a → length (l .keys) ≡ typeAheadSize → {t m : List ℕ} {r : Work} {text′ t′ m′ : List ℕ} →
     Done [] a (l .terms) l (begunWork l 0) (l .text) t m r text′ t′ m′ →
-    Does (actRule [] l a) (begun l) t m (on (lent (l .terms) text′ (onKeys (keysAfter a (l .flow .typed .waiting) (l .keys)) l)) r) t′ m′
+    Does (actRule [] l a) (begun l) t m (on (lent (l .terms) text′ (onKeys (keysAfter a (l .flow .typed .«keys_len») (l .keys)) l)) r) t′ m′
 keyed-does l Nothing k size d = d size tt
 keyed-does l (Stores c) k size d = d size tt
 keyed-does l (StoresQuoted c) k size d = d size tt
@@ -152,11 +152,11 @@ keyed-does l (Obeys m) k size d = absurd (none-accepted l m k)
 
 -- the line with keys moved, another text and another flow is counted
 pub done-counted : (l : Line) (a : Act) (text : List ℕ) (r : Work) → Counted l → length text ≡ inputSize → CountedFlow (r .flow) →
-    Counted (on (lent (l .terms) text (onKeys (keysAfter a (l .flow .typed .waiting) (l .keys)) l)) r .line)
+    Counted (on (lent (l .terms) text (onKeys (keysAfter a (l .flow .typed .«keys_len») (l .keys)) l)) r .line)
 done-counted l a text r c size f =
     record {
       table = c .table;
-      keys = after-length a (l .flow .typed .waiting) (l .keys) ∙ c .keys;
+      keys = after-length a (l .flow .typed .«keys_len») (l .keys) ∙ c .keys;
       text = size;
       set = c .set;
       lastSet = c .lastSet;
@@ -171,16 +171,16 @@ pub numbered : {e : rules.Event ℕ} {l : Line} {t m : List ℕ} {r : Line} {n k
 numbered e h = rw e h
 
 -- The answer to an event that brings no message: the act is done, and the keys are moved beside. In areas that are too small there is no act.
-module _ (e : Event) (l : Line) (b : Bounded l) (t m : List ℕ) (admitted : Admitted l [] e) {roomy : Bool} (size : roomy ≡ areRoomy (length t) (length m))
+module _ (e : Event) (l : Line) (b : Bounded l) (t m : List ℕ) (acceptance : AcceptedEvent l [] e) {roomy : Bool} (size : roomy ≡ areRoomy (length t) (length m))
     {a : Act} (h : roomy ≡ true → Meets (eventRule [] e) [] l a) (none : roomy ≡ false → a ≡ Nothing) where
-  asks : (x : Bool) → roomy ≡ x → Fits [] (l .flow) (l .terms) a
-  asks true k = fits [] l a (h k .ready)
-  asks false k = subst (Fits [] (l .flow) (l .terms)) (sym (none k)) tt
+  asks : (x : Bool) → roomy ≡ x → Doable [] (l .flow) (l .terms) a
+  asks true k = doable [] l a (h k .ready)
+  asks false k = subst (Doable [] (l .flow) (l .terms)) (sym (none k)) tt
 
-  pub keyed-fits : Fits [] (l .flow) (l .terms) a
-  keyed-fits = asks roomy refl
+  pub keyed-doable : Doable [] (l .flow) (l .terms) a
+  keyed-doable = asks roomy refl
 
-  module _ (r : Work) (keys′ text′ t′ m′ : List ℕ) (k : keys′ ≡ keysAfter a (l .flow .typed .waiting) (l .keys)) (f : CountedFlow (r .flow))
+  module _ (r : Work) (keys′ text′ t′ m′ : List ℕ) (k : keys′ ≡ keysAfter a (l .flow .typed .«keys_len») (l .keys)) (f : CountedFlow (r .flow))
       (full : length text′ ≡ inputSize) (d : Done [] a (l .terms) l (begunWork l 0) (l .text) t m r text′ t′ m′)
       (same : a ≡ Nothing → (r ≡ begunWork l 0) × (text′ ≡ l .text)) where
     -- the call's answer
@@ -192,12 +192,12 @@ module _ (e : Event) (l : Line) (b : Bounded l) (t m : List ℕ) (admitted : Adm
     unfolding rowOf firstOf pick
     acted true y =
         subst (λ z. Answers (eventOf [] e) l t m (told z text′ r accepted) t′ m′) (sym k)
-        (act-answers e [] t m l b admitted (sym size ∙ y) (h y) _ t′ m′ (keyed-does l a (h y .ready) (b .counted .keys) d) (done-counted l a text′ r (b .counted) full f))
+        (act-answers e [] t m l b acceptance (sym size ∙ y) (h y) _ t′ m′ (keyed-does l a (h y .ready) (b .counted .keys) d) (done-counted l a text′ r (b .counted) full f))
     acted false y =
         let n = none y in
-        let still : Does still (begun l) t m (on (lent (l .terms) text′ (onKeys (keysAfter Nothing (l .flow .typed .waiting) (l .keys)) l)) r) t′ m′ =
+        let still : Does still (begun l) t m (on (lent (l .terms) text′ (onKeys (keysAfter Nothing (l .flow .typed .«keys_len») (l .keys)) l)) r) t′ m′ =
         subst (λ z. Done [] z (l .terms) l (begunWork l 0) (l .text) t m r text′ t′ m′) n d (b .counted .keys) tt in
-        let keys : keys′ ≡ l .keys = k ∙ ap (λ z. keysAfter z (l .flow .typed .waiting) (l .keys)) n in
+        let keys : keys′ ≡ l .keys = k ∙ ap (λ z. keysAfter z (l .flow .typed .«keys_len») (l .keys)) n in
         let areas = still-areas still in
         let answer : told keys′ text′ r 1 ≡ refusal 1 l = λ i. told (keys i) (same n .1 i) (same n .0 i) 1 in
         subst (λ z. Answers (eventOf [] e) l t m (told keys′ text′ r smallArea) z m′) (sym (areas .0))

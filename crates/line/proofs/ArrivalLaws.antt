@@ -43,16 +43,16 @@ kept f =
     let t = f .typed in
     record {
       terminal = f .terminal;
-      typed = record { waiting = t .waiting + 1; token = t .token; «token_len» = t .«token_len» };
+      typed = record { «keys_len» = t .«keys_len» + 1; token = t .token; «token_len» = t .«token_len» };
       pending = f .pending;
       reading = idling 0 (f .reading);
     }
 
-module _ (w : Work) (c : CountedFlow (w .flow)) (room : w .flow .typed .waiting < typeAheadSize) where
+module _ (w : Work) (c : CountedFlow (w .flow)) (room : w .flow .typed .«keys_len» < typeAheadSize) where
   pub kept-counted : CountedFlow (kept (w .flow))
   kept-counted =
       record {
-        typed = record { waiting = omega arith; token = c .typed .token; tokenLength = c .typed .tokenLength };
+        typed = record { keysLength = omega arith; token = c .typed .token; tokenLength = c .typed .tokenLength };
         within = c .within;
       }
 
@@ -65,7 +65,7 @@ module _ (w : Work) (c : CountedFlow (w .flow)) (room : w .flow .typed .waiting 
       (λ i. record {
         host = view l .host;
         terminal = terminalOf (f .terminal);
-        typed = record { typeAhead = stored-keys (f .typed .waiting) k (l .keys) (omega arith) i; token = tokenOf (f .typed) };
+        typed = record { typeAhead = stored-keys (f .typed .«keys_len») k (l .keys) (omega arith) i; token = tokenOf (f .typed) };
         read = rest-view (f .pending) l (f .reading) i;
       })
       refl refl
@@ -132,13 +132,13 @@ module _ (c : ℕ) (small : c < 256) (F : Bool → ℕ → Rule ℕ) {w v : Prog
       for-equal (λ n. F true n) char (for-equal (λ q. F q ((c + 256) % 256)) (le-leb 256 (c + 256) (omega arith)) h)
 
 -- no room in the array: the key that is dropped changes nothing there
-pub dropped-key : {p : Rule ℕ} {w : Progress} (f : Flow) (v : Work) {t t′ m m′ : List ℕ} (k : ℕ) (l : Line) → length (l .keys) ≤ f .typed .waiting →
+pub dropped-key : {p : Rule ℕ} {w : Progress} (f : Flow) (v : Work) {t t′ m m′ : List ℕ} (k : ℕ) (l : Line) → length (l .keys) ≤ f .typed .«keys_len» →
     Does p w t m (on l v) t′ m′ → Does p w t m (on (stored k f l) v) t′ m′
 dropped-key {p} {w} f v {t} {t′} {m} {m′} k l out d =
-    subst (λ keys. Does p w t m (on (onKeys keys l) v) t′ m′) (sym (set-out (l .keys) (f .typed .waiting) k out)) d
+    subst (λ keys. Does p w t m (on (onKeys keys l) v) t′ m′) (sym (set-out (l .keys) (f .typed .«keys_len») k out)) d
 
 -- as many waited
-pub waited-key : {p : Rule ℕ} {w : Progress} {v : Work} {t t′ m m′ : List ℕ} (f g : Flow) (k : ℕ) (l : Line) → f .typed .waiting ≡ g .typed .waiting →
+pub waited-key : {p : Rule ℕ} {w : Progress} {v : Work} {t t′ m m′ : List ℕ} (f g : Flow) (k : ℕ) (l : Line) → f .typed .«keys_len» ≡ g .typed .«keys_len» →
     Does p w t m (on (stored k f l) v) t′ m′ → Does p w t m (on (stored k g l) v) t′ m′
 waited-key {p} {w} {v} {t} {t′} {m} {m′} f g k l e d =
     subst (λ n. Does p w t m (on (onKeys (set (l .keys) n k) l) v) t′ m′) e d

@@ -25,22 +25,22 @@ eventOf s Step = rules.step
 eventOf s (Host m) = rules.message s
 
 -- a key is a byte, and a message is one that the line accepts
-abbrev pub Admitted : Line → List ℕ → Event → Type 0
-Admitted l s (Key c) = c < 256
-Admitted l s Tick = Unit {0}
-Admitted l s Step = Unit {0}
-Admitted l s (Host m) = Accepted l s m
+abbrev pub AcceptedEvent : Line → List ℕ → Event → Type 0
+AcceptedEvent l s (Key c) = c < 256
+AcceptedEvent l s Tick = Unit {0}
+AcceptedEvent l s Step = Unit {0}
+AcceptedEvent l s (Host m) = Accepted l s m
 
--- the rules answer an event that is admitted by the rule that it is
+-- the rules answer an accepted event by the rule that it is
 module _ (l : Line) (s : List ℕ) where
-  pub event-answers : (e : Event) → Admitted l s e → answers codes (eventOf s e) (view l) ≡ does (eventRule s e) (view l)
+  pub event-answers : (e : Event) → AcceptedEvent l s e → answers codes (eventOf s e) (view l) ≡ does (eventRule s e) (view l)
   unfolding eventOf eventRule answers answersMessage obeysHeld
   event-answers (Key c) a = refl
   event-answers Tick a = refl
   event-answers Step a = refl
   event-answers (Host m) a = ap (λ o. answersMessage codes o (view l)) (a .taken) ∙ ap (λ h. does (obeysHeld h) (view l)) (sym (a .held))
 
-  pub event-bytes : (e : Event) → Admitted l s e → isByteEvent (eventOf s e) ≡ true
+  pub event-bytes : (e : Event) → AcceptedEvent l s e → isByteEvent (eventOf s e) ≡ true
   unfolding eventOf isByteEvent
   event-bytes (Key c) a = lt-ltb c 256 a
   event-bytes Tick a = refl

@@ -10,7 +10,7 @@ use Rattle.rules.specs.Choice.{pick, bit, isEmpty, joined}
 use Rattle.rules.specs.Numbers.{inputSize, tokenSize}
 use Rattle.rules.specs.Area.{puts, spot}
 use Rattle.rules.specs.State as rules
-use Rattle.rules.specs.State.{codes, withTyped, withToken, withRead, withFrom, withIdle}
+use Rattle.rules.specs.State.{codes, withTyped, withToken, withRead, withDisplayColumn, withIdle}
 use Rattle.rules.specs.Screen.{shownAll, change}
 use Rattle.rules.specs.Turns.{Rule, still, writes, changes, behind, _then_, only}
 use Rattle.rules.specs.Token.{isWhole}
@@ -119,7 +119,7 @@ module _ (w : Work) {v : Work} where
 
   -- with this read pending, which stands for another; and with none
   module _ (r : Reading) (h : v ≡ goesOn (onRead r (w .flow)) w) where
-    pub read-counted : CountedFlow (w .flow) → r .count ≤ inputSize → CountedFlow (v .flow)
+    pub read-counted : CountedFlow (w .flow) → r .«input_len» ≤ inputSize → CountedFlow (v .flow)
     read-counted c n = goes-counted h (record { typed = c .typed; within = n })
 
     pub read-does : (l : Line) {e : rules.Reading ℕ} → readingOf l r ≡ e → (t m : List ℕ) →
@@ -152,7 +152,7 @@ module _ (w : Work) {v : Work} where
         let typed = w .flow .typed in
         goes-does l (λ s. withToken (s .typed .token ++ b ∷ []) s)
         (h ∙ ap (λ n. goesOn (onTyped n (w .flow)) w) e)
-        (λ i. withTyped (keysOf (typed .waiting) (l .keys)) (tokened-token typed c b room i) (view (onFlow (w .flow) l))) t m
+        (λ i. withTyped (keysOf (typed .«keys_len») (l .keys)) (tokened-token typed c b room i) (view (onFlow (w .flow) l))) t m
 
 -- with this read pending, whose text has changed
 module _ (w : Work) {v : Work} (r : Reading) (h : v ≡ goesOn (onRead r (w .flow)) w) where
@@ -176,22 +176,22 @@ ended-does v terms text text′ l e h =
     }
 
 -- a read with the column, or idle, set
-pub from-same : (r : Reading) {next : Reading} {column : ℕ} → next ≡ shownAt column r → (l : Line) → readingOf l next ≡ withFrom column (readingOf l r)
-from-same r e l = rw e refl
+pub display-column-same : (r : Reading) {next : Reading} {column : ℕ} → next ≡ shownAt column r → (l : Line) → readingOf l next ≡ withDisplayColumn column (readingOf l r)
+display-column-same r e l = rw e refl
 
 pub idle-same : (r : Reading) {next : Reading} {idle : ℕ} → next ≡ idling idle r → (l : Line) → readingOf l next ≡ withIdle idle (readingOf l r)
 idle-same r e l = rw e refl
 
-pub from-count : (r : Reading) {next : Reading} {column : ℕ} → next ≡ shownAt column r → r .count ≤ inputSize → next .count ≤ inputSize
-from-count r e h = rw e h
+pub display-column-count : (r : Reading) {next : Reading} {column : ℕ} → next ≡ shownAt column r → r .«input_len» ≤ inputSize → next .«input_len» ≤ inputSize
+display-column-count r e h = rw e h
 
-pub idle-count : (r : Reading) {next : Reading} {idle : ℕ} → next ≡ idling idle r → r .count ≤ inputSize → next .count ≤ inputSize
+pub idle-count : (r : Reading) {next : Reading} {idle : ℕ} → next ≡ idling idle r → r .«input_len» ≤ inputSize → next .«input_len» ≤ inputSize
 idle-count r e h = rw e h
 
 -- the answer of a read, as the program sends it
 module _ (f : Flow) (t : Terms) (r : Reading) (code ending : ℕ) {more vertical horizontal : ℕ} where
   pub answer-held : (text : List ℕ) (k l : Line) → CountedReading r text →
-      more ≡ bit (not (isEmpty (keysOf (f .typed .waiting) (k .keys))) || isWhole (codesOf (f .typed))) →
+      more ≡ bit (not (isEmpty (keysOf (f .typed .«keys_len») (k .keys))) || isWhole (codesOf (f .typed))) →
       vertical ≡ change (f .terminal .screen .line) (t .line) →
       horizontal ≡ change (f .terminal .screen .column) (t .column) →
       heldIn text
@@ -201,18 +201,18 @@ module _ (f : Flow) (t : Terms) (r : Reading) (code ending : ℕ) {more vertical
         «low_water» = r .«low_water»;
         vertical = vertical;
         horizontal = horizontal;
-        terminator = r .count - ending;
-        text = record { start = 0; len = r .count };
+        terminator = r .«input_len» - ending;
+        text = record { start = 0; len = r .«input_len» };
       }))
       ≡ codec.message (answerOf codes code ending (readingOf (lent t text l) r) (view (onFlow f k)))
   unfolding heldIn spanOf answerOf moreData inputOf
   answer-held text k l c m v h =
-      let n : r .count - ending ≡ length (inputOf (r .count) text) - ending =
-      ap (λ j. j - ending) (sym (input-length (r .count) text (omega arith))) in λ i.
+      let n : r .«input_len» - ending ≡ length (inputOf (r .«input_len») text) - ending =
+      ap (λ j. j - ending) (sym (input-length (r .«input_len») text (omega arith))) in λ i.
       codec.message (record {
         kind = forms.readData;
         numbers = code ∷ m i ∷ r .«low_water» ∷ v i ∷ h i ∷ n i ∷ [];
         set = [];
         parameters = [];
-        text = take (r .count) text;
+        text = take (r .«input_len») text;
       })

@@ -56,7 +56,7 @@ start-known : (l : Line) (s : List ℕ) (f : StartReadFields) → Accepted l s (
 unfolding heldIn startReadIn isCarriedBy pick
 start-known l s f a =
     let x = startReadIn s f in
-    let k = received.startable x refl (carried l s (StartRead f) a x refl) (fit l s (StartRead f) a x refl) in
+    let k = received.accepted-start-read x refl (carried l s (StartRead f) a x refl) (fit l s (StartRead f) a x refl) in
     record { text = k .text; prompt = k .prompt; within = k .room; largest = k .largest; set = k .setLength }
 
 pub startables : (l : Line) (s : List ℕ) (m : HostMessage) → Accepted l s m → StartableMessage s m

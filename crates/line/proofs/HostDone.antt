@@ -149,8 +149,8 @@ module _ (s : List ℕ) (l : Line) (f : StartReadFields) (a : Accepted l s (Star
         terms = o .terms i;
         input = (o .input ∙ sym (map-id (rules.dataBehind (startReadIn s f)))) i;
         lowWater = f .«low_water»;
-        hidden = rules.hidesInput x;
-        from = l .flow .terminal .screen .column;
+        hiddenLF = rules.hidesInput x;
+        displayColumn = l .flow .terminal .screen .column;
         idle = 0;
       }
 

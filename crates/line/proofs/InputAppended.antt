@@ -29,14 +29,14 @@ pub input-length : (n : ℕ) (text : List ℕ) → n ≤ length text → length 
 unfolding inputOf
 input-length n text h = length-take-le n text h
 
-pub input-empty : (r : Reading) (text : List ℕ) → CountedReading r text → isEmpty (inputOf (r .count) text) ≡ eqb (r .count) 0
+pub input-empty : (r : Reading) (text : List ℕ) → CountedReading r text → isEmpty (inputOf (r .«input_len») text) ≡ eqb (r .«input_len») 0
 unfolding inputOf
-input-empty r text c = empty-take (r .count) text (omega arith)
+input-empty r text c = empty-take (r .«input_len») text (omega arith)
 
 pub end-is : (t : Terms) (text : List ℕ) (l : Line) (r : Reading) → CountedReading r text →
-    t .«end_of_prompt» + r .count ≡ endOf (readingOf (lent t text l) r)
+    t .«end_of_prompt» + r .«input_len» ≡ endOf (readingOf (lent t text l) r)
 unfolding endOf
-end-is t text l r c = ap (λ n. t .«end_of_prompt» + n) (sym (input-length (r .count) text (omega arith)))
+end-is t text l r c = ap (λ n. t .«end_of_prompt» + n) (sym (input-length (r .«input_len») text (omega arith)))
 
 -- a store in front of a place leaves what stands behind that place
 drop-set : (text : List ℕ) (n k c : ℕ) → n < k → drop k (set text n c) ≡ drop k text
@@ -69,21 +69,21 @@ withPromptAndInput prompt input r l =
       };
       input = input;
       lowWater = e .lowWater;
-      hidden = e .hidden;
-      from = e .from;
+      hiddenLF = e .hiddenLF;
+      displayColumn = e .displayColumn;
       idle = e .idle;
     }
 
 -- the character behind the others, as the program stores it
 abbrev withPushed : Reading → Reading
 withPushed r =
-    record { count = r .count + 1; «low_water» = r .«low_water»; hidden = r .hidden; from = r .from; idle = r .idle }
+    record { «input_len» = r .«input_len» + 1; «low_water» = r .«low_water»; «hidden_lf» = r .«hidden_lf»; «display_column» = r .«display_column»; idle = r .idle }
 
-pub pushed : (r : Reading) (text : List ℕ) (c : ℕ) → CountedReading r text → r .count < inputSize →
-    Appends (c ∷ []) r text (withPushed r) (set text (r .count) c)
+pub pushed : (r : Reading) (text : List ℕ) (c : ℕ) → CountedReading r text → r .«input_len» < inputSize →
+    Appends (c ∷ []) r text (withPushed r) (set text (r .«input_len») c)
 unfolding appended inputOf promptOf
 pushed r text c k h =
-    let n = r .count in
+    let n = r .«input_len» in
     let room : n < length text = omega arith in
     let more : take (n + 1) (set text n c) ≡ take n text ++ (c ∷ []) =
     ap (λ i. take i (set text n c)) (add-one n) ∙ take-suc-set text n c room in
@@ -99,7 +99,7 @@ pub appends-none : (r : Reading) (text : List ℕ) → Appends [] r text r text
 unfolding appended
 appends-none r text =
     record {
-      same = λ t l fits i. withInput (sym (append-nil (inputOf (r .count) text)) i) (readingOf (lent t text l) r);
+      same = λ t l fits i. withInput (sym (append-nil (inputOf (r .«input_len») text)) i) (readingOf (lent t text l) r);
       count = omega arith;
       size = refl;
     }
@@ -118,7 +118,7 @@ appends-more cs i {r} {next} {more} {text} {text′} {text″} h a b =
       same = λ t l fits.
           b .same t l (omega arith) ∙ ap (appended one) (a .same t l (omega arith))
           ∙ (λ j.
-          withInput ((append-assoc (inputOf (r .count) text) (take i cs) one ∙ ap (λ x. inputOf (r .count) text ++ x) all) j)
+          withInput ((append-assoc (inputOf (r .«input_len») text) (take i cs) one ∙ ap (λ x. inputOf (r .«input_len») text ++ x) all) j)
           (readingOf (lent t text l) r));
       count = omega (arith, a .count, b .count, long, sum);
       size = b .size ∙ a .size;
@@ -156,22 +156,22 @@ module _ (hidden : Bool) (n : ℕ) (xs : List ℕ) where
           ap (λ j. take j xs) none ∙ sym (ap (λ j. drop k (take j xs)) none ∙ drop-nil k)
 
 module _ (r : Reading) where
-  displayed-is : (l : Line) → displayed codes (readingOf l r) ≡ drop (bit (r .hidden)) (take (r .count) (l .text))
+  displayed-is : (l : Line) → displayed codes (readingOf l r) ≡ drop (bit (r .«hidden_lf»)) (take (r .«input_len») (l .text))
   unfolding displayed hiddenCount inputOf
-  displayed-is l = ap (drop (bit (r .hidden))) (map-id (take (r .count) (l .text)))
+  displayed-is l = ap (drop (bit (r .«hidden_lf»))) (map-id (take (r .«input_len») (l .text)))
 
-  pub hidden-first : r .hidden && ltb 0 (r .count) ≡ true → ShownFrom r 1
+  pub hidden-first : r .«hidden_lf» && ltb 0 (r .«input_len») ≡ true → ShownFrom r 1
   hidden-first e =
       record {
-        text = λ l. hidden-before (r .hidden) (r .count) (l .text) e ∙ sym (displayed-is l);
-        within = hidden-stands (r .hidden) (r .count) e;
+        text = λ l. hidden-before (r .«hidden_lf») (r .«input_len») (l .text) e ∙ sym (displayed-is l);
+        within = hidden-stands (r .«hidden_lf») (r .«input_len») e;
       }
 
-  pub all-shown : r .hidden && ltb 0 (r .count) ≡ false → ShownFrom r 0
+  pub all-shown : r .«hidden_lf» && ltb 0 (r .«input_len») ≡ false → ShownFrom r 0
   all-shown e =
-      let all : r .count - 0 ≡ r .count = omega arith in
+      let all : r .«input_len» - 0 ≡ r .«input_len» = omega arith in
       record {
-        text = λ l. ap (λ n. take n (l .text)) all ∙ none-before (r .hidden) (r .count) (l .text) e ∙ sym (displayed-is l);
+        text = λ l. ap (λ n. take n (l .text)) all ∙ none-before (r .«hidden_lf») (r .«input_len») (l .text) e ∙ sym (displayed-is l);
         within = omega arith;
       }
 

@@ -14,19 +14,19 @@ use Rattle.line.specs.ReadChanges.{Shortened}
 -- a read with its first characters left, as the program makes it
 abbrev withLeft : ℕ → ℕ → Reading → Reading
 withLeft left low r =
-    record { count = left; «low_water» = low; hidden = r .hidden && ltb 0 left; from = r .from; idle = r .idle }
+    record { «input_len» = left; «low_water» = low; «hidden_lf» = r .«hidden_lf» && ltb 0 left; «display_column» = r .«display_column»; idle = r .idle }
 
-pub left-becomes : (t : Terms) (r : Reading) (left low : ℕ) → left ≤ r .count → low ≡ min (r .«low_water») (t .«end_of_prompt» + left) →
+pub left-becomes : (t : Terms) (r : Reading) (left low : ℕ) → left ≤ r .«input_len» → low ≡ min (r .«low_water») (t .«end_of_prompt» + left) →
     Shortened left t r (withLeft left low r)
 unfolding rules.shortened inputOf
 left-becomes t r left low h e =
     record {
       same = λ text l i. record {
         terms = termsOf (lent t text l);
-        input = sym (take-take left (r .count) text h) i;
+        input = sym (take-take left (r .«input_len») text h) i;
         lowWater = e i;
-        hidden = r .hidden && ltb 0 left;
-        from = r .from;
+        hiddenLF = r .«hidden_lf» && ltb 0 left;
+        displayColumn = r .«display_column»;
         idle = r .idle;
       };
       count = refl;

@@ -50,27 +50,27 @@ taken next f =
     let t = f .typed in
     record {
       terminal = f .terminal;
-      typed = record { waiting = t .waiting - 1; token = t .token; «token_len» = t .«token_len» };
+      typed = record { «keys_len» = t .«keys_len» - 1; token = t .token; «token_len» = t .«token_len» };
       pending = true;
       reading = next;
     }
 
-pub has-taken : (w : Work) (next : Reading) → CountedFlow (w .flow) → 0 < w .flow .typed .waiting → next ≡ idling 0 (w .flow .reading) →
+pub has-taken : (w : Work) (next : Reading) → CountedFlow (w .flow) → 0 < w .flow .typed .«keys_len» → next ≡ idling 0 (w .flow .reading) →
     HasTakenKey w (goesOn (taken next (w .flow)) w)
 unfolding tokenOf
 has-taken w next c waits e =
     let f = w .flow in
-    let within = ap (λ r. r .count) e in
+    let within = ap (λ r. r .«input_len») e in
     record {
       counted = record {
-        typed = record { waiting = omega (arith, c .typed .waiting); token = c .typed .token; tokenLength = c .typed .tokenLength };
+        typed = record { keysLength = omega (arith, c .typed .keysLength); token = c .typed .token; tokenLength = c .typed .tokenLength };
         within = omega (arith, c .within);
       };
       does = λ l size t m.
           changes-does t m (keyTaken (onFlow f l))
           (λ i.
           withRead (some (readingOf l (e i)))
-          (withTyped (first-gone (f .typed .waiting) (l .keys) waits (omega (arith, size, c .typed .waiting)) i) (tokenOf (f .typed)) (view (onFlow f l))))
+          (withTyped (first-gone (f .typed .«keys_len») (l .keys) waits (omega (arith, size, c .typed .keysLength)) i) (tokenOf (f .typed)) (view (onFlow f l))))
           refl refl;
       reading = e;
       token = refl;

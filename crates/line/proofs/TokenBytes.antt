@@ -46,21 +46,21 @@ module _ (t : Typed) (c : CountedTyped t) where
 
   -- what remains, as a test and as a bit
   module _ {held : Bool} (e : held ≡ isWhole (codesOf t)) (keys : List ℕ) where
-    remains-is : not (eqb (t .waiting) 0) || held ≡ not (isEmpty (keysOf (t .waiting) keys)) || isWhole (codesOf t)
-    remains-is = ap₂ (λ a b. not a || b) (sym (keys-empty (t .waiting) keys)) e
+    remains-is : not (eqb (t .«keys_len») 0) || held ≡ not (isEmpty (keysOf (t .«keys_len») keys)) || isWhole (codesOf t)
+    remains-is = ap₂ (λ a b. not a || b) (sym (keys-empty (t .«keys_len») keys)) e
 
-    pub some-remains : not (eqb (t .waiting) 0) || held ≡ true → 1 ≡ bit (not (isEmpty (keysOf (t .waiting) keys)) || isWhole (codesOf t))
+    pub some-remains : not (eqb (t .«keys_len») 0) || held ≡ true → 1 ≡ bit (not (isEmpty (keysOf (t .«keys_len») keys)) || isWhole (codesOf t))
     unfolding bit
     some-remains h = sym (pick-true 1 0 (sym remains-is ∙ h))
 
-    pub none-remains : not (eqb (t .waiting) 0) || held ≡ false → 0 ≡ bit (not (isEmpty (keysOf (t .waiting) keys)) || isWhole (codesOf t))
+    pub none-remains : not (eqb (t .«keys_len») 0) || held ≡ false → 0 ≡ bit (not (isEmpty (keysOf (t .«keys_len») keys)) || isWhole (codesOf t))
     unfolding bit
     none-remains h = sym (pick-false 1 0 (sym remains-is ∙ h))
 
     -- nothing to take: the test of a tick
     pub nothing-waits : (timed due : Bool) →
-        timed && due && eqb (t .waiting) 0 && not held ≡ timed && due && isEmpty (keysOf (t .waiting) keys) && not (isWhole (codesOf t))
-    nothing-waits timed due = ap₂ (λ a b. timed && due && a && not b) (sym (keys-empty (t .waiting) keys)) e
+        timed && due && eqb (t .«keys_len») 0 && not held ≡ timed && due && isEmpty (keysOf (t .«keys_len») keys) && not (isWhole (codesOf t))
+    nothing-waits timed due = ap₂ (λ a b. timed && due && a && not b) (sym (keys-empty (t .«keys_len») keys)) e
 
   -- a token that is not whole has room
   pub token-short : isWhole (codesOf t) ≡ false → t .«token_len» < tokenSize
@@ -79,13 +79,13 @@ module _ (t : Typed) (c : CountedTyped t) where
 
   pub tokened-counted : (b : ℕ) → t .«token_len» < tokenSize → CountedTyped (tokened b t)
   tokened-counted b h =
-      record { waiting = c .waiting; token = length-set (t .token) (t .«token_len») b ∙ c .token; tokenLength = omega arith }
+      record { keysLength = c .keysLength; token = length-set (t .token) (t .«token_len») b ∙ c .token; tokenLength = omega arith }
 
   pub grown-counted : (b : ℕ) {next : Typed} → t .«token_len» < tokenSize → next ≡ tokened b t → CountedTyped next
   grown-counted b h e = rw e (tokened-counted b h)
 
   pub untokened-counted : {next : Typed} → next ≡ untokened t → CountedTyped next
-  untokened-counted e = rw e (record { waiting = c .waiting; token = c .token; tokenLength = omega arith })
+  untokened-counted e = rw e (record { keysLength = c .keysLength; token = c .token; tokenLength = omega arith })
 
   pub emptied-counted : {next : Typed} → next ≡ emptied t → CountedTyped next
-  emptied-counted e = rw e (record { waiting = omega arith; token = c .token; tokenLength = omega arith })
+  emptied-counted e = rw e (record { keysLength = omega arith; token = c .token; tokenLength = omega arith })

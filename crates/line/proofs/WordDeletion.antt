@@ -67,11 +67,11 @@ left-by text end spaces left h e f =
     let word : leading isWord (drop k (reverse ns)) ≡ leading isWord (reverse (take spaces text)) = ap (leading isWord) behind in
     omega arith
 
-pub leaves-23 : (r : Reading) (text : List ℕ) (spaces left : ℕ) → CountedReading r text → spaces ≡ before (ofClass false) (r .count) text →
+pub leaves-23 : (r : Reading) (text : List ℕ) (spaces left : ℕ) → CountedReading r text → spaces ≡ before (ofClass false) (r .«input_len») text →
     left ≡ before (ofClass true) spaces text → LeftBy23 text r left
 unfolding inputOf
 leaves-23 r text spaces left c e f =
     record {
-      left-by = λ t l. left-by text (r .count) spaces left (omega arith) e f ∙ ap leftBy23 (sym (map-id (take (r .count) text)));
+      left-by = λ t l. left-by text (r .«input_len») spaces left (omega arith) e f ∙ ap leftBy23 (sym (map-id (take (r .«input_len») text)));
       within = omega arith;
     }

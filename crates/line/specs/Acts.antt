@@ -37,7 +37,7 @@ idleAtZero l = withIdle 0 (readingOf l (l .flow .reading))
 
 -- what `takesFirst` changes before the key's rule: the first key of this line is taken
 abbrev pub keyTaken : Line → State ℕ → State ℕ
-keyTaken l = steps.keyTaken (drop 1 (keysOf (l .flow .typed .waiting) (l .keys))) (readingOf l (l .flow .reading))
+keyTaken l = steps.keyTaken (drop 1 (keysOf (l .flow .typed .«keys_len») (l .keys))) (readingOf l (l .flow .reading))
 
 abbrev pub takesKey : Line → Rule ℕ
 takesKey l = changes (keyTaken l)
@@ -69,7 +69,7 @@ actRule s l (Obeys m) = obeysHeld (heldIn s (messageOf m))
 -- a key can be taken: one waits, a read has room for it, and so has a token that is begun
 pub record CanTakeKey (f : Flow) (t : Terms) : Type 0 where
   pub room : HasRoom t (f .reading)
-  pub waits : 0 < f .typed .waiting
+  pub waits : 0 < f .typed .«keys_len»
   pub short : f .typed .«token_len» < tokenSize
 
 -- the calls that may meet an act
@@ -139,20 +139,20 @@ pub record HasTakenKey (w v : Work) : Type 0 where
   pub token : v .flow .typed .«token_len» ≡ w .flow .typed .«token_len»
 
 -- what the acts of a call ask: `Ready`, of a message only the Start Read test
-abbrev pub Fits : List ℕ → Flow → Terms → Act → Type 0
-Fits s f t Nothing = Unit {0}
-Fits s f t (Stores c) = c < codeCount
-Fits s f t (StoresQuoted c) = c < codeCount
-Fits s f t (SendsOutOfBand c) = Unit {0}
-Fits s f t (ClearsAtOnce c) = Unit {0}
-Fits s f t Quotes = Unit {0}
-Fits s f t Clears = Unit {0}
-Fits s f t FlipsDiscard = Unit {0}
-Fits s f t TakesToken = HasRoom t (f .reading)
-Fits s f t (Takes k) = CanTakeKey f t
-Fits s f t TimesOut = Unit {0}
-Fits s f t (Idles idle) = Unit {0}
-Fits s f t (Obeys m) = StartableMessage s m
+abbrev pub Doable : List ℕ → Flow → Terms → Act → Type 0
+Doable s f t Nothing = Unit {0}
+Doable s f t (Stores c) = c < codeCount
+Doable s f t (StoresQuoted c) = c < codeCount
+Doable s f t (SendsOutOfBand c) = Unit {0}
+Doable s f t (ClearsAtOnce c) = Unit {0}
+Doable s f t Quotes = Unit {0}
+Doable s f t Clears = Unit {0}
+Doable s f t FlipsDiscard = Unit {0}
+Doable s f t TakesToken = HasRoom t (f .reading)
+Doable s f t (Takes k) = CanTakeKey f t
+Doable s f t TimesOut = Unit {0}
+Doable s f t (Idles idle) = Unit {0}
+Doable s f t (Obeys m) = StartableMessage s m
 
 -- the act's rule, but of a host message without what it sets and reports
 abbrev pub flowAct : List ℕ → Line → Act → Rule ℕ
@@ -191,4 +191,4 @@ abbrev pub Done : List ℕ → Act → Terms → Line → Work → List ℕ → 
 Done s act t l w text terminal messages r text′ terminal′ messages′ =
     length (l .keys) ≡ typeAheadSize → PromptsBy t l act →
     Does (flowAct s (onFlow (w .flow) (lent t text l)) act) (on (lent t text l) w) terminal messages
-    (on (lent t text′ (onKeys (keysAfter act (w .flow .typed .waiting) (l .keys)) l)) r) terminal′ messages′
+    (on (lent t text′ (onKeys (keysAfter act (w .flow .typed .«keys_len») (l .keys)) l)) r) terminal′ messages′

@@ -1,7 +1,6 @@
 -- What a call asks of a line: the bounds of its state, and each count within its array. `fresh` has them, and every call keeps them.
 use Prim.Native.Nat.{ℕ, _≤_}
 use mathlib.Core.Path.{_≡_}
-use mathlib.Core.Bool.{false}
 use mathlib.Core.List.{List}
 use lib.ListN.{length}
 use Rattle.rules.specs.Numbers.{codeCount, inputSize, typeAheadSize, tokenSize}
@@ -12,21 +11,21 @@ use Rattle.line.specs.declared.Typed.{Typed}
 use Rattle.line.specs.declared.Reading.{Reading}
 use Rattle.line.specs.declared.Flow.{Flow}
 use Rattle.line.specs.declared.Line.{Line}
-use Rattle.line.specs.View.{terminalOf, view}
+use Rattle.line.specs.View.{view}
 
 -- The arrays' lengths are their types'; here they stand beside the counts, where a proof finds them.
 pub record CountedTyped (t : Typed) : Type 0 where
-  pub waiting : t .waiting ≤ typeAheadSize
+  pub keysLength : t .«keys_len» ≤ typeAheadSize
   pub token : length (t .token) ≡ tokenSize
   pub tokenLength : t .«token_len» ≤ tokenSize
 
 pub record CountedFlow (f : Flow) : Type 0 where
   pub typed : CountedTyped (f .typed)
-  pub within : f .reading .count ≤ inputSize
+  pub within : f .reading .«input_len» ≤ inputSize
 
 -- a read and the text that is lent for it
 pub record CountedReading (r : Reading) (text : List ℕ) : Type 0 where
-  pub within : r .count ≤ inputSize
+  pub within : r .«input_len» ≤ inputSize
   pub full : length text ≡ inputSize
 
 pub record Counted (l : Line) : Type 0 where

@@ -6,13 +6,12 @@ use mathlib.Core.List.{List, [], _∷_, _++_, map, List·Memᴰ}
 use lib.Dec.{eqb}
 use lib.ListN.{length, take}
 use Rattle.rules.specs.Choice.{pick}
-use Rattle.rules.specs.Messages.Layout.{byteAt}
-use Rattle.rules.specs.Messages.Forms.{readData}
-use Rattle.rules.specs.ReadData.{readDataHeader}
+use Rattle.rules.specs.Messages.Layout.{byteValues, byteAt}
+use Rattle.rules.specs.Messages.Forms.{readData, readDataHeader}
 use Rattle.rules.specs.Calls.{Event, Call, areaAfter}
 use Rattle.rules.specs.Bounds.{isByteEvent}
 use Rattle.rules.specs.Bench.{Exchange, runs, starred, warned}
-use Rattle.rules.specs.TwoRuns.{Supposition, supposed, inBand, unacted, Seen}
+use Rattle.rules.specs.TwoRuns.{Supposition, supposed, inBand, unacted, blank, Seen}
 use Rattle.line.specs.declared.Line.{Line}
 use Rattle.line.specs.declared.Answer.{Answer}
 use Rattle.line.specs.View.{view}
@@ -64,10 +63,10 @@ hiddenBytes kind size = pick (eqb kind readData) (size - readDataHeader) 0
 unfoldable pub outsideData : ℕ → ℕ → List ℕ → List ℕ
 outsideData show hide [] = []
 outsideData zero zero (low ∷ rest) =
-    let size = low + 256 * byteAt rest 0 in
+    let size = low + byteValues * byteAt rest 0 in
     let hidden = hiddenBytes (byteAt rest 1) size in
     low ∷ outsideData (1 + size - hidden) hidden rest
-outsideData zero (suc hide) (b ∷ bs) = 0 ∷ outsideData zero hide bs
+outsideData zero (suc hide) (b ∷ bs) = blank ∷ outsideData zero hide bs
 outsideData (suc show) hide (b ∷ bs) = b ∷ outsideData show hide bs
 
 unfoldable pub seenOf : Link → Seen

@@ -1,4 +1,4 @@
--- Events: what each is of the rules, and what is seen of the line before it. A host message stands in a slice.
+-- Events: what each is of the rules, and what is looked up of the line before it. A host message stands in a slice.
 use Prim.Native.Nat.{ℕ}
 use mathlib.Core.Path.{_≡_}
 use mathlib.Core.Bool.{Bool}
@@ -11,7 +11,7 @@ use Rattle.rules.specs.Token.{isWhole}
 use Rattle.rules.specs.Steps.{steps, ticks}
 use Rattle.message.specs.Found.{heldIn}
 use Rattle.line.specs.declared.Line.{Line}
-use Rattle.line.specs.declared.events.Seen.{Seen}
+use Rattle.line.specs.declared.events.Lookup.{Lookup}
 use Rattle.line.specs.declared.events.Event.{Event}
 use Rattle.line.specs.declared.events.Event.the-variants.{Key, Tick, Step, Host}
 use Rattle.line.specs.declared.acts.Act.{Act}
@@ -21,17 +21,17 @@ use Rattle.line.specs.Bounded.{Bounded}
 use Rattle.line.specs.Host.{messageOf, Accepted, obeysHeld}
 
 -- what a step looks at
-pub record SeesStep (s : List ℕ) (l : Line) (seen : Seen) : Type 0 where
+pub record SeesStep (s : List ℕ) (l : Line) (lookup : Lookup) : Type 0 where
   pub bounded : Bounded l
-  pub held : seen .held ≡ isWhole (codesOf (l .flow .typed))
-  pub taken : TakesFirst s l (seen .taken)
+  pub held : lookup .held ≡ isWhole (codesOf (l .flow .typed))
+  pub taken : TakesFirst s l (lookup .taken)
 
--- what is seen of the line is so
-abbrev pub Sees : List ℕ → Line → Seen → Event → Type 0
-Sees s l seen (Key c) = (seen .initiated ≡ l .initiated) × (seen .attribute ≡ getD (l .attributes) c 0)
-Sees s l seen Tick = seen .held ≡ isWhole (codesOf (l .flow .typed))
-Sees s l seen Step = SeesStep s l seen
-Sees s l seen (Host m) = Accepted l s m
+-- what was looked up of the line is so
+abbrev pub Sees : List ℕ → Line → Lookup → Event → Type 0
+Sees s l lookup (Key c) = (lookup .initiated ≡ l .initiated) × (lookup .attribute ≡ getD (l .attributes) c 0)
+Sees s l lookup Tick = lookup .held ≡ isWhole (codesOf (l .flow .typed))
+Sees s l lookup Step = SeesStep s l lookup
+Sees s l lookup (Host m) = Accepted l s m
 
 -- an event may meet this act
 abbrev pub isActOf : Event → Act → Bool

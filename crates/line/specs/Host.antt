@@ -18,7 +18,7 @@ use Rattle.rules.specs.Calls.{received}
 use Rattle.areas.specs.Puts.{Puts}
 use Rattle.parameters.specs.Lists.{parametersFrom}
 use Rattle.characteristics.specs.Lists.{reportBytes}
-use Rattle.characteristics.specs.View.{CountedHost, hostOf as hostView}
+use Rattle.characteristics.specs.View.{CountedHost, hostView}
 use Rattle.characteristics.specs.declared.Host.{Host}
 use Rattle.message.specs.declared.Message.{Message}
 use Rattle.message.specs.declared.Message.the-variants as message

@@ -35,8 +35,8 @@ keysAfter (Obeys m) waiting keys = keys
 
 -- the line with a key put behind those that wait
 abbrev pub stored : ℕ → Flow → Line → Line
-stored k f l = onKeys (set (l .keys) (f .typed .waiting) k) l
+stored k f l = onKeys (set (l .keys) (f .typed .«keys_len») k) l
 
 -- and with the first of so many gone
 abbrev pub shifted : Flow → Line → Line
-shifted f l = onKeys (shift (f .typed .waiting - 1) (l .keys)) l
+shifted f l = onKeys (shift (f .typed .«keys_len» - 1) (l .keys)) l

@@ -18,30 +18,30 @@ use Rattle.line.specs.With.{lent}
 -- a read that goes on: room for one character more, in front of the prompt
 pub record HasRoom (t : Terms) (r : Reading) : Type 0 where
   pub largest : t .«max_length» ≤ inputSize
-  pub room : t .«end_of_prompt» + r .count < t .«max_length»
+  pub room : t .«end_of_prompt» + r .«input_len» < t .«max_length»
   pub prompt : t .«prompt_len» ≤ t .«end_of_prompt»
 
 -- its first characters left
 pub record Shortened (left : ℕ) (t : Terms) (r next : Reading) : Type 0 where
   pub same : (text : List ℕ) (l : Line) → readingOf (lent t text l) next ≡ shortened left (readingOf (lent t text l) r)
-  pub count : next .count ≡ left
+  pub count : next .«input_len» ≡ left
 
 -- more characters, in a text that has room for them in front of the prompt
 pub record Appends (cs : List ℕ) (r : Reading) (text : List ℕ) (next : Reading) (text′ : List ℕ) : Type 0 where
-  pub same : (t : Terms) (l : Line) → r .count + length cs + t .«prompt_len» ≤ inputSize →
+  pub same : (t : Terms) (l : Line) → r .«input_len» + length cs + t .«prompt_len» ≤ inputSize →
       readingOf (lent t text′ l) next ≡ appended cs (readingOf (lent t text l) r)
-  pub count : next .count ≡ r .count + length cs
+  pub count : next .«input_len» ≡ r .«input_len» + length cs
   pub size : length text′ ≡ length text
 
 -- what is displayed of it begins here
 pub record ShownFrom (r : Reading) (start : ℕ) : Type 0 where
-  pub text : (l : Line) → take (r .count - start) (drop start (l .text)) ≡ displayed rules.codes (readingOf l r)
-  pub within : start ≤ r .count
+  pub text : (l : Line) → take (r .«input_len» - start) (drop start (l .text)) ≡ displayed rules.codes (readingOf l r)
+  pub within : start ≤ r .«input_len»
 
 -- what 23 leaves of it
 pub record LeftBy23 (text : List ℕ) (r : Reading) (left : ℕ) : Type 0 where
   pub left-by : (t : Terms) (l : Line) → left ≡ leftBy23 (inputCodes rules.codes (readingOf (lent t text l) r))
-  pub within : left ≤ r .count
+  pub within : left ≤ r .«input_len»
 
 -- a word's characters, or those between words
 unfoldable pub ofClass : Bool → ℕ → Bool
@@ -50,8 +50,8 @@ ofClass word n = pick word (isWord n) (not (isWord n))
 -- with idle, or with the column where its data's display begins, set
 abbrev pub idling : ℕ → Reading → Reading
 idling idle r =
-    record { count = r .count; «low_water» = r .«low_water»; hidden = r .hidden; from = r .from; idle = idle }
+    record { «input_len» = r .«input_len»; «low_water» = r .«low_water»; «hidden_lf» = r .«hidden_lf»; «display_column» = r .«display_column»; idle = idle }
 
 abbrev pub shownAt : ℕ → Reading → Reading
 shownAt column r =
-    record { count = r .count; «low_water» = r .«low_water»; hidden = r .hidden; from = column; idle = r .idle }
+    record { «input_len» = r .«input_len»; «low_water» = r .«low_water»; «hidden_lf» = r .«hidden_lf»; «display_column» = column; idle = r .idle }

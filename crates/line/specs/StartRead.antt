@@ -6,8 +6,9 @@ use mathlib.Core.List.{List}
 use lib.Dec.{eqb}
 use lib.ListN.{length}
 use Rattle.rules.specs.Numbers.{inputSize}
-use Rattle.rules.specs.Choice.{pick}
+use Rattle.rules.specs.Choice.{pick, isOn, isOff}
 use Rattle.rules.specs.Messages.Codec.{setSize}
+use Rattle.rules.specs.StartRead.{choosesThis}
 use Rattle.rules.specs.State.{codes}
 use Rattle.rules.specs.StartRead.Acceptance as rules
 use Rattle.rules.specs.StartRead.Acceptance.{dataBehind, hidesInput}
@@ -33,10 +34,10 @@ pub record Startable (s : List ℕ) (f : StartReadFields) : Type 0 where
 abbrev pub readingAt : List ℕ → StartReadFields → ℕ → Reading
 readingAt s f column =
     record {
-      count = f .«end_of_data» - f .«end_of_prompt»;
+      «input_len» = f .«end_of_data» - f .«end_of_prompt»;
       «low_water» = f .«low_water»;
-      hidden = hidesInput (startReadIn s f);
-      from = column;
+      «hidden_lf» = hidesInput (startReadIn s f);
+      «display_column» = column;
       idle = 0;
     }
 
@@ -48,10 +49,10 @@ termsFor f switches cursor size =
       disables = f .disables;
       raises = rules.chosen (f .raises) (switches .raising);
       recognises = rules.chosen (f .escapes) (switches .recognising);
-      echoes = eqb (f .silent) 0 && switches .echoing;
-      «terminator_echo» = eqb (f .«terminator_echo») 1;
+      echoes = isOff (f .silent) && switches .echoing;
+      «terminator_echo» = isOn (f .«terminator_echo»);
       «auto_prompt» = switches .prompting;
-      timed = eqb (f .timed) 1;
+      timed = isOn (f .timed);
       timeout = f .timeout;
       «max_length» = f .«max_length»;
       «end_of_prompt» = f .«end_of_prompt»;
@@ -81,7 +82,7 @@ pub record Opens (s : List ℕ) (f : StartReadFields) (l next : Line) : Type 0 w
   pub terms : termsOf next ≡ rules.openedTerms codes (startReadIn s f) (view l)
   pub input : inputOf (f .«end_of_data» - f .«end_of_prompt») (next .text) ≡ dataBehind (startReadIn s f)
   pub prompting : next .terms .«auto_prompt» ≡ l .switches .prompting
-  pub last : setOf (next .«last_set») ≡ pick (eqb (f .«set_choice») 1) (spanOf s (f .set)) (setOf (l .«last_set»))
+  pub last : setOf (next .«last_set») ≡ pick (eqb (f .«set_choice») choosesThis) (spanOf s (f .set)) (setOf (l .«last_set»))
   pub size : length (next .text) ≡ inputSize
   pub shown : next .terms .«prompt_len» ≤ inputSize
   pub set : CountedSet (next .set)

@@ -22,11 +22,11 @@ codesOf t = map (codes .code) (tokenOf t)
 
 -- without its token, with one byte more of it, and with neither keys nor a token
 abbrev pub untokened : Typed → Typed
-untokened t = record { waiting = t .waiting; token = t .token; «token_len» = 0 }
+untokened t = record { «keys_len» = t .«keys_len»; token = t .token; «token_len» = 0 }
 
 abbrev pub tokened : ℕ → Typed → Typed
 tokened c t =
-    record { waiting = t .waiting; token = set (t .token) (t .«token_len») c; «token_len» = t .«token_len» + 1 }
+    record { «keys_len» = t .«keys_len»; token = set (t .token) (t .«token_len») c; «token_len» = t .«token_len» + 1 }
 
 abbrev pub emptied : Typed → Typed
-emptied t = record { waiting = 0; token = t .token; «token_len» = 0 }
+emptied t = record { «keys_len» = 0; token = t .token; «token_len» = 0 }

@@ -6,7 +6,7 @@ use mathlib.Core.List.{List, [], _∷_}
 use mathlib.Core.Option.{Option, none, some}
 use lib.Dec.{leb}
 use lib.ListN.{take, drop}
-use Rattle.rules.specs.Numbers.{inputSize}
+use Rattle.rules.specs.Numbers.{codeCount, inputSize}
 use Rattle.rules.specs.State as rules
 use Rattle.screen.specs.View as screen
 use Rattle.characteristics.specs.View.{setOf, switchesOf}
@@ -18,11 +18,11 @@ use Rattle.line.specs.declared.Line.{Line}
 
 abbrev pub terminalOf : Terminal → rules.Terminal
 terminalOf t =
-    record { screen = screen.view (t .screen); discarding = t .discarding; quoting = t .quoting; dropped = t .dropped }
+    record { screen = screen.screenView (t .screen); discarding = t .discarding; quoting = t .quoting; dropped = t .dropped }
 
 -- what a quoted key has above its code
 abbrev pub quotedMark : ℕ
-quotedMark = 256
+quotedMark = codeCount
 
 -- a key as its array has it: its code, and the mark if it is quoted
 abbrev pub keyOf : ℕ → rules.Key ℕ
@@ -38,7 +38,7 @@ unfoldable pub tokenOf : Typed → List ℕ
 tokenOf t = take (t .«token_len») (t .token)
 
 abbrev pub typedOf : List ℕ → Typed → rules.Typed ℕ
-typedOf keys t = record { typeAhead = keysOf (t .waiting) keys; token = tokenOf t }
+typedOf keys t = record { typeAhead = keysOf (t .«keys_len») keys; token = tokenOf t }
 
 -- the text of a read: what stands after the prompt in front, the prompt at the end
 unfoldable pub inputOf : ℕ → List ℕ → List ℕ
@@ -71,10 +71,10 @@ abbrev pub readingOf : Line → Reading → rules.Reading ℕ
 readingOf l r =
     record {
       terms = termsOf l;
-      input = inputOf (r .count) (l .text);
+      input = inputOf (r .«input_len») (l .text);
       lowWater = r .«low_water»;
-      hidden = r .hidden;
-      from = r .from;
+      hiddenLF = r .«hidden_lf»;
+      displayColumn = r .«display_column»;
       idle = r .idle;
     }
 

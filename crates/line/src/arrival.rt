@@ -20,16 +20,17 @@ use crate::Terms;
 use crate::Work;
 use crate::acts::Act;
 use crate::read_data;
+use crate::read_data::NO_ENDING;
 use characteristics::out_of_band;
 use message::Message;
 use rules::characters;
 
 // Codes that are controls, by arrival rule 3.
-const DISCARD: u8 = 15;
+const DISCARD_KEY: u8 = 15;
 
-const QUOTE: u8 = 22;
+const QUOTE_KEY: u8 = 22;
 
-const CLEAR: u8 = 24;
+const CLEAR_KEY: u8 = 24;
 
 // DDD 3: no key is a control.
 const DISABLES_CONTROLS: u8 = 3;
@@ -48,7 +49,7 @@ impl Work {
     // One key more waits; idle is 0. `move_keys` puts the key itself into the array.
     fn keeps(self) -> Work
         requires { ⌜ CountedFlow (self .flow) ⌝ }
-        requires { ⌜ self .flow .typed .waiting < typeAheadSize ⌝ }
+        requires { ⌜ self .flow .typed .«keys_len» < typeAheadSize ⌝ }
         ensures counted { λ w. ⌜ CountedFlow (w .flow) ⌝ }
         ensures rule { λ w.
             ⌜ ((k : ℕ) (l : Line) → length (l .keys) ≡ typeAheadSize → (t m : List ℕ) →
@@ -56,7 +57,7 @@ impl Work {
     {
         let mut flow = self.flow;
         let mut typed = flow.typed;
-        typed.waiting = typed.waiting + 1;
+        typed.keys_len = typed.keys_len + 1;
         flow.typed = typed;
         let mut reading = flow.reading;
         reading.idle = 0;
@@ -92,7 +93,7 @@ impl Work {
     {
         let flow = self.flow;
         let typed = flow.typed;
-        if (typed.waiting as usize) < rules::TYPE_AHEAD {
+        if (typed.keys_len as usize) < rules::TYPE_AHEAD {
             return self.keeps();
         }
         self.drops(terminal)
@@ -154,7 +155,7 @@ impl Work {
     // A pending read's input goes, without rubbing out.
     fn clears_unseen(self, pending: bool, r: Reading, t: Terms) -> Work
         requires { ⌜ CountedFlow (self .flow) ⌝ }
-        requires { ⌜ r .count ≤ inputSize ⌝ }
+        requires { ⌜ r .«input_len» ≤ inputSize ⌝ }
         ensures counted { λ w. ⌜ CountedFlow (w .flow) ⌝ }
         ensures rule { λ w.
             ⌜ ((text : List ℕ) (l : Line) (a m : List ℕ) →
@@ -237,7 +238,7 @@ impl Work {
             (now (messages .exit))) ⌝ }
     {
         if pending {
-            return self.completes(messages, read_data::OUT_OF_BAND, 0, r, text, t);
+            return self.completes(messages, read_data::OUT_OF_BAND, NO_ENDING, r, text, t);
         }
         self
     }
@@ -265,13 +266,13 @@ fn act_of_control(c: u8) -> Act
     ensures rule { λ a. ⌜ ((s : List ℕ) (l : Line) → Meets (rules.controlled codes c) s l a) ⌝ }
     ensures kind { λ a. ⌜ callKindsOf a .key ≡ true ⌝ }
 {
-    if c == QUOTE {
+    if c == QUOTE_KEY {
         return Act::Quotes;
     }
-    if c == CLEAR {
+    if c == CLEAR_KEY {
         return Act::Clears;
     }
-    if c == DISCARD {
+    if c == DISCARD_KEY {
         return Act::FlipsDiscard;
     }
     Act::Stores(c)

@@ -13,7 +13,7 @@ use crate::Work;
 use crate::acts::Taken;
 use crate::events::Event;
 use crate::events::HostMessage;
-use crate::events::Seen;
+use crate::events::Lookup;
 use crate::events::Sender;
 use crate::events::sender_of;
 use crate::keys::code_of;
@@ -26,7 +26,7 @@ use message::Found;
 // For an event that does not look.
 const NO_KEY: Taken = Taken::Data(0);
 
-const NOTHING_SEEN: Seen = Seen {
+const NO_LOOKUP: Lookup = Lookup {
     initiated: false,
     attribute: 0,
     held: false,
@@ -46,14 +46,14 @@ impl Line {
         let terms = next.terms;
         let at = code as usize;
         let attribute = next.attributes[at];
-        let seen = Seen {
+        let lookup = Lookup {
             initiated: next.initiated,
             attribute,
             held: false,
             taken: NO_KEY,
         };
-        let act = flow.act_if(roomy, Event::Key(code), seen, terms);
-        move_keys(&mut next.keys, typed.waiting as usize, act);
+        let act = flow.act_if(roomy, Event::Key(code), lookup, terms);
+        move_keys(&mut next.keys, typed.keys_len as usize, act);
         let w = Work {
             flow,
             at: 0,
@@ -83,14 +83,14 @@ impl Line {
         let first = next.keys[0];
         let raised = terms.raised_by(code_of(first));
         let ends = set.has(raised);
-        let seen = Seen {
+        let lookup = Lookup {
             initiated: false,
             attribute: 0,
             held: typed.is_held(),
             taken: flow.takes(first, ends, terms),
         };
-        let act = flow.act_if(roomy, Event::Step, seen, terms);
-        move_keys(&mut next.keys, typed.waiting as usize, act);
+        let act = flow.act_if(roomy, Event::Step, lookup, terms);
+        move_keys(&mut next.keys, typed.keys_len as usize, act);
         let w = Work {
             flow,
             at: 0,
@@ -117,14 +117,14 @@ impl Line {
         let typed = flow.typed;
         let mut next = self;
         let terms = next.terms;
-        let seen = Seen {
+        let lookup = Lookup {
             initiated: false,
             attribute: 0,
             held: typed.is_held(),
             taken: NO_KEY,
         };
-        let act = flow.act_if(roomy, Event::Tick, seen, terms);
-        move_keys(&mut next.keys, typed.waiting as usize, act);
+        let act = flow.act_if(roomy, Event::Tick, lookup, terms);
+        move_keys(&mut next.keys, typed.keys_len as usize, act);
         let w = Work {
             flow,
             at: 0,
@@ -151,7 +151,7 @@ impl Line {
         let mut next = self.set_by(m, s);
         let flow = next.flow;
         let terms = next.terms;
-        let act = flow.act_of(Event::Host(m), NOTHING_SEEN, terms);
+        let act = flow.act_of(Event::Host(m), NO_LOOKUP, terms);
         let w = Work {
             flow,
             at: 0,

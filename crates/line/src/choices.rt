@@ -9,10 +9,10 @@ ghost use Rattle.line.specs.declared.Reading.{Reading};
 ghost use Rattle.line.specs.View.{readingOf};
 ghost use Rattle.line.specs.With.{lent};
 use crate::Terms;
-use crate::steps::DELETE_CHARACTER;
-use crate::steps::DELETE_LINE;
-use crate::steps::DELETE_WORD;
-use crate::steps::REDISPLAY;
+use crate::steps::DELETE_KEY;
+use crate::steps::DELETE_LINE_KEY;
+use crate::steps::DELETE_WORD_KEY;
+use crate::steps::REDISPLAY_KEY;
 use rules::characters;
 
 // From a small letter to the capital.
@@ -39,8 +39,8 @@ impl Terms {
         ensures { λ b. ⌜ ((text : List ℕ) (l : Line) (r : Reading) → b ≡ editsBy c (readingOf (lent self text l) r)) ⌝ }
     {
         let disables = self.disables;
-        ((c == DELETE_CHARACTER) | (c == DELETE_WORD)) & (disables <= DISABLES_LINES)
-            | ((c == DELETE_LINE) | (c == REDISPLAY)) & (disables == DISABLES_NOTHING)
+        ((c == DELETE_KEY) | (c == DELETE_WORD_KEY)) & (disables <= DISABLES_LINES)
+            | ((c == DELETE_LINE_KEY) | (c == REDISPLAY_KEY)) & (disables == DISABLES_NOTHING)
     }
 
     pub(crate) fn begins_token(self, c: u8) -> bool

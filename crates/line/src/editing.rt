@@ -22,8 +22,8 @@ impl Work {
     // Deletes all but the first characters, without rubbing out.
     pub(crate) fn deletes_unseen(self, left: u16, r: Reading, t: Terms) -> Work
         requires { ⌜ CountedFlow (self .flow) ⌝ }
-        requires { ⌜ r .count ≤ inputSize ⌝ }
-        requires { ⌜ left ≤ r .count ⌝ }
+        requires { ⌜ r .«input_len» ≤ inputSize ⌝ }
+        requires { ⌜ left ≤ r .«input_len» ⌝ }
         ensures counted { λ w. ⌜ CountedFlow (w .flow) ⌝ }
         ensures rule { λ w. ⌜ ((fate : ℕ → Fate ℕ) (text : List ℕ) (l : Line) (a m : List ℕ) → DoesOn (λ k. rules.deletesUnseen fate left (readingOf k r)) (lent t text l) self a m w a m) ⌝ }
     {
@@ -42,7 +42,7 @@ impl Work {
     ) -> Work
         requires { ⌜ CountedFlow (self .flow) ⌝ }
         requires { ⌜ CountedReading r (now text) ⌝ }
-        requires { ⌜ left ≤ r .count ⌝ }
+        requires { ⌜ left ≤ r .«input_len» ⌝ }
         ensures counted { λ w. ⌜ CountedFlow (w .flow) ⌝ }
         ensures rule { λ w.
             ⌜ ((fate : ℕ → Fate ℕ) (l : Line) (m : List ℕ) →
@@ -68,11 +68,11 @@ impl Work {
         let flow = self.flow;
         let known = flow.terminal;
         let screen = known.screen;
-        let next = r.with_from(screen.column);
+        let next = r.with_display_column(screen.column);
         let begun = self.with_read(next);
         if t.echoes {
             let start = r.first_shown();
-            let end = r.count as usize;
+            let end = r.input_len as usize;
             return begun.echo_all(terminal, &text[start..end]);
         }
         begun

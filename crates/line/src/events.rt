@@ -47,8 +47,8 @@ pub(crate) enum Sender {
     Server,
 }
 
-// What an event looks at besides the flow and the terms.
-pub struct Seen {
+// What is looked up for an event, besides the flow and the terms.
+pub struct Lookup {
     // of a key: whether Initiate was accepted, and the key's attribute
     pub(crate) initiated: bool,
     pub(crate) attribute: u8,
@@ -80,30 +80,30 @@ pub(crate) fn sender_of(m: Message) -> Sender
 
 impl Flow {
     // The act that an event meets; a host message is its own.
-    pub(crate) fn act_of(self, e: Event, seen: Seen, t: Terms) -> Act
+    pub(crate) fn act_of(self, e: Event, lookup: Lookup, t: Terms) -> Act
         requires { ⌜ CountedTyped (self .typed) ⌝ }
-        ensures rule { λ a. ⌜ ((s : List ℕ) (l : Line) → Sees s (onFlow self (lent t (l .text) l)) seen e → Meets (eventRule s e) s (onFlow self (lent t (l .text) l)) a) ⌝ }
+        ensures rule { λ a. ⌜ ((s : List ℕ) (l : Line) → Sees s (onFlow self (lent t (l .text) l)) lookup e → Meets (eventRule s e) s (onFlow self (lent t (l .text) l)) a) ⌝ }
         ensures kind { λ a. ⌜ isActOf e a ≡ true ⌝ }
         ensures obeys { λ a. ⌜ ((m : hosts.HostMessage) → e ≡ Host m → a ≡ Obeys m) ⌝ }
     {
-        let taken = seen.taken;
+        let taken = lookup.taken;
         match e {
-            Event::Key(c) => self.act_of_key(c, seen.initiated, seen.attribute, t),
-            Event::Tick => self.act_of_tick(seen.held, t),
-            Event::Step => self.act_of_step(seen.held, taken, t),
+            Event::Key(c) => self.act_of_key(c, lookup.initiated, lookup.attribute, t),
+            Event::Tick => self.act_of_tick(lookup.held, t),
+            Event::Step => self.act_of_step(lookup.held, taken, t),
             Event::Host(m) => Act::Obeys(m),
         }
     }
 
     // In areas that are too small it meets none.
-    pub(crate) fn act_if(self, roomy: bool, e: Event, seen: Seen, t: Terms) -> Act
+    pub(crate) fn act_if(self, roomy: bool, e: Event, lookup: Lookup, t: Terms) -> Act
         requires { ⌜ CountedTyped (self .typed) ⌝ }
-        ensures rule { λ a. ⌜ ((s : List ℕ) (l : Line) → roomy ≡ true → Sees s (onFlow self (lent t (l .text) l)) seen e → Meets (eventRule s e) s (onFlow self (lent t (l .text) l)) a) ⌝ }
+        ensures rule { λ a. ⌜ ((s : List ℕ) (l : Line) → roomy ≡ true → Sees s (onFlow self (lent t (l .text) l)) lookup e → Meets (eventRule s e) s (onFlow self (lent t (l .text) l)) a) ⌝ }
         ensures none { λ a. ⌜ (roomy ≡ false → a ≡ Nothing) ⌝ }
         ensures kind { λ a. ⌜ isActOf e a ≡ true ⌝ }
     {
         if roomy {
-            return self.act_of(e, seen, t);
+            return self.act_of(e, lookup, t);
         }
         Act::Nothing
     }

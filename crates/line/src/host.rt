@@ -16,6 +16,7 @@ use crate::Terms;
 use crate::Work;
 use crate::events::HostMessage;
 use crate::read_data;
+use crate::read_data::NO_ENDING;
 use message::Message;
 
 // Unread's condition.
@@ -30,7 +31,7 @@ impl Work {
     {
         let flow = self.flow;
         let typed = flow.typed;
-        let count = typed.waiting + typed.token_len;
+        let count = typed.keys_len + typed.token_len;
         self.sends_plain(messages, Message::InputCount { count })
     }
 
@@ -50,9 +51,9 @@ impl Work {
         }
         let typed = flow.typed;
         let r = flow.reading;
-        let nothing = (typed.waiting == 0) & (typed.token_len == 0) & (r.count == 0);
+        let nothing = (typed.keys_len == 0) & (typed.token_len == 0) & (r.input_len == 0);
         if (condition == ALWAYS) | nothing {
-            return self.completes(messages, read_data::UNREAD, 0, r, text, t);
+            return self.completes(messages, read_data::UNREAD, NO_ENDING, r, text, t);
         }
         self
     }

@@ -1,7 +1,7 @@
 // Initiate, and the answer to it.
 ghost use Prim.Native.Nat.{ℕ};
 ghost use mathlib.Core.List.{List, _++_};
-ghost use Rattle.rules.specs.Messages.Layout.{bytesOf};
+ghost use Rattle.rules.specs.Messages.Layout.{wordBytes, bytesOf};
 ghost use Rattle.rules.specs.Calls.{framed, sentBytes};
 ghost use Rattle.rules.specs.Host as rules;
 ghost use Rattle.areas.specs.Puts.{Puts};
@@ -23,9 +23,12 @@ const ECO: u8 = 0;
 
 const MODIFICATION: u8 = 0;
 
-const REVISION: usize = layout::REVISION as usize;
+const REVISION_SIZE: usize = layout::REVISION_SIZE as usize;
 
-// The parameters: their types, each with its count 2 in one word, and how many bytes all three have.
+// How many values a byte has.
+const BYTE_VALUES: usize = layout::BYTE_VALUES as usize;
+
+// The parameters: their types, each with its count 2 in one word; the bytes of a value, and one that it does not have; the bytes of all three.
 const MESSAGE_SIZE: u16 = 0x0201;
 
 const INPUT_SIZE: u16 = 0x0202;
@@ -34,6 +37,8 @@ const SUPPORTED: u16 = 0x0203;
 
 const VALUE: usize = 2;
 
+const NO_BYTE: u8 = 0;
+
 const PARAMETERS: u16 = 12;
 
 // A bit for each of messages 1 to 14.
@@ -41,24 +46,24 @@ const MESSAGES_1_TO_14: usize = 0x7FFE;
 
 // One parameter of Initiate: its type and the count 2 in one word, and two bytes.
 fn put_parameter(head: u16, value: usize, area: &mut [u8], at: usize) -> usize
-    ensures { λ r. ⌜ Puts (bytesOf 2 head ++ bytesOf 2 value) (now (area .entry)) at r (now (area .exit)) ⌝ }
+    ensures { λ r. ⌜ Puts (bytesOf wordBytes head ++ bytesOf wordBytes value) (now (area .entry)) at r (now (area .exit)) ⌝ }
 {
-    let low = (value % 256) as u8;
-    let high = (value / 256 % 256) as u8;
-    parameters::put_setting(head, low, high, 0, VALUE, area, at)
+    let low = (value % BYTE_VALUES) as u8;
+    let high = (value / BYTE_VALUES % BYTE_VALUES) as u8;
+    parameters::put_setting(head, low, high, NO_BYTE, VALUE, area, at)
 }
 
 // Version 1.0.0, eight spaces, and parameters 1 (message size), 2 (input size) and 3 (messages 1 to 14).
 fn put_initiate(area: &mut [u8], at: usize) -> usize
     ensures { λ r. ⌜ Puts (framed (sentBytes (rules.ourInitiate {D = ℕ}))) (now (area .entry)) at r (now (area .exit)) ⌝ }
 {
-    let spaces = [characters::SP; REVISION];
+    let spaces = [characters::SP; REVISION_SIZE];
     let revision = Span {
         start: 0,
-        len: layout::REVISION,
+        len: layout::REVISION_SIZE,
     };
     let parameters = Span {
-        start: layout::REVISION,
+        start: layout::REVISION_SIZE,
         len: PARAMETERS,
     };
     let head = Message::Initiate(InitiateFields {

@@ -60,34 +60,34 @@ fn end_before(text: &[u8], end: usize, word: bool) -> usize
 impl Reading {
     // Its first characters left; LOW-WATER falls to the new end if lower.
     pub(crate) fn shortened(self, left: u16, t: Terms) -> Reading
-        requires { ⌜ left ≤ self .count ⌝ }
+        requires { ⌜ left ≤ self .«input_len» ⌝ }
         ensures { λ r. ⌜ Shortened left t self r ⌝ }
     {
         let prompt = t.end_of_prompt as u32;
         let mut next = self;
-        next.count = left;
+        next.input_len = left;
         next.low_water = lower(self.low_water, prompt + left as u32);
-        next.hidden = self.hidden & (0 < left);
+        next.hidden_lf = self.hidden_lf & (0 < left);
         next
     }
 
     // One character more.
     pub(crate) fn push(self, text: &mut [u8; rules::INPUT], c: u8) -> Reading
         requires { ⌜ CountedReading self (now text) ⌝ }
-        requires { ⌜ self .count < inputSize ⌝ }
+        requires { ⌜ self .«input_len» < inputSize ⌝ }
         ensures { λ r. ⌜ Appends (c ∷ []) self (now (text .entry)) r (now (text .exit)) ⌝ }
     {
-        let at = self.count as usize;
+        let at = self.input_len as usize;
         text[at] = c;
         let mut next = self;
-        next.count = self.count + 1;
+        next.input_len = self.input_len + 1;
         next
     }
 
     // More characters.
     pub(crate) fn push_all(self, text: &mut [u8; rules::INPUT], cs: &[u8]) -> Reading
         requires { ⌜ CountedReading self (now text) ⌝ }
-        requires { ⌜ self .count + length (now cs) ≤ inputSize ⌝ }
+        requires { ⌜ self .«input_len» + length (now cs) ≤ inputSize ⌝ }
         ensures { λ r. ⌜ Appends (now (cs .entry)) self (now (text .entry)) r (now (text .exit)) ⌝ }
     {
         let mut next = self;
@@ -108,26 +108,26 @@ impl Reading {
     }
 
     // Its data's display begins at this column.
-    pub(crate) fn with_from(self, column: u16) -> Reading
+    pub(crate) fn with_display_column(self, column: u16) -> Reading
         ensures { λ r. ⌜ r ≡ shownAt column self ⌝ }
     {
         let mut next = self;
-        next.from = column;
+        next.display_column = column;
         next
     }
 
     // The end of the buffer.
     pub(crate) fn end(self, t: Terms) -> u32
-        ensures { λ r. ⌜ r ≡ t .«end_of_prompt» + self .count ⌝ }
+        ensures { λ r. ⌜ r ≡ t .«end_of_prompt» + self .«input_len» ⌝ }
     {
-        t.end_of_prompt as u32 + self.count as u32
+        t.end_of_prompt as u32 + self.input_len as u32
     }
 
     // Where its displayed characters begin: behind the LF that F hides.
     pub(crate) fn first_shown(self) -> usize
         ensures { λ r. ⌜ ShownFrom self r ⌝ }
     {
-        if self.hidden & (0 < self.count) {
+        if self.hidden_lf & (0 < self.input_len) {
             return 1;
         }
         0
@@ -135,9 +135,9 @@ impl Reading {
 
     // How many of its first characters are displayed.
     fn shown_of(self, left: u16) -> usize
-        ensures { λ r. ⌜ r ≡ left - bit (self .hidden) ⌝ }
+        ensures { λ r. ⌜ r ≡ left - bit (self .«hidden_lf») ⌝ }
     {
-        if self.hidden & (0 < left) {
+        if self.hidden_lf & (0 < left) {
             return left as usize - 1;
         }
         left as usize
@@ -146,21 +146,21 @@ impl Reading {
     // The marks and spaces on the screen for all but its first characters.
     pub(crate) fn marks(self, left: u16, text: &[u8]) -> usize
         requires { ⌜ CountedReading self (now text) ⌝ }
-        ensures { λ n. ⌜ ((t : terms.Terms) (l : Line) → n ≡ screen.marksBehind (left - bit (self .hidden)) (self .from) (rules.displayed codes (readingOf (lent t (now (text .entry)) l) self))) ⌝ }
+        ensures { λ n. ⌜ ((t : terms.Terms) (l : Line) → n ≡ screen.marksBehind (left - bit (self .«hidden_lf»)) (self .«display_column») (rules.displayed codes (readingOf (lent t (now (text .entry)) l) self))) ⌝ }
     {
         let start = self.first_shown();
-        let end = self.count as usize;
+        let end = self.input_len as usize;
         let kept = self.shown_of(left);
-        let from = self.from;
+        let from = self.display_column;
         screen::rub::marks_behind(kept, from, &text[start..end])
     }
 
     // How many characters 127 leaves.
     pub(crate) fn left_by_127(self) -> u16
-        ensures { λ r. ⌜ r ≡ self .count - 1 ⌝ }
+        ensures { λ r. ⌜ r ≡ self .«input_len» - 1 ⌝ }
     {
-        if 0 < self.count {
-            return self.count - 1;
+        if 0 < self.input_len {
+            return self.input_len - 1;
         }
         0
     }
@@ -170,7 +170,7 @@ impl Reading {
         requires { ⌜ CountedReading self (now text) ⌝ }
         ensures { λ r. ⌜ LeftBy23 (now (text .entry)) self r ⌝ }
     {
-        let end = self.count as usize;
+        let end = self.input_len as usize;
         let spaces = end_before(text, end, false);
         end_before(text, spaces, true) as u16
     }

@@ -36,7 +36,7 @@ pub struct Terminal {
 
 // Typed and not yet in a read: how many keys wait, and a partial or held token.
 pub struct Typed {
-    pub waiting: u16,
+    pub keys_len: u16,
     pub token: [u8; rules::TOKEN],
     pub token_len: u16,
 }
@@ -66,12 +66,12 @@ pub struct Terms {
 pub struct Reading {
     pub idle: u16,
     // of what stands after its prompt
-    pub count: u16,
+    pub input_len: u16,
     pub low_water: u16,
     // the column where the data's display last began
-    pub from: u16,
+    pub display_column: u16,
     // the first character is the LF that F hides
-    pub hidden: bool,
+    pub hidden_lf: bool,
 }
 
 // What the rules change besides the arrays. In this order it is copied fastest (docs/PERFORMANCE.md).

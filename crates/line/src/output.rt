@@ -52,7 +52,7 @@ impl Work {
         requires { ⌜ CountedFlow (self .flow) ⌝ }
         ensures counted { λ w. ⌜ CountedFlow (w .flow) ⌝ }
         ensures rule { λ w.
-            ⌜ ((x : forms.Message ℕ) (b : State ℕ) → some ≡ not (isEmpty (x .text)) → screen.view before ≡ b .terminal .screen → (l : Line) (t : List ℕ) →
+            ⌜ ((x : forms.Message ℕ) (b : State ℕ) → some ≡ not (isEmpty (x .text)) → screen.screenView before ≡ b .terminal .screen → (l : Line) (t : List ℕ) →
             Does (rules.sendsCompletion wants x b) (on l self) t (now (messages .entry)) (on l w) t (now (messages .exit))) ⌝ }
     {
         if wants == fields::ON {

@@ -40,6 +40,11 @@ pub(crate) const UNDERFLOW: u8 = 7;
 
 pub(crate) const ABSENTEE: u8 = 8;
 
+// How many characters at the end of a read are a terminator or an underflow code; a token's are as many as it has.
+pub(crate) const NO_ENDING: u16 = 0;
+
+pub(crate) const ONE_ENDING: u16 = 1;
+
 impl Work {
     // A partial token is dropped.
     fn loses_partial(self) -> Work
@@ -59,7 +64,7 @@ impl Work {
     // The read's answer; its data stands in front of the text.
     fn answer(self, code: u8, ending: u16, r: Reading, t: Terms) -> Message
         requires { ⌜ CountedFlow (self .flow) ⌝ }
-        requires { ⌜ ending ≤ r .count ⌝ }
+        requires { ⌜ ending ≤ r .«input_len» ⌝ }
         ensures { λ m.
             ⌜ ((text : List ℕ) (k l : Line) → CountedReading r text →
             (heldIn text m ≡ codec.message (rules.answerOf codes code ending (readingOf (lent t text l) r) (view (onFlow (self .flow) k)))) ×
@@ -74,7 +79,7 @@ impl Work {
         let horizontal = screen::columns::change(cursor.column, t.column);
         let text = Span {
             start: 0,
-            len: r.count,
+            len: r.input_len,
         };
         Message::ReadData(ReadDataFields {
             code,
@@ -82,7 +87,7 @@ impl Work {
             low_water: r.low_water,
             vertical,
             horizontal,
-            terminator: r.count - ending,
+            terminator: r.input_len - ending,
             text,
         })
     }
@@ -99,7 +104,7 @@ impl Work {
     ) -> Work
         requires { ⌜ CountedFlow (self .flow) ⌝ }
         requires { ⌜ CountedReading r (now text) ⌝ }
-        requires { ⌜ ending ≤ r .count ⌝ }
+        requires { ⌜ ending ≤ r .«input_len» ⌝ }
         ensures counted { λ w. ⌜ CountedFlow (w .flow) ⌝ }
         ensures rule { λ w.
             ⌜ ((k l : Line) (a : List ℕ) →
@@ -122,7 +127,7 @@ impl Work {
     ) -> Work
         requires { ⌜ CountedFlow (self .flow) ⌝ }
         requires { ⌜ CountedReading r (now text) ⌝ }
-        requires { ⌜ ending ≤ r .count ⌝ }
+        requires { ⌜ ending ≤ r .«input_len» ⌝ }
         ensures counted { λ w. ⌜ CountedFlow (w .flow) ⌝ }
         ensures rule { λ w.
             ⌜ ((k l : Line) (a : List ℕ) →

@@ -27,6 +27,7 @@ use crate::Reading;
 use crate::Terms;
 use crate::Work;
 use crate::read_data;
+use crate::read_data::NO_ENDING;
 use characteristics::Set;
 use characteristics::Switches;
 use message::StartReadFields;
@@ -183,10 +184,10 @@ pub(crate) fn reading_at(f: StartReadFields, s: &[u8], column: u16) -> Reading
     ensures { λ r. ⌜ r ≡ readingAt (now (s .entry)) f column ⌝ }
 {
     Reading {
-        count: f.end_of_data - f.end_of_prompt,
+        input_len: f.end_of_data - f.end_of_prompt,
         low_water: f.low_water,
-        hidden: hides_lf(f, s) & (f.end_of_prompt == 0),
-        from: column,
+        hidden_lf: hides_lf(f, s) & (f.end_of_prompt == 0),
+        display_column: column,
         idle: 0,
     }
 }
@@ -258,7 +259,7 @@ impl Work {
             (now (messages .exit))) ⌝ }
     {
         if full {
-            return self.completes(messages, read_data::BUFFER_FULL, 0, r, text, t);
+            return self.completes(messages, read_data::BUFFER_FULL, NO_ENDING, r, text, t);
         }
         self
     }
@@ -287,7 +288,7 @@ impl Work {
         let known = flow.terminal;
         let screen = known.screen;
         let r = reading_at(f, s, screen.column);
-        let emptied = self.empties_typed_if(f.clears == fields::ON);
+        let emptied = self.empties_typed_if(f.clears_type_ahead == fields::ON);
         let next = emptied.flow;
         let shown = next.terminal;
         let cursor = shown.screen;

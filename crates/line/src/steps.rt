@@ -16,16 +16,18 @@ use crate::Reading;
 use crate::Terms;
 use crate::Work;
 use crate::read_data;
+use crate::read_data::NO_ENDING;
+use crate::read_data::ONE_ENDING;
 use rules::characters;
 
 // Codes that edit, by step rule 6.
-pub(crate) const DELETE_CHARACTER: u8 = characters::DEL;
+pub(crate) const DELETE_KEY: u8 = characters::DEL;
 
-pub(crate) const DELETE_WORD: u8 = 23;
+pub(crate) const DELETE_WORD_KEY: u8 = 23;
 
-pub(crate) const DELETE_LINE: u8 = 21;
+pub(crate) const DELETE_LINE_KEY: u8 = 21;
 
-pub(crate) const REDISPLAY: u8 = 18;
+pub(crate) const REDISPLAY_KEY: u8 = 18;
 
 // UU: what 127 or 23 does with nothing to delete.
 const UNDERFLOW_RINGS: u8 = 1;
@@ -43,7 +45,7 @@ impl Work {
     ) -> Work
         requires { ⌜ CountedFlow (self .flow) ⌝ }
         requires { ⌜ CountedReading r (now text) ⌝ }
-        requires { ⌜ r .count + self .flow .typed .«token_len» + t .«prompt_len» ≤ inputSize ⌝ }
+        requires { ⌜ r .«input_len» + self .flow .typed .«token_len» + t .«prompt_len» ≤ inputSize ⌝ }
         ensures counted { λ w. ⌜ CountedFlow (w .flow) ⌝ }
         ensures sized { λ w. ⌜ length (now (text .exit)) ≡ inputSize ⌝ }
         ensures rule { λ w.
@@ -85,7 +87,7 @@ impl Work {
         if r.end(t) + typed.token_len as u32 <= t.max_length as u32 {
             return self.ends_by_token(messages, r, text, t);
         }
-        self.completes(messages, read_data::ABSENTEE, 0, r, text, t)
+        self.completes(messages, read_data::ABSENTEE, NO_ENDING, r, text, t)
     }
 
     // Rules 1 and 3.
@@ -163,7 +165,7 @@ impl Work {
         let ready = self.with_read(next);
         let shown = ready.echoes_if(terminal, t.echoes, c);
         if r.end(t) + 1 == t.max_length as u32 {
-            return shown.completes(messages, read_data::BUFFER_FULL, 0, next, text, t);
+            return shown.completes(messages, read_data::BUFFER_FULL, NO_ENDING, next, text, t);
         }
         shown
     }
@@ -190,7 +192,7 @@ impl Work {
     {
         let next = r.push(text, c);
         let shown = self.echoes_terminator_if(terminal, t.terminator_echo & t.echoes, c);
-        shown.completes(messages, read_data::TERMINATOR, 1, next, text, t)
+        shown.completes(messages, read_data::TERMINATOR, ONE_ENDING, next, text, t)
     }
 
     // 127 or 23 with nothing to delete.
@@ -216,7 +218,7 @@ impl Work {
         let underflow = t.underflow;
         if underflow == UNDERFLOW_COMPLETES {
             let next = r.push(text, c);
-            return self.completes(messages, read_data::UNDERFLOW, 1, next, text, t);
+            return self.completes(messages, read_data::UNDERFLOW, ONE_ENDING, next, text, t);
         }
         if underflow == UNDERFLOW_RINGS {
             return self.put(terminal, characters::BEL);
@@ -238,7 +240,7 @@ impl Work {
         requires { ⌜ CountedFlow (self .flow) ⌝ }
         requires { ⌜ CountedReading r (now text) ⌝ }
         requires { ⌜ HasRoom t r ⌝ }
-        requires { ⌜ left ≤ r .count ⌝ }
+        requires { ⌜ left ≤ r .«input_len» ⌝ }
         ensures counted { λ w. ⌜ CountedFlow (w .flow) ⌝ }
         ensures sized { λ w. ⌜ length (now (text .exit)) ≡ inputSize ⌝ }
         ensures rule { λ w.
@@ -246,7 +248,7 @@ impl Work {
             DoesAcross (λ k. rules.erases codes left c (readingOf k r)) (lent t (now (text .entry)) l) self (now (terminal .entry)) (now (messages .entry))
             (lent t (now (text .exit)) l) w (now (terminal .exit)) (now (messages .exit))) ⌝ }
     {
-        let count = r.count;
+        let count = r.input_len;
         if count == 0 {
             return self.underflows(terminal, messages, c, r, text, t);
         }
@@ -273,15 +275,15 @@ impl Work {
             DoesAcross (λ k. rules.edits codes c (readingOf k r)) (lent t (now (text .entry)) l) self (now (terminal .entry)) (now (messages .entry))
             (lent t (now (text .exit)) l) w (now (terminal .exit)) (now (messages .exit))) ⌝ }
     {
-        if c == DELETE_CHARACTER {
+        if c == DELETE_KEY {
             let left = r.left_by_127();
             return self.erases(terminal, messages, left, c, r, text, t);
         }
-        if c == DELETE_WORD {
+        if c == DELETE_WORD_KEY {
             let left = r.left_by_23(text);
             return self.erases(terminal, messages, left, c, r, text, t);
         }
-        if c == DELETE_LINE {
+        if c == DELETE_LINE_KEY {
             return self.deletes(terminal, 0, r, text, t);
         }
         self.redisplays(terminal, r, text, t)

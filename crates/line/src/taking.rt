@@ -97,7 +97,7 @@ impl Flow {
             return Act::TakesToken;
         }
         let typed = self.typed;
-        let waiting = typed.waiting;
+        let waiting = typed.keys_len;
         if waiting == 0 {
             return t.act_without_key();
         }
@@ -128,7 +128,7 @@ impl Flow {
             return Act::Nothing;
         }
         let typed = self.typed;
-        if t.timed & (0 < t.timeout) & (typed.waiting == 0) & !held {
+        if t.timed & (0 < t.timeout) & (typed.keys_len == 0) & !held {
             return self.act_of_idling(t);
         }
         Act::Nothing
@@ -139,12 +139,12 @@ impl Work {
     // The first key no longer waits, and the read is no longer idle. `move_keys` moves the others.
     fn takes_key(self) -> Work
         requires { ⌜ CountedFlow (self .flow) ⌝ }
-        requires { ⌜ 0 < self .flow .typed .waiting ⌝ }
+        requires { ⌜ 0 < self .flow .typed .«keys_len» ⌝ }
         ensures { λ w. ⌜ HasTakenKey self w ⌝ }
     {
         let mut flow = self.flow;
         let mut typed = flow.typed;
-        typed.waiting = typed.waiting - 1;
+        typed.keys_len = typed.keys_len - 1;
         flow.typed = typed;
         flow.pending = true;
         let r = flow.reading;

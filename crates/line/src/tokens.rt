@@ -50,7 +50,7 @@ fn begun(n: u8) -> u8
 
 // A byte that goes between, or ends it from a lowest final byte on.
 fn ended(again: u8, low: u8, n: u8) -> u8
-    ensures { λ r. ⌜ placeOf r ≡ pick (rules.isIntermediate n) (placeOf again) (pick (within low 126 n) rules.valid rules.invalid) ⌝ }
+    ensures { λ r. ⌜ placeOf r ≡ pick (rules.isIntermediate n) (placeOf again) (pick (within low rules.lastFinal n) rules.valid rules.invalid) ⌝ }
 {
     if (FIRST_INTERMEDIATE <= n) & (n <= LAST_INTERMEDIATE) {
         return again;

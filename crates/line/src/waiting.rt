@@ -52,10 +52,10 @@ impl Typed {
     // Type-ahead or a held token remains.
     pub(crate) fn remains(self) -> u8
         requires { ⌜ CountedTyped self ⌝ }
-        ensures { λ r. ⌜ ((keys : List ℕ) → r ≡ bit (not (isEmpty (keysOf (self .waiting) keys)) || rules.isWhole (codesOf self))) ⌝ }
+        ensures { λ r. ⌜ ((keys : List ℕ) → r ≡ bit (not (isEmpty (keysOf (self .«keys_len») keys)) || rules.isWhole (codesOf self))) ⌝ }
     {
         let held = self.is_held();
-        if (self.waiting != 0) | held {
+        if (self.keys_len != 0) | held {
             return fields::ON;
         }
         fields::OFF
@@ -89,7 +89,7 @@ impl Typed {
         ensures { λ r. ⌜ r ≡ emptied self ⌝ }
     {
         let mut next = self;
-        next.waiting = 0;
+        next.keys_len = 0;
         next.token_len = 0;
         next
     }

@@ -25,7 +25,7 @@ abbrev pub withNumbers : ℕ → ℕ → ℕ → ℕ → ℕ → ℕ → StartRe
 withNumbers max end time prompt display low f =
     record {
       underflow = f .underflow;
-      clears = f .clears;
+      «clears_type_ahead» = f .«clears_type_ahead»;
       formats = f .formats;
       vertical = f .vertical;
       continues = f .continues;

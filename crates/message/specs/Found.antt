@@ -8,7 +8,7 @@ use lib.Dec.{leb}
 use lib.ListN.{length, take, drop}
 use Rattle.rules.specs.Choice.{pick, allAre}
 use Rattle.rules.specs.Numbers.{messageSize, accepted, unsound}
-use Rattle.rules.specs.Messages.Layout.{byteAt, fieldsIn, numberAt}
+use Rattle.rules.specs.Messages.Layout.{fieldsIn, numberAt}
 use Rattle.rules.specs.Messages.Parameters.{Shape, initiation, question, setting, cleaned, cut}
 use Rattle.rules.specs.Messages.Forms as forms
 use Rattle.rules.specs.Messages.Forms.{formOf, plain}
@@ -46,7 +46,7 @@ listMessage kind numbers parameters =
 -- Start Read: its flags, and all of it
 abbrev pub flagsOf : StartReadFields → List ℕ
 flagsOf f =
-    f .underflow ∷ f .clears ∷ f .formats ∷ f .vertical ∷ f .continues ∷ f .raises ∷ f .disables ∷ f .silent ∷
+    f .underflow ∷ f .«clears_type_ahead» ∷ f .formats ∷ f .vertical ∷ f .continues ∷ f .raises ∷ f .disables ∷ f .silent ∷
     f .«terminator_echo» ∷ f .timed ∷ f .«set_choice» ∷ f .escapes ∷ []
 
 unfoldable pub startReadIn : List ℕ → StartReadFields → forms.Message ℕ
@@ -152,7 +152,7 @@ decodedAs kind s =
 
 -- what a reader of one type is handed: a message of that type that is not too long
 pub record IsType (kind : ℕ) (s : List ℕ) : Type 0 where
-  pub typed : byteAt s 0 ≡ kind
+  pub typed : forms.typeIn s ≡ kind
   pub short : length s ≤ messageSize
 
 -- what stands from a place on
@@ -168,7 +168,7 @@ pub record FieldsIn (kind : ℕ) (s : List ℕ) (m : Message) : Type 0 where
 
 -- the flags of a Start Read, with spans that are given
 pub record FlagsAre (s : List ℕ) (set text : Span) (f : StartReadFields) : Type 0 where
-  pub flags : flagsOf f ≡ fieldsIn forms.startReadWidths (numberAt 3 1 s)
+  pub flags : flagsOf f ≡ fieldsIn forms.startReadWidths (numberAt forms.startReadFlagBytes forms.headAt s)
   pub set-kept : f .set ≡ set
   pub text-kept : f .text ≡ text
 

@@ -22,7 +22,7 @@ pub(crate) fn decode_out_of_band(s: &[u8]) -> Found
     requires { ⌜ IsType forms.outOfBand (now s) ⌝ }
     ensures { λ r. ⌜ Finds (now (s .entry)) (decodedAs forms.outOfBand (now (s .entry))) r ⌝ }
 {
-    if s.len() != sizes::OUT_OF_BAND {
+    if s.len() != sizes::OUT_OF_BAND_HEADER {
         return Found::Refused(rules::UNSOUND);
     }
     let flags = byte_at(s, FLAGS);
@@ -37,7 +37,7 @@ pub(crate) fn decode_unread(s: &[u8]) -> Found
     requires { ⌜ IsType forms.unread (now s) ⌝ }
     ensures { λ r. ⌜ Finds (now (s .entry)) (decodedAs forms.unread (now (s .entry))) r ⌝ }
 {
-    if s.len() != sizes::BARE {
+    if s.len() != sizes::BARE_HEADER {
         return Found::Refused(rules::UNSOUND);
     }
     let flags = byte_at(s, FLAGS);
@@ -50,7 +50,7 @@ pub(crate) fn decode_clear_input(s: &[u8]) -> Found
     requires { ⌜ IsType forms.clearInput (now s) ⌝ }
     ensures { λ r. ⌜ Finds (now (s .entry)) (decodedAs forms.clearInput (now (s .entry))) r ⌝ }
 {
-    if s.len() != sizes::BARE {
+    if s.len() != sizes::BARE_HEADER {
         return Found::Refused(rules::UNSOUND);
     }
     Found::Message(Message::ClearInput)
@@ -60,7 +60,7 @@ pub(crate) fn decode_write_completion(s: &[u8]) -> Found
     requires { ⌜ IsType forms.writeCompletion (now s) ⌝ }
     ensures { λ r. ⌜ Finds (now (s .entry)) (decodedAs forms.writeCompletion (now (s .entry))) r ⌝ }
 {
-    if s.len() != sizes::WRITE_COMPLETION {
+    if s.len() != sizes::WRITE_COMPLETION_HEADER {
         return Found::Refused(rules::UNSOUND);
     }
     let flags = byte_at(s, FLAGS);
@@ -77,7 +77,7 @@ pub(crate) fn decode_discard_state(s: &[u8]) -> Found
     requires { ⌜ IsType forms.discardState (now s) ⌝ }
     ensures { λ r. ⌜ Finds (now (s .entry)) (decodedAs forms.discardState (now (s .entry))) r ⌝ }
 {
-    if s.len() != sizes::BARE {
+    if s.len() != sizes::BARE_HEADER {
         return Found::Refused(rules::UNSOUND);
     }
     let flags = byte_at(s, FLAGS);
@@ -90,7 +90,7 @@ pub(crate) fn decode_check_input(s: &[u8]) -> Found
     requires { ⌜ IsType forms.checkInput (now s) ⌝ }
     ensures { λ r. ⌜ Finds (now (s .entry)) (decodedAs forms.checkInput (now (s .entry))) r ⌝ }
 {
-    if s.len() != sizes::BARE {
+    if s.len() != sizes::BARE_HEADER {
         return Found::Refused(rules::UNSOUND);
     }
     Found::Message(Message::CheckInput)
@@ -100,7 +100,7 @@ pub(crate) fn decode_input_count(s: &[u8]) -> Found
     requires { ⌜ IsType forms.inputCount (now s) ⌝ }
     ensures { λ r. ⌜ Finds (now (s .entry)) (decodedAs forms.inputCount (now (s .entry))) r ⌝ }
 {
-    if s.len() != sizes::INPUT_COUNT {
+    if s.len() != sizes::INPUT_COUNT_HEADER {
         return Found::Refused(rules::UNSOUND);
     }
     let count = word_at(s, COUNT);
@@ -111,7 +111,7 @@ pub(crate) fn decode_input_state(s: &[u8]) -> Found
     requires { ⌜ IsType forms.inputState (now s) ⌝ }
     ensures { λ r. ⌜ Finds (now (s .entry)) (decodedAs forms.inputState (now (s .entry))) r ⌝ }
 {
-    if s.len() != sizes::BARE {
+    if s.len() != sizes::BARE_HEADER {
         return Found::Refused(rules::UNSOUND);
     }
     let flags = byte_at(s, FLAGS);

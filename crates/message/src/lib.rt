@@ -36,7 +36,7 @@ pub struct InitiateFields {
 pub struct StartReadFields {
     // FLAGS from bit 0: UU, C, F, V, K
     pub underflow: u8,
-    pub clears: u8,
+    pub clears_type_ahead: u8,
     pub formats: u8,
     pub vertical: u8,
     pub continues: u8,

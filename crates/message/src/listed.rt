@@ -24,20 +24,20 @@ const MODIFICATION: usize = 4;
 const REVISION: u16 = 5;
 
 fn initiate_fields(s: &[u8]) -> InitiateFields
-    requires { ⌜ IsType forms.initiate (now s) × (13 ≤ length (now s)) ⌝ }
+    requires { ⌜ IsType forms.initiate (now s) × (forms.initiateHeader ≤ length (now s)) ⌝ }
     ensures { λ r. ⌜ FieldsIn forms.initiate (now (s .entry)) (variants.Initiate r) ⌝ }
 {
     let version = byte_at(s, VERSION);
     let eco = byte_at(s, ECO);
     let modification = byte_at(s, MODIFICATION);
-    let parameters = rest_from(s, layout::INITIATE);
+    let parameters = rest_from(s, layout::INITIATE_HEADER);
     InitiateFields {
         version,
         eco,
         modification,
         revision: Span {
             start: REVISION,
-            len: layout::REVISION,
+            len: layout::REVISION_SIZE,
         },
         parameters,
     }
@@ -47,10 +47,10 @@ pub(crate) fn decode_initiate(s: &[u8]) -> Found
     requires { ⌜ IsType forms.initiate (now s) ⌝ }
     ensures { λ r. ⌜ Finds (now (s .entry)) (decodedAs forms.initiate (now (s .entry))) r ⌝ }
 {
-    if s.len() < sizes::INITIATE {
+    if s.len() < sizes::INITIATE_HEADER {
         return Found::Refused(rules::UNSOUND);
     }
-    if !whole_list(rules::INITIATE, s, sizes::INITIATE) {
+    if !whole_list(rules::INITIATE, s, sizes::INITIATE_HEADER) {
         return Found::Refused(rules::UNSOUND);
     }
     let f = initiate_fields(s);
@@ -61,13 +61,13 @@ pub(crate) fn decode_read_characteristics(s: &[u8]) -> Found
     requires { ⌜ IsType forms.readCharacteristics (now s) ⌝ }
     ensures { λ r. ⌜ Finds (now (s .entry)) (decodedAs forms.readCharacteristics (now (s .entry))) r ⌝ }
 {
-    if s.len() < sizes::BARE {
+    if s.len() < sizes::BARE_HEADER {
         return Found::Refused(rules::UNSOUND);
     }
-    if !whole_list(rules::READ_CHARACTERISTICS, s, sizes::BARE) {
+    if !whole_list(rules::READ_CHARACTERISTICS, s, sizes::BARE_HEADER) {
         return Found::Refused(rules::UNSOUND);
     }
-    let parameters = rest_from(s, layout::BARE);
+    let parameters = rest_from(s, layout::BARE_HEADER);
     Found::Message(Message::ReadCharacteristics { parameters })
 }
 
@@ -75,12 +75,12 @@ pub(crate) fn decode_characteristics(s: &[u8]) -> Found
     requires { ⌜ IsType forms.characteristics (now s) ⌝ }
     ensures { λ r. ⌜ Finds (now (s .entry)) (decodedAs forms.characteristics (now (s .entry))) r ⌝ }
 {
-    if s.len() < sizes::BARE {
+    if s.len() < sizes::BARE_HEADER {
         return Found::Refused(rules::UNSOUND);
     }
-    if !whole_list(rules::CHARACTERISTICS, s, sizes::BARE) {
+    if !whole_list(rules::CHARACTERISTICS, s, sizes::BARE_HEADER) {
         return Found::Refused(rules::UNSOUND);
     }
-    let parameters = rest_from(s, layout::BARE);
+    let parameters = rest_from(s, layout::BARE_HEADER);
     Found::Message(Message::Characteristics { parameters })
 }

@@ -54,8 +54,8 @@ fn start_read_flags(s: &[u8], set: Span, text: Span) -> StartReadFields
     ensures { λ r. ⌜ FlagsAre (now (s .entry)) set text r ⌝ }
 {
     let flags = three_at(s, layout::FLAGS);
-    let clears = flags / TWO_BITS;
-    let formats = clears / ONE_BIT;
+    let clears_type_ahead = flags / TWO_BITS;
+    let formats = clears_type_ahead / ONE_BIT;
     let vertical = formats / ONE_BIT;
     let continues = vertical / ONE_BIT;
     let raises = continues / ONE_BIT;
@@ -67,7 +67,7 @@ fn start_read_flags(s: &[u8], set: Span, text: Span) -> StartReadFields
     let escapes = set_choice / TWO_BITS;
     StartReadFields {
         underflow: (flags % TWO_BITS) as u8,
-        clears: (clears % ONE_BIT) as u8,
+        clears_type_ahead: (clears_type_ahead % ONE_BIT) as u8,
         formats: (formats % ONE_BIT) as u8,
         vertical: (vertical % ONE_BIT) as u8,
         continues: (continues % ONE_BIT) as u8,
@@ -95,10 +95,10 @@ fn start_read_fields(s: &[u8]) -> StartReadFields
 {
     let count = byte_at(s, SET_COUNT) as u16;
     let set = Span {
-        start: layout::START_READ,
+        start: layout::START_READ_HEADER,
         len: count,
     };
-    let text = rest_from(s, layout::START_READ + count);
+    let text = rest_from(s, layout::START_READ_HEADER + count);
     let mut f = start_read_flags(s, set, text);
     f.max_length = word_at(s, MAX_LENGTH);
     f.end_of_data = word_at(s, END_OF_DATA);

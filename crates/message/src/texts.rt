@@ -43,7 +43,7 @@ fn read_data_fields(s: &[u8]) -> ReadDataFields
     let vertical = byte_at(s, VERTICAL);
     let horizontal = byte_at(s, HORIZONTAL);
     let terminator = word_at(s, TERMINATOR);
-    let text = rest_from(s, layout::READ_DATA);
+    let text = rest_from(s, layout::READ_DATA_HEADER);
     ReadDataFields {
         code: flags % bits::FOUR,
         more: flags / bits::FOUR % bits::ONE,
@@ -59,7 +59,7 @@ pub(crate) fn decode_read_data(s: &[u8]) -> Found
     requires { ⌜ IsType forms.readData (now s) ⌝ }
     ensures { λ r. ⌜ Finds (now (s .entry)) (decodedAs forms.readData (now (s .entry))) r ⌝ }
 {
-    if s.len() < sizes::READ_DATA {
+    if s.len() < sizes::READ_DATA_HEADER {
         return Found::Refused(rules::UNSOUND);
     }
     let f = read_data_fields(s);
@@ -84,7 +84,7 @@ fn write_fields(s: &[u8]) -> WriteFields
     let transparent = wants_completion / ONE_BIT;
     let prefix_value = byte_at(s, PREFIX_VALUE);
     let postfix_value = byte_at(s, POSTFIX_VALUE);
-    let text = rest_from(s, layout::WRITE);
+    let text = rest_from(s, layout::WRITE_HEADER);
     WriteFields {
         lock: (flags % TWO_BITS) as u8,
         newline: (newline % ONE_BIT) as u8,
@@ -105,7 +105,7 @@ pub(crate) fn decode_write(s: &[u8]) -> Found
     requires { ⌜ IsType forms.write (now s) ⌝ }
     ensures { λ r. ⌜ Finds (now (s .entry)) (decodedAs forms.write (now (s .entry))) r ⌝ }
 {
-    if s.len() < sizes::WRITE {
+    if s.len() < sizes::WRITE_HEADER {
         return Found::Refused(rules::UNSOUND);
     }
     let f = write_fields(s);

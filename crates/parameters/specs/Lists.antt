@@ -6,8 +6,8 @@ use mathlib.Core.List.{List, [], _∷_, _++_, map}
 use lib.Dec.{ltb, eqb}
 use lib.ListN.{length, getD, take, drop}
 use Rattle.rules.specs.Choice.{pick, allAre}
-use Rattle.rules.specs.Messages.Layout.{byteAt, bytesOf}
-use Rattle.rules.specs.Messages.Parameters.{Shape, initiation, question, setting, selector, parameterSize, soundParameter, cleaned, cut}
+use Rattle.rules.specs.Messages.Layout.{wordBytes, byteAt, bytesOf}
+use Rattle.rules.specs.Messages.Parameters.{Shape, initiation, question, setting, firstValueAt, secondValueAt, thirdValueAt, selector, parameterSize, soundParameter, cleaned, cut}
 use Rattle.rules.specs.Messages.Forms as forms
 use Rattle.parameters.specs.declared.Parameter.{Parameter}
 use Rattle.parameters.specs.declared.limits.Limits.{Limits}
@@ -28,12 +28,20 @@ soundFrom kind at s = allAre (soundParameter (shapeOf kind)) (cut (shapeOf kind)
 unfoldable pub parametersFrom : ℕ → ℕ → List ℕ → List (List ℕ)
 parametersFrom kind at s = map (cleaned (shapeOf kind)) (cut (shapeOf kind) zero (drop at s))
 
--- how many limits these are, and the first three; 1, under which only 0 is, for one that is not there
+-- the bytes of the longest parameter: its head, and as many as one byte can count
+abbrev pub longestParameter : ℕ
+longestParameter = 257
+
+-- a limit under which only 0 is: none of a byte's bits are used
+abbrev pub noBits : ℕ
+noBits = 1
+
+-- how many limits these are, and the first three; noBits for one that is not there
 pub record LimitsAre (ls : List ℕ) (l : Limits) : Type 0 where
   pub counted : l .0 ≡ length ls
-  pub one : l .1 ≡ getD ls 0 1
-  pub two : l .2 ≡ getD ls 1 1
-  pub three : l .3 ≡ getD ls 2 1
+  pub one : l .1 ≡ getD ls 0 noBits
+  pub two : l .2 ≡ getD ls 1 noBits
+  pub three : l .3 ≡ getD ls 2 noBits
 
 -- the parameter at a place, unused bits set to 0
 abbrev pub usedAt : ℕ → ℕ → List ℕ → List ℕ
@@ -47,9 +55,9 @@ nextFrom kind at s = pick (ltb at (length s)) (at + parameterSize (shapeOf kind)
 -- the end on it is empty, so that its selector and bytes are 0
 pub record ParameterIs (kind at : ℕ) (s : List ℕ) (p : Parameter) : Type 0 where
   pub selected : p .selector ≡ selector (usedAt kind at s)
-  pub one : p .first ≡ byteAt (usedAt kind at s) 2
-  pub two : p .second ≡ byteAt (usedAt kind at s) 3
-  pub three : p .third ≡ byteAt (usedAt kind at s) 4
+  pub one : p .first ≡ byteAt (usedAt kind at s) firstValueAt
+  pub two : p .second ≡ byteAt (usedAt kind at s) secondValueAt
+  pub three : p .third ≡ byteAt (usedAt kind at s) thirdValueAt
   pub behind : p .next ≡ nextFrom kind at s
   pub further : at < length s → at < p .next
   -- the list from here on is this parameter and the list from the next one on
@@ -57,4 +65,4 @@ pub record ParameterIs (kind at : ℕ) (s : List ℕ) (p : Parameter) : Type 0 w
 
 -- a parameter of a Characteristics: its selector, and so many of these bytes
 unfoldable pub settingBytes : ℕ → ℕ → ℕ → ℕ → ℕ → List ℕ
-settingBytes id first second third count = bytesOf 2 id ++ take count (first ∷ second ∷ third ∷ [])
+settingBytes id first second third count = bytesOf wordBytes id ++ take count (first ∷ second ∷ third ∷ [])

@@ -3,12 +3,13 @@ ghost use mathlib.Core.Path.{_≡_};
 ghost use Prim.Native.Nat.{_%_, _<_, _≤_};
 ghost use lib.ListN.{length, drop};
 ghost use Rattle.rules.specs.Messages.Layout.{byteAt};
-ghost use Rattle.rules.specs.Messages.Parameters.{parameterSize, soundParameter};
-ghost use Rattle.parameters.specs.Lists.{ParameterIs, shapeOf, parameterAt, soundFrom};
+ghost use Rattle.rules.specs.Messages.Parameters.{parameterHead, parameterSize, soundParameter};
+ghost use Rattle.parameters.specs.Lists.{ParameterIs, longestParameter, shapeOf, parameterAt, soundFrom};
 use crate::limits::defined_selector;
 use crate::limits::limits_at;
 use fields::byte_at;
 use fields::word_at;
+use rules::layout;
 
 mod limits;
 mod put;
@@ -27,6 +28,9 @@ const FIRST: usize = HEAD;
 const SECOND: usize = HEAD + 1;
 
 const THIRD: usize = HEAD + 2;
+
+// How many values a byte has.
+const BYTE_VALUES: u16 = layout::BYTE_VALUES as u16;
 
 // The values of INPUT-COUNT-STATE.
 const FIRST_COUNT_STATE: u16 = 1;
@@ -65,7 +69,7 @@ fn defined_at(kind: u8, s: &[u8], at: usize) -> bool
 // How long the parameter that begins at a place should be.
 fn size_at(kind: u8, s: &[u8], at: usize) -> usize
     requires { ⌜ at < length (now s) ⌝ }
-    ensures { λ r. ⌜ (r ≡ parameterSize (shapeOf kind) (drop at (now (s .entry)))) × (2 ≤ r) × (r ≤ 257) ⌝ }
+    ensures { λ r. ⌜ (r ≡ parameterSize (shapeOf kind) (drop at (now (s .entry)))) × (parameterHead ≤ r) × (r ≤ longestParameter) ⌝ }
 {
     let l = limits_at(kind, s, at);
     HEAD + l.0 as usize
@@ -126,7 +130,7 @@ pub fn parameter_at(kind: u8, s: &[u8], at: usize) -> Parameter
     let second = used_at(s, at + SECOND, l.2);
     let third = used_at(s, at + THIRD, l.3);
     Parameter {
-        selector: low + 256 * high,
+        selector: low + BYTE_VALUES * high,
         first,
         second,
         third,

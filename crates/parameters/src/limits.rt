@@ -3,14 +3,15 @@ ghost use mathlib.Core.Path.{_≡_};
 ghost use Prim.Native.Nat.{_<_};
 ghost use lib.ListN.{length, getD, drop, replicate};
 ghost use Rattle.rules.specs.Messages.Parameters.{allBits, definedSelector, questionLimits, valueLimits, limitsOf};
-ghost use Rattle.parameters.specs.Lists.{LimitsAre, shapeOf};
+ghost use Rattle.parameters.specs.Lists.{noBits, LimitsAre, shapeOf};
 use crate::selectors;
 use fields::byte_at;
 use fields::word_at;
 use rules::bits;
+use rules::layout;
 
 // Limits of a byte, by how many of its bits are used.
-const ALL_BITS: u16 = 256;
+const ALL_BITS: u16 = layout::BYTE_VALUES as u16;
 
 const SEVEN_BITS: u16 = bits::SEVEN as u16;
 
@@ -32,7 +33,7 @@ pub(crate) fn defined_selector(n: u16) -> bool
 
 // The limit of a byte of Initiate, all of whose bits are used.
 fn whole_byte(count: u8, at: u8) -> u16
-    ensures { λ r. ⌜ r ≡ getD (replicate count allBits) at 1 ⌝ }
+    ensures { λ r. ⌜ r ≡ getD (replicate count allBits) at noBits ⌝ }
 {
     if at < count {
         return ALL_BITS;

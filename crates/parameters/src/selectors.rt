@@ -15,4 +15,4 @@ pub const AUTO_PROMPT: u16 = 0x0209;
 
 pub const ERROR_PROCESSING: u16 = 0x020A;
 
-pub const LAST: u16 = 0x020A;
+pub const LAST: u16 = ERROR_PROCESSING;

@@ -2,7 +2,7 @@
 -- A rule's lemma mirrors the rule's text and opens only it and the small tests and messages in it: a rule that changes costs its own lemma.
 pub mod Maps
 pub mod Lists
-pub mod Rules
+pub mod Turns
 pub mod ReadData
 pub mod Editing
 pub mod Arrival

@@ -14,7 +14,7 @@ use lib.Pow.{pow-pos, pow-add, pow-mono, shr-lt}
 use borrow.Author.Tests.{ltb-true, leb-true, lt-ltb}
 use Rattle.rules.specs.Choice.{allAre}
 use Rattle.rules.specs.Messages.Layout.{fieldsIn, numberOf, fits, Group, sizeOf, widthsOf, numberAt, bytesOf, readGroups, writeGroups}
-use Rattle.rules.specs.Messages.Unused.{bitsOf, clearGroups}
+use Rattle.rules.specs.Messages.Unused.{bitsOf, zeroGroups}
 use Rattle.rules.proofs.Tests.{both, halves, all-cons}
 
 -- A field under its width, and what stands above it.
@@ -167,10 +167,10 @@ module _
   unfolding readGroups writeGroups
   first-back later = rw (first-number, first-fields, next-place, next-bytes, later) (take-append-drop count vs)
 
-  first-clear : clearGroups gs (length (p ++ first)) (p ++ first ++ (others ++ rest)) ≡ true →
-      clearGroups (g ∷ gs) (length p) (p ++ (writeGroups (g ∷ gs) vs ++ rest)) ≡ true
-  unfolding clearGroups writeGroups
-  first-clear later = rw (first-number, next-place, next-bytes) (both (lt-ltb _ _ first-under) later)
+  first-zero : zeroGroups gs (length (p ++ first)) (p ++ first ++ (others ++ rest)) ≡ true →
+      zeroGroups (g ∷ gs) (length p) (p ++ (writeGroups (g ∷ gs) vs ++ rest)) ≡ true
+  unfolding zeroGroups writeGroups
+  first-zero later = rw (first-number, next-place, next-bytes) (both (lt-ltb _ _ first-under) later)
 
 pub groups-back : (gs : List Group) (vs p rest : List ℕ) → roomy gs ≡ true → fits (widthsOf gs) vs ≡ true →
     readGroups gs (length p) (p ++ (writeGroups gs vs ++ rest)) ≡ vs
@@ -183,11 +183,11 @@ groups-back (g ∷ gs) vs p rest r e =
     first-back g gs vs p rest (h .0) e (groups-back gs (drop (length (g .widths)) vs) (p ++ groupBytes g vs) rest (h .1) later)
 
 -- and nothing stands above the fields
-pub groups-clear : (gs : List Group) (vs p rest : List ℕ) → roomy gs ≡ true → fits (widthsOf gs) vs ≡ true →
-    clearGroups gs (length p) (p ++ (writeGroups gs vs ++ rest)) ≡ true
-unfolding roomy widthsOf clearGroups
-groups-clear [] vs p rest r e = refl
-groups-clear (g ∷ gs) vs p rest r e =
+pub groups-zero : (gs : List Group) (vs p rest : List ℕ) → roomy gs ≡ true → fits (widthsOf gs) vs ≡ true →
+    zeroGroups gs (length p) (p ++ (writeGroups gs vs ++ rest)) ≡ true
+unfolding roomy widthsOf zeroGroups
+groups-zero [] vs p rest r e = refl
+groups-zero (g ∷ gs) vs p rest r e =
     let h = all-cons _ g gs r in
     let later = fits-split (g .widths) (widthsOf gs) vs e .1 in
-    first-clear g gs vs p rest (h .0) e (groups-clear gs (drop (length (g .widths)) vs) (p ++ groupBytes g vs) rest (h .1) later)
+    first-zero g gs vs p rest (h .0) e (groups-zero gs (drop (length (g .widths)) vs) (p ++ groupBytes g vs) rest (h .1) later)

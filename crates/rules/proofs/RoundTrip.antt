@@ -14,9 +14,9 @@ use Rattle.rules.specs.Messages.Forms.{Message, Form, formOf}
 use Rattle.rules.specs.Messages.Codec.{sound, definedFields, soundLength, soundAs, fieldsAs, behindHead, read}
 use Rattle.rules.specs.Messages.Codec.{wholeTail, allBytes, tailBytes, bytesAs, fitsTail, fitsAs}
 use Rattle.rules.specs.Messages.Codec.{Held, message, other, kindOf, heldBytes, fitsHeld, written}
-use Rattle.rules.specs.Messages.Unused.{clearAs, unusedZero}
+use Rattle.rules.specs.Messages.Unused.{zeroAs, unusedZero}
 use Rattle.rules.proofs.Tests.{both, thirds, within-bounds, within-true, all-split}
-use Rattle.rules.proofs.Fields.{roomy, length-writeGroups, readGroups-fit, groups-back, groups-clear}
+use Rattle.rules.proofs.Fields.{roomy, length-writeGroups, readGroups-fit, groups-back, groups-zero}
 use Rattle.rules.proofs.FormTable.{form-roomy, form-cleanable, shapesIn, EachCleanable}
 use Rattle.rules.proofs.Outcomes.{readable, read-sound, Writable, writable, written-sound}
 use Rattle.rules.proofs.Tails.{Reads, tail-reads, Writes, tail-writes}
@@ -61,9 +61,9 @@ module _ (f : Form) (m : Message ℕ) (room : roomy (f .head) ≡ true) (e : fit
       (both (le-leb (1 + sizeOf (f .head)) (length (bytesAs f m)) (omega arith)) (tail-back .whole))
       (ap definedFields message-back ∙ parts .2)
 
-  clear-back : clearAs f (bytesAs f m) ≡ true
-  unfolding clearAs bytesAs
-  clear-back = both (groups-clear (f .head) (m .numbers) (m .kind ∷ []) (tailBytes (f .tail) m) room (parts .0)) (tail-back .clear)
+  zero-back : zeroAs f (bytesAs f m) ≡ true
+  unfolding zeroAs bytesAs
+  zero-back = both (groups-zero (f .head) (m .numbers) (m .kind ∷ []) (tailBytes (f .tail) m) room (parts .0)) (tail-back .unused)
 
 -- Read and written again, by any form whose shapes can be cleaned.
 module _
@@ -144,5 +144,5 @@ pub unused-zero : (area : ℕ) (h : Held) (b : List ℕ) → written area h ≡ 
 unfolding heldBytes kindOf fitsHeld bytesAs unusedZero
 unused-zero area (message m) b e =
     let w = writable area (message m) b e in
-    subst (λ bytes. unusedZero bytes ≡ true) (w .bytes) (clear-back (formOf (m .kind)) m (form-roomy (m .kind)) (w .fits))
+    subst (λ bytes. unusedZero bytes ≡ true) (w .bytes) (zero-back (formOf (m .kind)) m (form-roomy (m .kind)) (w .fits))
 unused-zero area (other kind body) b e = absurd (false≢true (writable area (other kind body) b e .fits))

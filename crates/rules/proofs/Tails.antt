@@ -12,7 +12,7 @@ use Rattle.rules.specs.Choice.{isEmpty, allAre}
 use Rattle.rules.specs.Messages.Parameters.{soundParameter, fitsParameter}
 use Rattle.rules.specs.Messages.Forms.{Message, Tail, nothing, text, setAndText, list}
 use Rattle.rules.specs.Messages.Codec.{wholeTail, setIn, parametersIn, textIn, allBytes, tailBytes, fitsTail, setSize}
-use Rattle.rules.specs.Messages.Unused.{clearTail}
+use Rattle.rules.specs.Messages.Unused.{zeroTail}
 use Rattle.rules.proofs.Tests.{both, halves, thirds, quarters, isEmpty-nil, all-split}
 use Rattle.rules.proofs.ParameterLists.{cut-joined, map-cleaned, cut-cleaned-fits, cut-cleaned-sound, cut-cleaned-length}
 use Rattle.rules.proofs.FormTable.{shapesIn, EachCleanable}
@@ -23,10 +23,10 @@ pub record Reads (t : Tail) (m : Message ℕ) (rest : List ℕ) : Type 0 where
   pub set : setIn t rest ≡ m .set
   pub parameters : parametersIn t rest ≡ m .parameters
   pub text : textIn t rest ≡ m .text
-  pub clear : clearTail t rest ≡ true
+  pub unused : zeroTail t rest ≡ true
 
 pub tail-reads : (t : Tail) (m : Message ℕ) → fitsTail t m ≡ true → Reads t m (tailBytes t m)
-unfolding tailBytes fitsTail wholeTail setIn parametersIn textIn clearTail isEmpty
+unfolding tailBytes fitsTail wholeTail setIn parametersIn textIn zeroTail isEmpty
 tail-reads nothing m e =
     let h = thirds (isEmpty (m .set)) (isEmpty (m .parameters)) (isEmpty (m .text)) e in
     record {
@@ -34,7 +34,7 @@ tail-reads nothing m e =
       set = sym (isEmpty-nil (m .set) (h .0));
       parameters = sym (isEmpty-nil (m .parameters) (h .1));
       text = sym (isEmpty-nil (m .text) (h .2));
-      clear = refl;
+      unused = refl;
     }
 tail-reads text m e =
     let h = thirds (isEmpty (m .set)) (isEmpty (m .parameters)) (allBytes (m .text)) e in
@@ -43,7 +43,7 @@ tail-reads text m e =
       set = sym (isEmpty-nil (m .set) (h .0));
       parameters = sym (isEmpty-nil (m .parameters) (h .1));
       text = refl;
-      clear = refl;
+      unused = refl;
     }
 tail-reads setAndText m e =
     let h = quarters (leb (length (m .set)) setSize) (allBytes (m .set)) (isEmpty (m .parameters)) (allBytes (m .text)) e in
@@ -53,7 +53,7 @@ tail-reads setAndText m e =
       set = take-append-seam (m .set) (m .text);
       parameters = sym (isEmpty-nil (m .parameters) (h .2));
       text = drop-append-seam (m .set) (m .text);
-      clear = refl;
+      unused = refl;
     }
 tail-reads (list shape) m e =
     let ps = m .parameters in
@@ -64,7 +64,7 @@ tail-reads (list shape) m e =
       set = sym (isEmpty-nil (m .set) (h .0));
       parameters = rw back (map-cleaned shape ps (h .1));
       text = sym (isEmpty-nil (m .text) (h .3));
-      clear = rw back (h .1);
+      unused = rw back (h .1);
     }
 
 -- What writing finds in the tail of a message, if it was read from these bytes.

@@ -1,14 +1,17 @@
 -- Two runs that differ in hidden keys: what is proved of demand 3.
 pub mod Printing
 pub mod Twins
-pub mod Rules
+pub mod Turns
 pub mod Fates
-pub mod Reads
+pub mod ReadData
+pub mod Editing
 pub mod Bands
-pub mod Arrivals
+pub mod Arrival
 pub mod Words
 pub mod Steps
-pub mod Answers
+pub mod StartRead
+pub mod Host
+pub mod Calls
 pub mod Pairing
 pub mod Sides
 pub mod Carried

@@ -5,7 +5,7 @@ use mathlib.Core.List.{[], _∷_, _++_, map}
 use mathlib.Core.Option.{Option, none, some}
 use lib.Dec.{ltb, eqb}
 use lib.ListN.{length, getD}
-use Rattle.rules.specs.Choice.{pick, bit}
+use Rattle.rules.specs.Choice.{pick, off, bit}
 use Rattle.rules.specs.Numbers.{typeAheadSize, topDropped}
 use Rattle.rules.specs.Messages.Forms as forms
 use Rattle.rules.specs.Messages.Forms.{plain}
@@ -110,10 +110,10 @@ module _ {C : Type 0} (chars : Characters C) where
   unfoldable pub clearsBy : C → Rule C
   clearsBy c = tells (control clear c ∷ []) then clearRule rubbingOut
 
-  -- rule 2, hello; discard control is 0
+  -- rule 2, hello; discard control is off
   unfoldable pub sendsOutOfBand : C → Rule C
   sendsOutOfBand c =
-      tells (control outOfBand c ∷ []) then sends (plain forms.outOfBand (0 ∷ chars .code c ∷ []))
+      tells (control outOfBand c ∷ []) then sends (plain forms.outOfBand (off ∷ chars .code c ∷ []))
 
   -- rule 2, immediate clear: a pending read completes, returning no data
   unfoldable pub endsOutOfBand : Option (Reading C) → Rule C

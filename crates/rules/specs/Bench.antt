@@ -5,12 +5,12 @@ use mathlib.Core.List.{List, [], _∷_, _++_}
 use lib.Dec.{eqb}
 use lib.ListN.{take, replicate}
 use Rattle.rules.specs.Choice.{pick, joined, same}
-use Rattle.rules.specs.Numbers.{terminalArea, messageArea, typeAheadSize, accepted, unsound}
+use Rattle.rules.specs.Numbers.{terminalArea, messageArea, typeAheadSize, accepted, wrongTime, unsound}
 use Rattle.rules.specs.Messages.Forms.{Message, startRead}
 use Rattle.rules.specs.Messages.Codec as codec
 use Rattle.rules.specs.Messages.Codec.{Outcome, refused, sound, read, written}
 use Rattle.rules.specs.State.{State, fresh, codes}
-use Rattle.rules.specs.Calls.{Event, key, step, message, Call, Answer, answer, messageBytes}
+use Rattle.rules.specs.Calls.{Event, key, step, tick, message, Call, Answer, answer, messageBytes}
 
 -- a call and what it is to answer: number, terminal bytes, the message area's bytes, and the dropped count after it
 pub record Exchange : Type 0 where
@@ -123,7 +123,7 @@ recognising = told (0x0B ∷ 0x00 ∷ 0x06 ∷ 0x02 ∷ 0x01 ∷ []) accepted []
 -- the numbers of a Start Read by name, and in the order of its head
 pub record StartReadNumbers : Type 0 where
   pub underflow : ℕ
-  pub clears : ℕ
+  pub clearsTypeAhead : ℕ
   pub formats : ℕ
   pub vertical : ℕ
   pub continues : ℕ
@@ -143,7 +143,7 @@ pub record StartReadNumbers : Type 0 where
 
 abbrev pub inOrder : StartReadNumbers → List ℕ
 inOrder h =
-    h .underflow ∷ h .clears ∷ h .formats ∷ h .vertical ∷ h .continues ∷ h .raises ∷ h .disables ∷ h .silent ∷ h .terminatorEcho ∷ h .timed ∷
+    h .underflow ∷ h .clearsTypeAhead ∷ h .formats ∷ h .vertical ∷ h .continues ∷ h .raises ∷ h .disables ∷ h .silent ∷ h .terminatorEcho ∷ h .timed ∷
     h .setChoice ∷ h .escapes ∷ h .maxLength ∷ h .endOfData ∷ h .timeout ∷ h .endOfPrompt ∷ h .startOfDisplay ∷ h .lowWater ∷ []
 
 -- The starred cases in order; D and H have two rows each.
@@ -157,7 +157,7 @@ starred =
           inOrder
           (record {
             underflow = 1;
-            clears = 0;
+            clearsTypeAhead = 0;
             formats = 0;
             vertical = 0;
             continues = 0;
@@ -223,7 +223,7 @@ starred =
     (replicate typeAheadSize (stored 0x30) ++
     asked terminalArea messageArea (key 0x30) accepted (0x07 ∷ []) [] 1 ∷ [])) ∷ []
 
--- Rows of our own, for the mistakes that page 01 warns of and the starred cases do not show.
+-- Rows of our own, for mistakes that the starred cases do not show: those that page 01 warns of, and some that edits of the definitions make.
 unfoldable pub warned : List Case
 warned =
     -- waiting for one more key after the buffer is full
@@ -244,6 +244,29 @@ warned =
     (typed 9 (replicate 6 0x20) [] ++ typed 127 (joined (replicate 6 (0x08 ∷ 0x20 ∷ 0x08 ∷ []))) [])) ∷
     -- echoing with a changed characteristic in mid read
     runs (initiated ∷ startedA ∷ told (0x0B ∷ 0x00 ∷ 0x05 ∷ 0x02 ∷ 0x00 ∷ []) accepted [] [] ∷ typed 0x31 (0x31 ∷ []) []) ∷
+    -- a refused message leaves the read and what was typed as they were
+    runs
+    (initiated ∷ startedA ∷ told startA wrongTime [] [] ∷
+    (typed 0x31 (0x31 ∷ []) [] ++
+    typed 0x0D (0x0D ∷ 0x0A ∷ []) (0x0A ∷ 0x00 ∷ 0x03 ∷ 0x00 ∷ 0x02 ∷ 0x00 ∷ 0x01 ∷ 0x00 ∷ 0x01 ∷ 0x00 ∷ 0x31 ∷ 0x0D ∷ []))) ∷
+    -- no second counts while a key waits; the read ends with the TIMEOUT-th that does
+    runs
+    (initiated ∷ told (0x02 ∷ 0x00 ∷ 0xB0 ∷ 0x00 ∷ 0x50 ∷ 0x00 ∷ 0x00 ∷ 0x00 ∷ 0x01 ∷ 0x00 ∷ 0x00 ∷ 0x00 ∷ 0x00 ∷ 0x00 ∷ 0x00 ∷ 0x00 ∷ 0x00 ∷ []) accepted [] [] ∷
+    stored 0x31 ∷ says tick accepted [] [] ∷ stepped (0x31 ∷ []) [] ∷
+    says tick accepted [] (0x09 ∷ 0x00 ∷ 0x03 ∷ 0x05 ∷ 0x00 ∷ 0x00 ∷ 0x00 ∷ 0x01 ∷ 0x01 ∷ 0x00 ∷ 0x31 ∷ []) ∷ []) ∷
+    -- redisplay: a new line, the prompt and what was typed
+    runs (initiated ∷ startedA ∷ (typed 0x31 (0x31 ∷ []) [] ++ typed 0x12 (0x0D ∷ 0x0A ∷ 0x3F ∷ 0x20 ∷ 0x31 ∷ []) [])) ∷
+    -- 127 as data, and rubbed out again: two marks
+    runs (initiated ∷ startedA ∷ stored 22 ∷ (typed 127 (0x5E ∷ 0x3F ∷ []) [] ++ typed 127 (joined (replicate 2 (0x08 ∷ 0x20 ∷ 0x08 ∷ []))) [])) ∷
+    -- an attribute changes where the mask has 1, a switch alone
+    runs
+    (initiated ∷ told (0x0B ∷ 0x00 ∷ 0x02 ∷ 0x02 ∷ 0x41 ∷ 0x0C ∷ 0x0F ∷ 0x05 ∷ 0x02 ∷ 0x00 ∷ []) accepted [] [] ∷
+    told (0x0A ∷ 0x00 ∷ 0x02 ∷ 0x02 ∷ 0x41 ∷ 0x04 ∷ 0x02 ∷ 0x05 ∷ 0x02 ∷ 0x06 ∷ 0x02 ∷ 0x09 ∷ 0x02 ∷ []) accepted []
+    (0x13 ∷ 0x00 ∷ 0x0B ∷ 0x00 ∷ 0x02 ∷ 0x02 ∷ 0x41 ∷ 0x7F ∷ 0x0C ∷ 0x04 ∷ 0x02 ∷ 0x00 ∷ 0x05 ∷ 0x02 ∷ 0x00 ∷ 0x06 ∷ 0x02 ∷ 0x00 ∷ 0x09 ∷ 0x02 ∷ 0x00 ∷ []) ∷ []) ∷
+    -- Check Input counts the keys that wait and the bytes of a token
+    runs (initiated ∷ recognising ∷ startedA ∷ (typed 27 [] [] ++ (stored 0x31 ∷ stored 0x32 ∷ told (0x0C ∷ 0x00 ∷ []) accepted [] (0x04 ∷ 0x00 ∷ 0x0D ∷ 0x00 ∷ 0x03 ∷ 0x00 ∷ []) ∷ []))) ∷
+    -- a termination set of 33 bytes
+    runs (initiated ∷ told (0x02 ∷ 0x00 ∷ 0x50 ∷ 0x00 ∷ 0x50 ∷ 0x00 ∷ 0x00 ∷ 0x00 ∷ 0x00 ∷ 0x00 ∷ 0x00 ∷ 0x00 ∷ 0x00 ∷ 0x00 ∷ 0x00 ∷ 0x00 ∷ 0x21 ∷ replicate 33 0) unsound [] [] ∷ []) ∷
     -- fields that the line ignores are kept, and unused bits are written 0
     copies (0x02 ∷ 0x01 ∷ 0x90 ∷ 0xFC ∷ 0x50 ∷ 0x00 ∷ 0x02 ∷ 0x00 ∷ 0x07 ∷ 0x00 ∷ 0x02 ∷ 0x00 ∷ 0x00 ∷ 0x00 ∷ 0x02 ∷ 0x00 ∷ 0x02 ∷ 0xFF ∷ 0x00 ∷ 0x3F ∷ 0x20 ∷ []) accepted
     (0x02 ∷ 0x01 ∷ 0x90 ∷ 0x00 ∷ 0x50 ∷ 0x00 ∷ 0x02 ∷ 0x00 ∷ 0x07 ∷ 0x00 ∷ 0x02 ∷ 0x00 ∷ 0x00 ∷ 0x00 ∷ 0x02 ∷ 0x00 ∷ 0x02 ∷ 0xFF ∷ 0x00 ∷ 0x3F ∷ 0x20 ∷ []) ∷

@@ -8,9 +8,12 @@ use lib.Dec.{ltb}
 use lib.ListN.{length}
 use Rattle.rules.specs.Choice.{allAre}
 use Rattle.rules.specs.Numbers.{codeCount, inputSize, typeAheadSize, tokenSize, terminalArea, messageArea, topColumn, topDropped}
+use Rattle.rules.specs.Messages.Layout.{byteValues, wordValues}
 use Rattle.rules.specs.Messages.Forms.{Message}
 use Rattle.rules.specs.Messages.Parameters.{sevenBits}
 use Rattle.rules.specs.Messages.Codec.{setSize, sound, allBytes, read}
+use Rattle.rules.specs.StartRead.{lastUnderflow, lastDisable}
+use Rattle.rules.specs.Screen.{positions}
 use Rattle.rules.specs.State.{Host, Terminal, Typed, Terms, Reading, State, codes}
 use Rattle.rules.specs.Editing.{endOf}
 use Rattle.rules.specs.Calls.{Event, key, step, tick, message, Answer, sentBytes, messageBytes}
@@ -27,7 +30,7 @@ pub record BoundedHost (h : Host) : Type 0 where
 
 pub record BoundedTerminal (t : Terminal) : Type 0 where
   pub column : t .screen .column ≤ topColumn
-  pub line : t .screen .line < 256
+  pub line : t .screen .line < positions
   pub dropped : t .dropped ≤ topDropped
 
 pub record BoundedTyped (t : Typed ℕ) : Type 0 where
@@ -41,9 +44,9 @@ pub record BoundedTerms (t : Terms) : Type 0 where
   pub prompt : length (t .prompt) ≤ t .endOfPrompt
   pub setLength : length (t .set) ≤ setSize
   pub setBytes : allBytes (t .set) ≡ true
-  pub underflow : t .underflow ≤ 2
-  pub disables : t .disables ≤ 3
-  pub timeout : t .timeout < 65536
+  pub underflow : t .underflow ≤ lastUnderflow
+  pub disables : t .disables ≤ lastDisable
+  pub timeout : t .timeout < wordValues
 
 -- a pending read has room for one character more, and is not yet due
 pub record BoundedReading (r : Reading ℕ) : Type 0 where
@@ -52,7 +55,7 @@ pub record BoundedReading (r : Reading ℕ) : Type 0 where
   pub lowWater : r .lowWater ≤ endOf r
   pub inputBytes : allBytes (r .input) ≡ true
   pub idle : r .terms .timed ≡ true → 0 < r .terms .timeout → r .idle < r .terms .timeout
-  pub from : r .from ≤ topColumn
+  pub displayColumn : r .displayColumn ≤ topColumn
 
 abbrev pub BoundedRead : Option (Reading ℕ) → Type 0
 BoundedRead none = Unit {0}
@@ -66,7 +69,7 @@ pub record Bounded (s : State ℕ) : Type 0 where
 
 -- a call's key and bytes are bytes
 unfoldable pub isByteEvent : Event ℕ → Bool
-isByteEvent (key c) = ltb c 256
+isByteEvent (key c) = ltb c byteValues
 isByteEvent step = true
 isByteEvent tick = true
 isByteEvent (message bytes) = allBytes bytes

@@ -5,14 +5,14 @@ use mathlib.Core.List.{List, [], _∷_, _++_, map}
 use mathlib.Core.Option.{Option, none, some}
 use lib.Dec.{leb, eqb}
 use lib.ListN.{length, drop}
-use Rattle.rules.specs.Choice.{pick, Row, _when_, firstOf, allAre, joined}
+use Rattle.rules.specs.Choice.{pick, Row, _when_, firstOf, isOff, allAre, joined}
 use Rattle.rules.specs.Numbers.{terminalArea, messageArea, accepted, smallArea, wrongLength, wrongType, wrongTime, unsound, notCarried}
-use Rattle.rules.specs.Messages.Layout.{bytesOf}
+use Rattle.rules.specs.Messages.Layout.{wordBytes, bytesOf}
 use Rattle.rules.specs.Messages.Parameters.{selector}
 use Rattle.rules.specs.Messages.Forms as forms
 use Rattle.rules.specs.Messages.Forms.{Message, typeIn, formOf}
 use Rattle.rules.specs.Messages.Codec.{Outcome, refused, sound, soundLength, definedKind, read, bytesAs}
-use Rattle.rules.specs.Messages.Fields.{lock, newline, prefix, postfix, transparent}
+use Rattle.rules.specs.Messages.Fields.{noLock, noFix, lock, newline, prefix, postfix, transparent}
 use Rattle.rules.specs.StartRead.{startOfDisplay, continues, vertical}
 use Rattle.rules.specs.State.{Characters, Reading, State, fresh}
 use Rattle.rules.specs.Turns.{Turn, Rule, still}
@@ -40,7 +40,7 @@ pub record Answer (C : Type 0) : Type 0 where
 
 -- In the message area each message stands behind its length, in the order sent.
 unfoldable pub framed : List ℕ → List ℕ
-framed bytes = bytesOf 2 (length bytes) ++ bytes
+framed bytes = bytesOf wordBytes (length bytes) ++ bytes
 
 -- an area after a call that wrote these bytes to its front
 unfoldable pub areaAfter : List ℕ → List ℕ → List ℕ
@@ -76,11 +76,11 @@ isRefused (sound x) = false
 
 -- 6, by type
 unfoldable pub carriesStartRead : Message ℕ → Bool
-carriesStartRead m = eqb (startOfDisplay m) 0 && eqb (continues m) 0 && eqb (vertical m) 0
+carriesStartRead m = eqb (startOfDisplay m) 0 && isOff (continues m) && isOff (vertical m)
 
 unfoldable pub carriesWrite : Message ℕ → Bool
 carriesWrite m =
-    eqb (lock m) 0 && eqb (newline m) 0 && eqb (transparent m) 0 && eqb (prefix m) 0 && eqb (postfix m) 0
+    eqb (lock m) noLock && isOff (newline m) && isOff (transparent m) && eqb (prefix m) noFix && eqb (postfix m) noFix
 
 module _ {C : Type 0} where
   unfoldable pub isPending : Option (Reading C) → Bool

@@ -6,7 +6,8 @@ use lib.Dec.{eqb}
 use lib.ListN.{getD, set}
 use Rattle.rules.specs.Choice.{pick, isOn, bit, anyIs, allAre}
 use Rattle.rules.specs.Messages.Layout.{byteAt}
-use Rattle.rules.specs.Messages.Parameters.{selector, characterAttributes, raiseInput, normalEcho, escapeRecognition, autoPrompt}
+use Rattle.rules.specs.Messages.Parameters.{firstIn, secondIn, firstValueAt, secondValueAt, thirdValueAt, selector}
+use Rattle.rules.specs.Messages.Parameters.{characterAttributes, raiseInput, normalEcho, escapeRecognition, autoPrompt}
 use Rattle.rules.specs.Messages.Forms.{Message, characteristics}
 use Rattle.rules.specs.State.{Host, Switches, withSwitches, withAttributes}
 
@@ -23,16 +24,16 @@ masked (suc width) mask old new =
 
 -- behind a parameter's selector: a switch's value, or CHARACTER, MASK and ATTRIBUTES
 abbrev pub valueIn : List ℕ → ℕ
-valueIn p = byteAt p 2
+valueIn p = byteAt p firstValueAt
 
 abbrev pub characterIn : List ℕ → ℕ
-characterIn p = byteAt p 2
+characterIn p = byteAt p firstValueAt
 
 abbrev pub maskIn : List ℕ → ℕ
-maskIn p = byteAt p 3
+maskIn p = byteAt p secondValueAt
 
 abbrev pub attributesIn : List ℕ → ℕ
-attributesIn p = byteAt p 4
+attributesIn p = byteAt p thirdValueAt
 
 -- the used bits of an attribute, and the mask that has them all
 abbrev pub attributeBits : ℕ
@@ -65,9 +66,12 @@ unfoldable pub withParameters : List (List ℕ) → Host → Host
 withParameters [] h = h
 withParameters (p ∷ ps) h = withParameters ps (withParameter p h)
 
--- the out-of-band field of an attribute, and its values; 0 is none
+-- the out-of-band field of an attribute, how many values it has, and what they say; 0 is none
+abbrev pub outOfBandValues : ℕ
+outOfBandValues = 4
+
 abbrev pub outOfBandField : ℕ → ℕ
-outOfBandField attribute = attribute % 4
+outOfBandField attribute = attribute % outOfBandValues
 
 abbrev pub immediateClear : ℕ
 immediateClear = 1
@@ -93,8 +97,8 @@ switchOf n s =
 unfoldable pub reported : Host → List ℕ → List ℕ
 reported h p =
     pick (eqb (selector p) characterAttributes)
-    (byteAt p 0 ∷ byteAt p 1 ∷ characterIn p ∷ wholeMask ∷ getD (h .attributes) (characterIn p) 0 ∷ [])
-    (byteAt p 0 ∷ byteAt p 1 ∷ bit (switchOf (selector p) (h .switches)) ∷ [])
+    (firstIn p ∷ secondIn p ∷ characterIn p ∷ wholeMask ∷ getD (h .attributes) (characterIn p) 0 ∷ [])
+    (firstIn p ∷ secondIn p ∷ bit (switchOf (selector p) (h .switches)) ∷ [])
 
 unfoldable pub report : {C : Type 0} → Host → Message ℕ → Message C
 report h m =

@@ -27,13 +27,22 @@ firstOf answer otherwise (r ∷ rows) = pick (r .applies) (answer (r .number)) (
 unfoldable pub within : ℕ → ℕ → ℕ → Bool
 within low high n = leb low n && leb n high
 
--- a flag of one bit is set
+-- a flag of one bit, and whether it is set
+abbrev pub off : ℕ
+off = 0
+
+abbrev pub on : ℕ
+on = 1
+
 abbrev pub isOn : ℕ → Bool
-isOn flag = eqb flag 1
+isOn flag = eqb flag on
+
+abbrev pub isOff : ℕ → Bool
+isOff flag = eqb flag off
 
 -- a flag as a number
 unfoldable pub bit : Bool → ℕ
-bit test = pick test 1 0
+bit test = pick test on off
 
 module _ {A : Type 0} where
   unfoldable pub isEmpty : List A → Bool

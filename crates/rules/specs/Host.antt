@@ -6,9 +6,9 @@ use lib.Dec.{eqb}
 use lib.ListN.{replicate}
 use Rattle.rules.specs.Choice.{pick, isOn, bit, isEmpty}
 use Rattle.rules.specs.Numbers.{messageSize, inputSize}
-use Rattle.rules.specs.Messages.Layout.{bytesOf}
+use Rattle.rules.specs.Messages.Layout.{wordBytes, bytesOf}
 use Rattle.rules.specs.Messages.Forms as forms
-use Rattle.rules.specs.Messages.Forms.{Message, plain}
+use Rattle.rules.specs.Messages.Forms.{Message, plain, revisionSize}
 use Rattle.rules.specs.Messages.Fields.{keepsOutput, wantsCompletion}
 use Rattle.rules.specs.Screen.{SP, change}
 use Rattle.rules.specs.State.{Characters, State, withHost, withTerminal, withInitiated, withDiscarding}
@@ -18,14 +18,41 @@ use Rattle.rules.specs.Arrival.{rubbingOut, clearRule}
 use Rattle.rules.specs.StartRead.Acceptance.{startsRead}
 use Rattle.rules.specs.Characteristics.{withParameters, report}
 
--- our Initiate: version 1.0.0, spaces, and parameters 1 (message size), 2 (input size) and 3 (messages 1 to 14)
+-- VERSION, ECO and MOD of ours
+abbrev pub version : ℕ
+version = 1
+
+abbrev pub eco : ℕ
+eco = 0
+
+abbrev pub modification : ℕ
+modification = 0
+
+-- PARMTYPE: the largest message, the input buffer, and the messages that are understood, a bit for each
+abbrev pub messageParameter : ℕ
+messageParameter = 1
+
+abbrev pub inputParameter : ℕ
+inputParameter = 2
+
+abbrev pub supportedParameter : ℕ
+supportedParameter = 3
+
+abbrev pub messages1To14 : List ℕ
+messages1To14 = 0xFE ∷ 0x7F ∷ []
+
+-- our Initiate: version 1.0.0, spaces, and parameters 1 (message size), 2 (input size) and 3 (messages 1 to 14), each with its count
 unfoldable pub ourInitiate : {D : Type 0} → Message D
 ourInitiate =
     record {
       kind = forms.initiate;
-      numbers = 1 ∷ 0 ∷ 0 ∷ replicate 8 SP;
+      numbers = version ∷ eco ∷ modification ∷ replicate revisionSize SP;
       set = [];
-      parameters = (1 ∷ 2 ∷ bytesOf 2 messageSize) ∷ (2 ∷ 2 ∷ bytesOf 2 inputSize) ∷ (3 ∷ 2 ∷ 0xFE ∷ 0x7F ∷ []) ∷ [];
+      parameters =
+          (messageParameter ∷ wordBytes ∷ bytesOf wordBytes messageSize) ∷
+          (inputParameter ∷ wordBytes ∷ bytesOf wordBytes inputSize) ∷
+          (supportedParameter ∷ wordBytes ∷ messages1To14) ∷
+          [];
       text = [];
     }
 

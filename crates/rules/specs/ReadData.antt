@@ -41,10 +41,6 @@ byUnderflow = 7
 abbrev pub byAbsentee : ℕ
 byAbsentee = 8
 
--- bytes of its type and head, in front of DATA
-abbrev pub readDataHeader : ℕ
-readDataHeader = 8
-
 -- how many characters at the end of a read are a terminator, token or underflow code
 abbrev pub noEnding : ℕ
 noEnding = 0

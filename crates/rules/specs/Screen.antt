@@ -41,9 +41,33 @@ DEL = 127
 abbrev pub tabWidth : ℕ
 tabWidth = 8
 
+-- marks are the codes of two ranges, of which the first begins with the space
+abbrev pub lastMark : ℕ
+lastMark = 126
+
+abbrev pub firstHighMark : ℕ
+firstHighMark = 160
+
+abbrev pub lastHighMark : ℕ
+lastHighMark = 254
+
+-- the last of the controls below the marks, and what lies between a control and the character behind its caret
+abbrev pub lastControl : ℕ
+lastControl = 31
+
+abbrev pub controlShift : ℕ
+controlShift = 64
+
+-- lines and changes of position count modulo these
+abbrev pub positions : ℕ
+positions = 256
+
+abbrev pub minusOne : ℕ
+minusOne = 255
+
 -- a mark or a space: what takes a column
 unfoldable pub isMark : ℕ → Bool
-isMark n = within 32 126 n || within 160 254 n
+isMark n = within SP lastMark n || within firstHighMark lastHighMark n
 
 -- from a column to the next multiple of 8
 abbrev pub toTab : ℕ → ℕ
@@ -71,22 +95,22 @@ pub record Screen : Type 0 where
 -- the screen after a byte, and after some
 unfoldable pub shown : Screen → ℕ → Screen
 shown s b =
-    record { column = columnAfter (s .column) b; line = pick (eqb b LF) ((s .line + 1) % 256) (s .line); afterCR = eqb b CR }
+    record { column = columnAfter (s .column) b; line = pick (eqb b LF) ((s .line + 1) % positions) (s .line); afterCR = eqb b CR }
 
 unfoldable pub shownAll : Screen → List ℕ → Screen
 shownAll s [] = s
 shownAll s (b ∷ bs) = shownAll (shown s b) bs
 
--- a change of position, modulo 256: 255 times a number is minus that number
+-- a change of position: modulo 256, 255 times a number is minus that number
 unfoldable pub change : ℕ → ℕ → ℕ
-change now before = (now + 255 * before) % 256
+change now before = (now + minusOne * before) % positions
 
 -- what a character echoes at a column: nothing but marks and spaces
 unfoldable pub echo : ℕ → ℕ → List ℕ
 echo column n =
     pick (isMark n) (n ∷ [])
     (pick (eqb n HT) (replicate (toTab column) SP)
-    (pick (leb n 31) (CARET ∷ (n + 64) ∷ [])
+    (pick (leb n lastControl) (CARET ∷ (n + controlShift) ∷ [])
     (pick (eqb n DEL) (CARET ∷ QUESTION ∷ [])
     [])))
 

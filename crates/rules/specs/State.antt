@@ -16,9 +16,16 @@ pub record Characters (C : Type 0) : Type 0 where
   -- a character of the text that a Start Read brings
   pub given : ℕ → C
 
+-- the small letters, and what lies between one and its capital
+abbrev pub isSmall : ℕ → Bool
+isSmall n = within 97 122 n
+
+abbrev pub smallShift : ℕ
+smallShift = 32
+
 -- raised form: 97 to 122 less 32, others themselves
 unfoldable pub raised : ℕ → ℕ
-raised n = pick (within 97 122 n) (n - 32) n
+raised n = pick (isSmall n) (n - smallShift) n
 
 -- the characters that a program has: their codes
 abbrev pub codes : Characters ℕ
@@ -88,9 +95,9 @@ pub record Reading (C : Type 0) : Type 0 where
   pub input : List C
   pub lowWater : ℕ
   -- the input's first character is the LF that F hides
-  pub hidden : Bool
+  pub hiddenLF : Bool
   -- the column where the data's display last began
-  pub from : ℕ
+  pub displayColumn : ℕ
   pub idle : ℕ
 
 pub record State (C : Type 0) : Type 0 where
@@ -158,12 +165,12 @@ withDropped x t = record { screen = t .screen; discarding = t .discarding; quoti
 module _ {C : Type 0} where
   abbrev pub withInput : List C → Reading C → Reading C
   withInput x r =
-      record { terms = r .terms; input = x; lowWater = r .lowWater; hidden = r .hidden; from = r .from; idle = r .idle }
+      record { terms = r .terms; input = x; lowWater = r .lowWater; hiddenLF = r .hiddenLF; displayColumn = r .displayColumn; idle = r .idle }
 
-  abbrev pub withFrom : ℕ → Reading C → Reading C
-  withFrom x r =
-      record { terms = r .terms; input = r .input; lowWater = r .lowWater; hidden = r .hidden; from = x; idle = r .idle }
+  abbrev pub withDisplayColumn : ℕ → Reading C → Reading C
+  withDisplayColumn x r =
+      record { terms = r .terms; input = r .input; lowWater = r .lowWater; hiddenLF = r .hiddenLF; displayColumn = x; idle = r .idle }
 
   abbrev pub withIdle : ℕ → Reading C → Reading C
   withIdle x r =
-      record { terms = r .terms; input = r .input; lowWater = r .lowWater; hidden = r .hidden; from = r .from; idle = x }
+      record { terms = r .terms; input = r .input; lowWater = r .lowWater; hiddenLF = r .hiddenLF; displayColumn = r .displayColumn; idle = x }

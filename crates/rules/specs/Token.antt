@@ -24,11 +24,15 @@ isIntermediate n = within 32 47 n
 abbrev pub isParameter : ℕ → Bool
 isParameter n = within 48 63 n
 
+-- the last that may be final
+abbrev pub lastFinal : ℕ
+lastFinal = 126
+
 abbrev pub isFinal : ℕ → Bool
-isFinal n = within 64 126 n
+isFinal n = within 64 lastFinal n
 
 abbrev pub isLowFinal : ℕ → Bool
-isLowFinal n = within 48 126 n
+isLowFinal n = within 48 lastFinal n
 
 -- how far the bytes go
 pub data Place : Type 0 where

@@ -8,6 +8,7 @@ use lib.Dec.{eqb}
 use lib.ListN.{length}
 use Rattle.rules.specs.Choice.{pick, within, allAre, joined, same}
 use Rattle.rules.specs.Messages.Forms.{Message, readData}
+use Rattle.rules.specs.Screen.{lastMark}
 use Rattle.rules.specs.StartRead.{inSet}
 use Rattle.rules.specs.Editing.{isWord}
 use Rattle.rules.specs.State.{Characters, Terms, raised, codes}
@@ -66,9 +67,12 @@ eachChanged test (c ∷ cs) (d ∷ ds) =
     pick (eqb (codeOf (c .event)) (codeOf (d .event))) true (test (codeOf (c .event)) (codeOf (d .event))) &&
     eachChanged test cs ds
 
--- a printing mark, 33 to 126
+-- a printing mark: the first is 33, the last 126
+abbrev pub firstPrinting : ℕ
+firstPrinting = 33
+
 unfoldable pub isPrinting : ℕ → Bool
-isPrinting n = within 33 126 n
+isPrinting n = within firstPrinting lastMark n
 
 unfoldable pub bothPrinting : ℕ → ℕ → Bool
 bothPrinting m n = isPrinting m && isPrinting n
@@ -197,9 +201,13 @@ supposed arrival cs ds = allAre (λ b. b) (suppositions arrival cs ds)
 
 -- What everyone sees of an answer.
 
+-- what stands for a hidden byte
+abbrev pub blank : ℕ
+blank = 0
+
 -- Read Data with its DATA blanked: the bytes are hidden, their number is not
 unfoldable pub blanked : Message ℕ → Message ℕ
-blanked m = pick (eqb (m .kind) readData) (mapText (λ c. 0) m) m
+blanked m = pick (eqb (m .kind) readData) (mapText (λ c. blank) m) m
 
 pub record Seen : Type 0 where
   pub number : ℕ

@@ -49,7 +49,7 @@ unfolding Codec.definedKind Codec.definedFields Codec.wholeTail Codec.setIn Code
 openCodec = tt
 
 unfoldable pub openUnused : Unit {0}
-unfolding Unused.bitsOf Unused.clearGroups Unused.clearTail Unused.clearAs Unused.unusedZero
+unfolding Unused.bitsOf Unused.zeroGroups Unused.zeroTail Unused.zeroAs Unused.unusedZero
 openUnused = tt
 
 unfoldable pub openStartRead : Unit {0}
@@ -77,7 +77,7 @@ unfolding ReadData.waitingCount ReadData.checksInput ReadData.moreData ReadData.
 openReadData = tt
 
 unfoldable pub openEditing : Unit {0}
-unfolding Editing.isWord Editing.leading Editing.leftBy23 Editing.endOf Editing.hiddenCount Editing.shortened Editing.deletesUnseen Editing.displayed Editing.rubbing Editing.deletes Editing.displaysData Editing.displays Editing.redisplays
+unfolding Editing.isWord Editing.leading Editing.leftBy23 Editing.endOf Editing.hiddenCount Editing.shortened Editing.deletesUnseen Editing.displayed Editing.rubOutBytes Editing.deletes Editing.displaysData Editing.displays Editing.redisplays
 openEditing = tt
 
 unfoldable pub openArrival : Unit {0}

@@ -13,7 +13,7 @@ use Rattle.rules.specs.Choice.{pick, allAre}
 use Rattle.rules.specs.Numbers.{topColumn}
 use Rattle.rules.specs.Screen.{SP, isMark, toTab, columnAfter, columnAfterAll, echo, echoAll, marksBehind}
 use Rattle.rules.proofs.Tests.{pick-true, pick-false, pick-case, within-true, both, all-cons}
-use Rattle.rules.proofs.Bounds.Screens.{echoAll-length}
+use Rattle.rules.proofs.Bounds.Screen.{echoAll-length}
 use Rattle.screen.specs.View.{counted}
 use Rattle.screen.proofs.Cases.{column-mark}
 use Rattle.screen.proofs.Echoes.{columnAfterAll-append, echoAll-append, echoAll-more}

@@ -7,7 +7,7 @@ use borrow.Author.Tests.{lt-ltb, le-ltb}
 use Rattle.rules.specs.Screen.{shown, shownAll, columnAfterAll}
 use Rattle.rules.proofs.Tests.{pick-true, pick-false}
 use Rattle.rules.specs.Area.{put, puts, spot}
-use Rattle.screen.specs.View.{Writes, view}
+use Rattle.screen.specs.View.{Writes, screenView}
 use Rattle.screen.specs.declared.Screen.{Screen}
 use Rattle.screen.specs.declared.Shown.{Shown}
 use Rattle.rules.proofs.Areas.{puts-append}
@@ -23,13 +23,13 @@ module _ {before : List ℕ} {at : ℕ} {s : Screen} where
   equals e w = rw e at w
 
   -- a byte where there is room, and where there is none
-  pub stored : {next : Screen} {b : ℕ} → at < length before → view next ≡ shown (view s) b →
+  pub stored : {next : Screen} {b : ℕ} → at < length before → screenView next ≡ shown (screenView s) b →
       Writes (b ∷ []) before at s (record { screen = next; at = at + 1 }) (set before at b)
   unfolding puts put shownAll
   stored {b = b} h e =
       record { area = sym (pick-true _ _ (lt-ltb at (length before) h)); screen = e; same = length-set before at b }
 
-  pub lost : {next : Screen} {b : ℕ} → length before ≤ at → view next ≡ shown (view s) b →
+  pub lost : {next : Screen} {b : ℕ} → length before ≤ at → screenView next ≡ shown (screenView s) b →
       Writes (b ∷ []) before at s (record { screen = next; at = at }) before
   unfolding puts put shownAll
   lost h e = record { area = sym (pick-false _ _ (le-ltb at (length before) h)); screen = e; same = refl }
@@ -40,7 +40,7 @@ module _ {before : List ℕ} {at : ℕ} {s : Screen} where
   joins {xs} {ys} w v =
       record {
         area = v .area ∙ ap (puts ys) (w .area) ∙ sym (puts-append xs ys (spot before at));
-        screen = v .screen ∙ ap (λ k. shownAll k ys) (w .screen) ∙ sym (shownAll-append xs ys (view s));
+        screen = v .screen ∙ ap (λ k. shownAll k ys) (w .screen) ∙ sym (shownAll-append xs ys (screenView s));
         same = v .same ∙ w .same;
       }
 
@@ -52,4 +52,4 @@ module _ {before : List ℕ} {at : ℕ} {s : Screen} where
   -- the column is that behind the bytes
   pub column-behind : {bs after : List ℕ} {r : Shown} → Writes bs before at s r after →
       r .screen .column ≡ columnAfterAll (s .column) bs
-  column-behind {bs} w = ap (λ v. v .column) (w .screen) ∙ shownAll-column bs (view s)
+  column-behind {bs} w = ap (λ v. v .column) (w .screen) ∙ shownAll-column bs (screenView s)

@@ -9,13 +9,13 @@ use Rattle.screen.specs.declared.Screen.{Screen}
 use Rattle.screen.specs.declared.Shown.{Shown}
 use Rattle.rules.specs.Area.{puts, spot}
 
-abbrev pub view : Screen → rules.Screen
-view s = record { column = s .column; line = s .line; afterCR = s .«after_cr» }
+abbrev pub screenView : Screen → rules.Screen
+screenView s = record { column = s .column; line = s .line; afterCR = s .«after_cr» }
 
 -- these bytes were written at a place, and the screen shows them
 pub record Writes (bytes : List ℕ) (before : List ℕ) (at : ℕ) (s : Screen) (r : Shown) (after : List ℕ) : Type 0 where
   pub area : spot after (r .at) ≡ puts bytes (spot before at)
-  pub screen : view (r .screen) ≡ shownAll (view s) bytes
+  pub screen : screenView (r .screen) ≡ shownAll (screenView s) bytes
   pub same : length after ≡ length before
 
 -- a count, as far as a usize goes

@@ -5,7 +5,7 @@ ghost use lib.Dec.{eqb};
 ghost use Rattle.rules.specs.Choice.{pick};
 ghost use Rattle.rules.specs.Numbers.{topColumn};
 ghost use Rattle.rules.specs.Screen as rules;
-ghost use Rattle.screen.specs.View.{view};
+ghost use Rattle.screen.specs.View.{screenView};
 use crate::Screen;
 use rules::characters;
 
@@ -81,7 +81,7 @@ fn column_before(column: u16) -> u16
 
 // Lines count modulo 256.
 fn line_after(line: u8, b: u8) -> u8
-    ensures { λ r. ⌜ r ≡ pick (eqb b rules.LF) ((line + 1) % 256) line ⌝ }
+    ensures { λ r. ⌜ r ≡ pick (eqb b rules.LF) ((line + 1) % rules.positions) line ⌝ }
 {
     if b == characters::LF {
         return ((line as u16 + 1) % LINES) as u8;
@@ -91,7 +91,7 @@ fn line_after(line: u8, b: u8) -> u8
 
 // The screen after a byte.
 pub(crate) fn shown(s: Screen, b: u8) -> Screen
-    ensures { λ r. ⌜ view r ≡ rules.shown (view s) b ⌝ }
+    ensures { λ r. ⌜ screenView r ≡ rules.shown (screenView s) b ⌝ }
 {
     Screen {
         column: column_after(s.column, b),

@@ -5,7 +5,7 @@ use mathlib.Core.Bool.{true}
 use mathlib.Core.List.{List, [], _++_}
 use lib.ListN.{length}
 use Rattle.rules.specs.Calls.{framed, sentBytes}
-use Rattle.rules.specs.Messages.Layout.{bytesOf}
+use Rattle.rules.specs.Messages.Layout.{wordBytes, bytesOf}
 use Rattle.rules.specs.Messages.Forms as forms
 use Rattle.rules.specs.Messages.Codec.{message, setSize}
 use Rattle.message.specs.declared.Message.{Message}
@@ -25,4 +25,4 @@ pub record Sendable (s : List ℕ) (m : Message) (x : forms.Message ℕ) : Type 
 -- its parameter list, which the caller puts behind them.
 pub record Frames (s : List ℕ) (m : Message) (before : List ℕ) (at next : ℕ) (after : List ℕ) : Type 0 where
   pub sent : (x : forms.Message ℕ) → Sendable s m x → Puts (framed (sentBytes x)) before at next after
-  pub front : Puts (bytesOf 2 (spannedSize (spansOf m)) ++ frontBytes (heldIn s m)) before at next after
+  pub front : Puts (bytesOf wordBytes (spannedSize (spansOf m)) ++ frontBytes (heldIn s m)) before at next after

@@ -27,27 +27,27 @@ abbrev pub withList : ℕ → ℕ → Span → Spans
 withList kind head list = record { kind = kind; head = head; list = list; set = none; text = none; revision = none }
 
 abbrev pub initiateSpans : Span → Span → Spans
-initiateSpans list revision = record { kind = forms.initiate; head = 13; list = list; set = none; text = none; revision = revision }
+initiateSpans list revision = record { kind = forms.initiate; head = forms.initiateHeader; list = list; set = none; text = none; revision = revision }
 
 abbrev pub startReadSpans : Span → Span → Spans
-startReadSpans set text = record { kind = forms.startRead; head = 17; list = none; set = set; text = text; revision = none }
+startReadSpans set text = record { kind = forms.startRead; head = forms.startReadHeader; list = none; set = set; text = text; revision = none }
 
 unfoldable pub spansOf : Message → Spans
 spansOf (Initiate f) = initiateSpans (f .parameters) (f .revision)
 spansOf (StartRead f) = startReadSpans (f .set) (f .text)
-spansOf (ReadData f) = withText forms.readData 8 (f .text)
-spansOf (OutOfBand discard character) = bare forms.outOfBand 3
-spansOf (Unread condition) = bare forms.unread 2
-spansOf ClearInput = bare forms.clearInput 2
-spansOf (Write f) = withText forms.write 5 (f .text)
-spansOf (WriteCompletion lost horizontal vertical) = bare forms.writeCompletion 6
-spansOf (DiscardState kept) = bare forms.discardState 2
-spansOf (ReadCharacteristics p) = withList forms.readCharacteristics 2 p
-spansOf (Characteristics p) = withList forms.characteristics 2 p
-spansOf CheckInput = bare forms.checkInput 2
-spansOf (InputCount count) = bare forms.inputCount 4
-spansOf (InputState nonzero) = bare forms.inputState 2
-spansOf (Other kind body) = withText kind 1 body
+spansOf (ReadData f) = withText forms.readData forms.readDataHeader (f .text)
+spansOf (OutOfBand discard character) = bare forms.outOfBand forms.outOfBandHeader
+spansOf (Unread condition) = bare forms.unread forms.bareHeader
+spansOf ClearInput = bare forms.clearInput forms.bareHeader
+spansOf (Write f) = withText forms.write forms.writeHeader (f .text)
+spansOf (WriteCompletion lost horizontal vertical) = bare forms.writeCompletion forms.writeCompletionHeader
+spansOf (DiscardState kept) = bare forms.discardState forms.bareHeader
+spansOf (ReadCharacteristics p) = withList forms.readCharacteristics forms.bareHeader p
+spansOf (Characteristics p) = withList forms.characteristics forms.bareHeader p
+spansOf CheckInput = bare forms.checkInput forms.bareHeader
+spansOf (InputCount count) = bare forms.inputCount forms.inputCountHeader
+spansOf (InputState nonzero) = bare forms.inputState forms.bareHeader
+spansOf (Other kind body) = withText kind forms.typeHeader body
 
 -- how long the message is by the lengths of its spans
 abbrev pub spannedSize : Spans → ℕ

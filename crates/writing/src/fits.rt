@@ -48,7 +48,7 @@ fn fits_flags(f: StartReadFields) -> bool
     ensures { λ r. ⌜ r ≡ fits (widthsOf (formOf startRead .head)) (startReadIn [] f .numbers) ⌝ }
 {
     (f.underflow < bits::TWO)
-        & (f.clears < bits::ONE)
+        & (f.clears_type_ahead < bits::ONE)
         & (f.formats < bits::ONE)
         & (f.vertical < bits::ONE)
         & (f.continues < bits::ONE)
@@ -83,7 +83,7 @@ fn fits_initiate(f: InitiateFields, s: &[u8]) -> bool
     let revision = f.revision;
     let parameters = f.parameters;
     let whole = fits_list(rules::INITIATE, parameters, s);
-    (revision.len == layout::REVISION) & whole
+    (revision.len == layout::REVISION_SIZE) & whole
 }
 
 pub(crate) fn fits_message(m: Message, s: &[u8]) -> bool

@@ -58,7 +58,7 @@ fn initiate_spans(list: Span, revision: Span) -> Spans
     let none = Span { start: 0, len: 0 };
     Spans {
         kind: rules::INITIATE,
-        head: layout::INITIATE,
+        head: layout::INITIATE_HEADER,
         list,
         set: none,
         text: none,
@@ -72,7 +72,7 @@ fn start_read_spans(set: Span, text: Span) -> Spans
     let none = Span { start: 0, len: 0 };
     Spans {
         kind: rules::START_READ,
-        head: layout::START_READ,
+        head: layout::START_READ_HEADER,
         list: none,
         set,
         text,
@@ -86,34 +86,34 @@ pub(crate) fn spans_of(m: Message) -> Spans
     match m {
         Message::Initiate(f) => initiate_spans(f.parameters, f.revision),
         Message::StartRead(f) => start_read_spans(f.set, f.text),
-        Message::ReadData(f) => with_text(rules::READ_DATA, layout::READ_DATA, f.text),
+        Message::ReadData(f) => with_text(rules::READ_DATA, layout::READ_DATA_HEADER, f.text),
         Message::OutOfBand {
             discard: _,
             character: _,
-        } => bare(rules::OUT_OF_BAND, layout::OUT_OF_BAND),
-        Message::Unread { condition: _ } => bare(rules::UNREAD, layout::BARE),
-        Message::ClearInput => bare(rules::CLEAR_INPUT, layout::BARE),
-        Message::Write(f) => with_text(rules::WRITE, layout::WRITE, f.text),
+        } => bare(rules::OUT_OF_BAND, layout::OUT_OF_BAND_HEADER),
+        Message::Unread { condition: _ } => bare(rules::UNREAD, layout::BARE_HEADER),
+        Message::ClearInput => bare(rules::CLEAR_INPUT, layout::BARE_HEADER),
+        Message::Write(f) => with_text(rules::WRITE, layout::WRITE_HEADER, f.text),
         Message::WriteCompletion {
             lost: _,
             horizontal: _,
             vertical: _,
-        } => bare(rules::WRITE_COMPLETION, layout::WRITE_COMPLETION),
-        Message::DiscardState { kept: _ } => bare(rules::DISCARD_STATE, layout::BARE),
+        } => bare(rules::WRITE_COMPLETION, layout::WRITE_COMPLETION_HEADER),
+        Message::DiscardState { kept: _ } => bare(rules::DISCARD_STATE, layout::BARE_HEADER),
         Message::ReadCharacteristics { parameters } => with_list(
             rules::READ_CHARACTERISTICS,
-            layout::BARE,
+            layout::BARE_HEADER,
             parameters,
         ),
         Message::Characteristics { parameters } => with_list(
             rules::CHARACTERISTICS,
-            layout::BARE,
+            layout::BARE_HEADER,
             parameters,
         ),
-        Message::CheckInput => bare(rules::CHECK_INPUT, layout::BARE),
-        Message::InputCount { count: _ } => bare(rules::INPUT_COUNT, layout::INPUT_COUNT),
-        Message::InputState { nonzero: _ } => bare(rules::INPUT_STATE, layout::BARE),
-        Message::Other { kind, body } => with_text(kind, layout::TYPE_ALONE, body),
+        Message::CheckInput => bare(rules::CHECK_INPUT, layout::BARE_HEADER),
+        Message::InputCount { count: _ } => bare(rules::INPUT_COUNT, layout::INPUT_COUNT_HEADER),
+        Message::InputState { nonzero: _ } => bare(rules::INPUT_STATE, layout::BARE_HEADER),
+        Message::Other { kind, body } => with_text(kind, layout::TYPE_HEADER, body),
     }
 }
 

@@ -12,11 +12,11 @@ unfolding freshTerminal
 returns c =
     record {
       terminal = refl;
-      waiting = refl;
+      keysLength = refl;
       token = refl;
       pending = refl;
       counted = record {
-        typed = record { waiting = omega arith; token = sym token-size; tokenLength = omega arith };
+        typed = record { keysLength = omega arith; token = sym token-size; tokenLength = omega arith };
         within = omega arith;
       };
     }

@@ -18,9 +18,9 @@ use Rattle.rules.proofs.Tests.{pick-case, pick-second, all-cons}
 use Rattle.rules.proofs.Outcomes.{refused-sound}
 use Rattle.rules.proofs.Bounds.Sent.{area-meant, read-sent}
 use Rattle.rules.proofs.Bounds.Turns.{Steady, Fine, still-good}
-use Rattle.rules.proofs.Bounds.Arrivals.{arrives-fine}
+use Rattle.rules.proofs.Bounds.Arrival.{arrives-fine}
 use Rattle.rules.proofs.Bounds.Steps.{steps-fine, ticks-fine}
-use Rattle.rules.proofs.Bounds.Hosts.{obeys-fine}
+use Rattle.rules.proofs.Bounds.Host.{obeys-fine}
 
 pub fresh-bounded : Bounded fresh
 unfolding fresh freshHost freshTerminal universal allBytes allAre isAttribute isDeferredClear

@@ -48,7 +48,7 @@ write-text m e h =
     omega arith
 
 -- A Start Read that is carried.
-pub record Startable (m : Message ℕ) : Type 0 where
+pub record AcceptedStartRead (m : Message ℕ) : Type 0 where
   pub underflow : underflow m ≤ 2
   pub disables : disables m ≤ 3
   pub prompt : endOfPrompt m ≤ endOfData m
@@ -61,9 +61,9 @@ pub record Startable (m : Message ℕ) : Type 0 where
   pub setBytes : allBytes (m .set) ≡ true
   pub textBytes : allBytes (m .text) ≡ true
 
-pub startable : (m : Message ℕ) → m .kind ≡ startRead → carriesStartRead m ≡ true → Fit m → Startable m
+pub accepted-start-read : (m : Message ℕ) → m .kind ≡ startRead → carriesStartRead m ≡ true → Fit m → AcceptedStartRead m
 unfolding formOf forms widthsOf fitsTail definedFields soundStartRead carriesStartRead
-startable m e carried h =
+accepted-start-read m e carried h =
     let parts = fit-parts m startRead e h in
     let tail = quarters (leb (length (m .set)) setSize) (allBytes (m .set)) (isEmpty (m .parameters)) (allBytes (m .text)) (parts .1) in
     let whole = eqb-true (startOfDisplay m) 0 (thirds (eqb (startOfDisplay m) 0) (eqb (continues m) 0) (eqb (vertical m) 0) carried .0) in

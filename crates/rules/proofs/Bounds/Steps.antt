@@ -21,11 +21,12 @@ use Rattle.rules.specs.Steps.{showsAgain, edits, takesPlain, raisedBy, t
 use Rattle.rules.specs.Bounds.{BoundedTyped, BoundedReading, BoundedRead}
 use Rattle.rules.proofs.Tests.{pick-case, all-cons}
 use Rattle.rules.proofs.Bounds.Bytes.{one-byte, bytes-append}
-use Rattle.rules.proofs.Bounds.Screens.{echo-length, echoTerminator-length}
+use Rattle.rules.proofs.Bounds.Screen.{echo-length, echoTerminator-length}
 use Rattle.rules.proofs.Bounds.Turns.{Steady, Fine, fine, retyped, reread}
 use Rattle.rules.proofs.Bounds.Turns.{still-good, changes-good, writes-good, tells-then, changes-then, writes-sends, pick-good, only-good}
-use Rattle.rules.proofs.Bounds.Reads.{Answerable, bounded-answerable, emptied, completes-good, completes-fine, completes-full, deletes-good, redisplays-good}
-use Rattle.rules.proofs.Bounds.Arrivals.{idle-bounded}
+use Rattle.rules.proofs.Bounds.ReadData.{Answerable, bounded-answerable, emptied, completes-good, completes-fine, completes-full}
+use Rattle.rules.proofs.Bounds.Editing.{deletes-good, redisplays-good}
+use Rattle.rules.proofs.Bounds.Arrival.{idle-bounded}
 
 -- A read with more input, as far as it fits.
 appended-answerable : (cs : List ℕ) (r : Reading ℕ) → BoundedReading r → allBytes cs ≡ true → endOf r + length cs ≤ r .terms .maxLength →
@@ -46,7 +47,7 @@ appended-bounded cs r b bytes room =
       lowWater = omega arith;
       inputBytes = bytes-append (r .input) cs (b .inputBytes) bytes;
       idle = b .idle;
-      from = b .from;
+      displayColumn = b .displayColumn;
     }
 
 -- Tokens: one that is not whole has room.

@@ -15,7 +15,7 @@ use Rattle.rules.specs.Turns.{Fate, Turn, Rule, still, writes, sends, te
 use Rattle.rules.specs.Bounds.{BoundedHost, BoundedTerminal, BoundedTyped, BoundedRead}
 use Rattle.rules.proofs.Tests.{pick-case}
 use Rattle.rules.proofs.Sizes.{rubbing-room, answer-room}
-use Rattle.rules.proofs.Bounds.Screens.{shownAll-bounded}
+use Rattle.rules.proofs.Bounds.Screen.{shownAll-bounded}
 use Rattle.rules.proofs.Bounds.Sent.{Sent, AllFit, allFit-append, areaOf, area-append, area-one}
 
 -- what is asked of the pending read

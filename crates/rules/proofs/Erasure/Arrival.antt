@@ -11,8 +11,8 @@ use Rattle.rules.specs.Arrival.{idleAgain, keeps, countsDropped, drops, 
 use Rattle.rules.specs.Arrival.{Rubbing, rubbingOut, withoutRubbing, emptiesTyped, clearsInput, clearRule, clearsBy}
 use Rattle.rules.specs.Arrival.{sendsOutOfBand, endsOutOfBand, clearsAtOnce, controlled, byFirstRule, arrives}
 use Rattle.rules.proofs.Erasure.Maps.{Maps, mapReading}
-use Rattle.rules.proofs.Erasure.Rules.{Erases, erases-here, erases-still, erases-writes, erases-plain, erases-tells, erases-changes}
-use Rattle.rules.proofs.Erasure.Rules.{erases-then, erases-pick}
+use Rattle.rules.proofs.Erasure.Turns.{Erases, erases-here, erases-still, erases-writes, erases-plain, erases-tells, erases-changes}
+use Rattle.rules.proofs.Erasure.Turns.{erases-then, erases-pick}
 use Rattle.rules.proofs.Erasure.ReadData.{erase-completes}
 use Rattle.rules.proofs.Erasure.Editing.{erase-deletes, erase-deletesUnseen}
 

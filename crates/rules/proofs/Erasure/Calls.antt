@@ -14,7 +14,7 @@ use Rattle.rules.specs.Calls.{isPending, isTimely, carriesQuestions, isC
 use Rattle.rules.specs.Calls.{refuses, does, answersMessage, answers, answer, runFrom, run}
 use Rattle.rules.proofs.Tests.{pick-both}
 use Rattle.rules.proofs.Erasure.Maps.{Maps, mapReading, mapState, mapEvent, mapCall, mapAnswer}
-use Rattle.rules.proofs.Erasure.Rules.{Erases}
+use Rattle.rules.proofs.Erasure.Turns.{Erases}
 use Rattle.rules.proofs.Erasure.Arrival.{erase-arrives}
 use Rattle.rules.proofs.Erasure.Steps.{erase-steps, erase-ticks}
 use Rattle.rules.proofs.Erasure.Host.{erase-obeys}

@@ -5,10 +5,10 @@ use mathlib.Core.List.{map-map}
 use lib.ListN.{length-map}
 use Rattle.rules.specs.State.{Characters, Reading}
 use Rattle.rules.specs.Turns.{Fate}
-use Rattle.rules.specs.Editing.{endOf, hiddenCount, shortened, deletesUnseen, displayed, rubbing, deletes, displaysData, displays, redisplays}
+use Rattle.rules.specs.Editing.{endOf, hiddenCount, shortened, deletesUnseen, displayed, rubOutBytes, deletes, displaysData, displays, redisplays}
 use Rattle.rules.proofs.Erasure.Maps.{Maps, mapReading, mapFate}
 use Rattle.rules.proofs.Erasure.Lists.{map-take, map-drop, codes-same}
-use Rattle.rules.proofs.Erasure.Rules.{Erases, erases-here, erases-writes, erases-tells, erases-reading, erases-then}
+use Rattle.rules.proofs.Erasure.Turns.{Erases, erases-here, erases-writes, erases-tells, erases-reading, erases-then}
 
 module _ {C D : Type 0} {f : C → D} {cs : Characters C} {ds : Characters D} (m : Maps f cs ds) where
   pub erase-endOf : (r : Reading C) → endOf (mapReading f r) ≡ endOf r
@@ -23,9 +23,9 @@ module _ {C D : Type 0} {f : C → D} {cs : Characters C} {ds : Characters D} (m
   unfolding displayed hiddenCount
   erase-displayed r = simp (codes-same m)
 
-  erase-rubbing : (left : ℕ) (r : Reading C) → rubbing cs left r ≡ rubbing ds left (mapReading f r)
-  unfolding rubbing hiddenCount
-  erase-rubbing left r = rw (erase-displayed r)
+  erase-rubOutBytes : (left : ℕ) (r : Reading C) → rubOutBytes cs left r ≡ rubOutBytes ds left (mapReading f r)
+  unfolding rubOutBytes hiddenCount
+  erase-rubOutBytes left r = rw (erase-displayed r)
 
   -- deleting, over any fate that the map carries to a fate
   module _ (fate : C → Fate C) (fate′ : D → Fate D) (same : (c : C) → mapFate f (fate c) ≡ fate′ (f c)) (left : ℕ) (r : Reading C) where
@@ -35,7 +35,7 @@ module _ {C D : Type 0} {f : C → D} {cs : Characters C} {ds : Characters D} (m
 
     pub erase-deletes : Erases f (deletes cs fate left r) (deletes ds fate′ left (mapReading f r))
     unfolding deletes
-    erase-deletes = erases-then (erases-writes (erase-rubbing left r)) erase-deletesUnseen
+    erase-deletes = erases-then (erases-writes (erase-rubOutBytes left r)) erase-deletesUnseen
 
   pub erase-displays : (r : Reading C) → Erases f (displays cs r) (displays ds (mapReading f r))
   unfolding displays displaysData

@@ -8,8 +8,8 @@ use Rattle.rules.specs.Arrival.{rubbingOut}
 use Rattle.rules.specs.Host.{ourInitiate, initiates, completion, stopsDiscarding, writesUnlessDiscarding, sendsCompletion, writesOut, reports, setsCharacteristics, obeys}
 use Rattle.rules.specs.Calls.{mapText}
 use Rattle.rules.proofs.Erasure.Maps.{Maps}
-use Rattle.rules.proofs.Erasure.Rules.{Erases, erases-here, erases-writes, erases-sends, erases-plain, erases-changes}
-use Rattle.rules.proofs.Erasure.Rules.{erases-then, erases-pick, erases-only}
+use Rattle.rules.proofs.Erasure.Turns.{Erases, erases-here, erases-writes, erases-sends, erases-plain, erases-changes}
+use Rattle.rules.proofs.Erasure.Turns.{erases-then, erases-pick, erases-only}
 use Rattle.rules.proofs.Erasure.ReadData.{erase-unreads, erase-checksInput}
 use Rattle.rules.proofs.Erasure.Arrival.{erase-clearRule}
 use Rattle.rules.proofs.Erasure.StartRead.{erase-startsRead}

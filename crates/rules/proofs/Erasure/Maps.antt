@@ -26,8 +26,8 @@ module _ {C D : Type 0} (f : C → D) where
         terms = r .terms;
         input = map f (r .input);
         lowWater = r .lowWater;
-        hidden = r .hidden;
-        from = r .from;
+        hiddenLF = r .hiddenLF;
+        displayColumn = r .displayColumn;
         idle = r .idle;
       }
 

@@ -10,8 +10,8 @@ use Rattle.rules.specs.ReadData.{waitingCount, checksInput, moreData, an
 use Rattle.rules.specs.Calls.{mapText}
 use Rattle.rules.proofs.Erasure.Maps.{Maps, mapTyped, mapReading, mapState}
 use Rattle.rules.proofs.Erasure.Lists.{isEmpty-map, codes-same}
-use Rattle.rules.proofs.Erasure.Rules.{Erases, erases-here, erases-still, erases-sends, erases-plain, erases-tells, erases-changes}
-use Rattle.rules.proofs.Erasure.Rules.{erases-then, erases-only}
+use Rattle.rules.proofs.Erasure.Turns.{Erases, erases-here, erases-still, erases-sends, erases-plain, erases-tells, erases-changes}
+use Rattle.rules.proofs.Erasure.Turns.{erases-then, erases-only}
 
 module _ {C D : Type 0} {f : C → D} {cs : Characters C} {ds : Characters D} (m : Maps f cs ds) where
   erase-waitingCount : (t : Typed C) → waitingCount (mapTyped f t) ≡ waitingCount t

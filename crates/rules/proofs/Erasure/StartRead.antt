@@ -6,7 +6,7 @@ use Rattle.rules.specs.Messages.Forms.{Message}
 use Rattle.rules.specs.State.{Characters, Reading, State}
 use Rattle.rules.specs.StartRead.Acceptance.{shownPrompt, dataBehind, hidesInput, openedTerms, openedRead, remembersSet, clearsFirst, feedsLine, autoPrompts, completesIfFull, begins, startsRead}
 use Rattle.rules.proofs.Erasure.Maps.{Maps, mapReading, mapState}
-use Rattle.rules.proofs.Erasure.Rules.{Erases, erases-here, erases-writes, erases-changes, erases-then, erases-only}
+use Rattle.rules.proofs.Erasure.Turns.{Erases, erases-here, erases-writes, erases-changes, erases-then, erases-only}
 use Rattle.rules.proofs.Erasure.ReadData.{erase-completes}
 use Rattle.rules.proofs.Erasure.Editing.{erase-displays}
 use Rattle.rules.proofs.Erasure.Arrival.{erase-emptiesTyped}

@@ -12,8 +12,8 @@ use Rattle.rules.specs.Steps.{underflows, erases, erasesAll, showsAgain,
 use Rattle.rules.specs.Steps.{stepsWhile, steps, setsIdle, idles, ticksWhile, ticks}
 use Rattle.rules.proofs.Erasure.Maps.{Maps, mapKey, mapReading}
 use Rattle.rules.proofs.Erasure.Lists.{isEmpty-map, map-pick, codes-same}
-use Rattle.rules.proofs.Erasure.Rules.{Erases, erases-here, erases-still, erases-writes, erases-tells, erases-changes, erases-reading}
-use Rattle.rules.proofs.Erasure.Rules.{erases-then, erases-pick, erases-only}
+use Rattle.rules.proofs.Erasure.Turns.{Erases, erases-here, erases-still, erases-writes, erases-tells, erases-changes, erases-reading}
+use Rattle.rules.proofs.Erasure.Turns.{erases-then, erases-pick, erases-only}
 use Rattle.rules.proofs.Erasure.ReadData.{erase-completes}
 use Rattle.rules.proofs.Erasure.Editing.{erase-endOf, erase-deletes, erase-redisplays}
 

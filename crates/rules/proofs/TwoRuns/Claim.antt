@@ -13,7 +13,7 @@ use Rattle.rules.specs.TwoRuns.{seen, LooksTheSame, Demand3, Demand3Weak
 use Rattle.rules.proofs.Tests.{halves, all-at, all-both}
 use Rattle.rules.proofs.TwoRuns.Twins.{Twin, sideOf, isApart, side-chars, spared}
 use Rattle.rules.proofs.TwoRuns.Bands.{inBand-passed, unacted-passed}
-use Rattle.rules.proofs.TwoRuns.Answers.{Heeded, Supposed}
+use Rattle.rules.proofs.TwoRuns.Calls.{Heeded, Supposed}
 use Rattle.rules.proofs.TwoRuns.Pairing.{twins}
 use Rattle.rules.proofs.TwoRuns.Sides.{Side, side-codes}
 use Rattle.rules.proofs.TwoRuns.Carried.{fatesOf, Test, overTwins, Carries, history-carried, carry-inBand, carry-unacted}

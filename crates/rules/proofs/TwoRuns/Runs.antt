@@ -11,7 +11,7 @@ use Rattle.rules.specs.TwoRuns.{seen}
 use Rattle.rules.proofs.Tests.{all-halves}
 use Rattle.rules.proofs.Erasure.Maps.{mapAnswer}
 use Rattle.rules.proofs.TwoRuns.Twins.{Twin, code₁, code₂, first-chars, second-chars, Level, spared}
-use Rattle.rules.proofs.TwoRuns.Answers.{fresh-level, Heeded, Supposed, agree-answer}
+use Rattle.rules.proofs.TwoRuns.Calls.{fresh-level, Heeded, Supposed, agree-answer}
 use Rattle.rules.proofs.TwoRuns.Carried.{fatesOf}
 use Rattle.rules.proofs.TwoRuns.Looks.{seen-same}
 

@@ -18,10 +18,11 @@ use Rattle.rules.proofs.Tests.{pick-same, pick-case, all-snoc}
 use Rattle.rules.proofs.TwoRuns.Printing.{printing}
 use Rattle.rules.proofs.TwoRuns.Twins.{Twin, isBoth, raise, code₁, code₂, first-chars, second-chars, same-code, same-codes, same-word}
 use Rattle.rules.proofs.TwoRuns.Twins.{Settled, settled-code, settled-or, settled-and, LevelReading, LevelRead, Rules, Agreeing}
-use Rattle.rules.proofs.TwoRuns.Rules.{level-typed, level-emptied, level-read, agrees-then, agrees-still, agrees-changes, agrees-writes, told}
-use Rattle.rules.proofs.TwoRuns.Rules.{agrees-pick, agrees-only, by-test, by-code}
+use Rattle.rules.proofs.TwoRuns.Turns.{level-typed, level-emptied, level-read, agrees-then, agrees-still, agrees-changes, agrees-writes, told}
+use Rattle.rules.proofs.TwoRuns.Turns.{agrees-pick, agrees-only, by-test, by-code}
 use Rattle.rules.proofs.TwoRuns.Fates.{tokened-both, Safe, taken-safe}
-use Rattle.rules.proofs.TwoRuns.Reads.{same-token, completes-agrees, deletes-agrees, redisplays-agrees}
+use Rattle.rules.proofs.TwoRuns.ReadData.{same-token, completes-agrees}
+use Rattle.rules.proofs.TwoRuns.Editing.{deletes-agrees, redisplays-agrees}
 use Rattle.rules.proofs.TwoRuns.Words.{leftBy23-same}
 
 module _ {changed : ℕ → Bool} where

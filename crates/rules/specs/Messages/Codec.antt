@@ -6,10 +6,10 @@ use lib.Dec.{leb, ltb, eqb}
 use lib.ListN.{length, take, drop}
 use Rattle.rules.specs.Choice.{pick, Row, _when_, firstOf, within, isEmpty, allAre, joined}
 use Rattle.rules.specs.Numbers.{inputSize, messageSize, messageArea, smallArea, wrongLength, wrongType, unsound}
-use Rattle.rules.specs.Messages.Layout.{byteAt, sizeOf, widthsOf, fits, readGroups, writeGroups}
+use Rattle.rules.specs.Messages.Layout.{byteValues, byteAt, sizeOf, widthsOf, fits, readGroups, writeGroups}
 use Rattle.rules.specs.Messages.Parameters.{soundParameter, fitsParameter, cleaned, cut}
-use Rattle.rules.specs.Messages.Forms.{Message, Tail, nothing, text, setAndText, list, Form, formOf}
-use Rattle.rules.specs.Messages.Forms.{startRead, readData, write}
+use Rattle.rules.specs.Messages.Forms.{Message, typeIn, headAt, Tail, nothing, text, setAndText, list, Form, formOf}
+use Rattle.rules.specs.Messages.Forms.{initiate, startRead, readData, write, inputState}
 use Rattle.rules.specs.Messages.Fields.{completionCode, prefix, postfix}
 use Rattle.rules.specs.StartRead.{soundStartRead}
 
@@ -23,7 +23,7 @@ abbrev pub setSize : ℕ
 setSize = 32
 
 unfoldable pub definedKind : ℕ → Bool
-definedKind kind = within 1 14 kind
+definedKind kind = within initiate inputState kind
 
 -- the last completion code that 000 defines, and the last value of PP and of QQ
 abbrev pub lastCode : ℕ
@@ -42,17 +42,24 @@ definedFields m =
 
 -- Reading.
 
+-- a termination set's count, and what stands behind it
+abbrev pub setCountIn : List ℕ → ℕ
+setCountIn rest = byteAt rest 0
+
+abbrev pub behindCount : List ℕ → List ℕ
+behindCount rest = drop 1 rest
+
 -- behind the head the tail is neither cut short nor followed by more
 unfoldable pub wholeTail : Tail → List ℕ → Bool
 wholeTail nothing rest = isEmpty rest
 wholeTail text rest = true
-wholeTail setAndText rest = ltb (byteAt rest 0) (length rest) && leb (byteAt rest 0) setSize
+wholeTail setAndText rest = ltb (setCountIn rest) (length rest) && leb (setCountIn rest) setSize
 wholeTail (list shape) rest = allAre (soundParameter shape) (cut shape zero rest)
 
 unfoldable pub setIn : Tail → List ℕ → List ℕ
 setIn nothing rest = []
 setIn text rest = []
-setIn setAndText rest = take (byteAt rest 0) (drop 1 rest)
+setIn setAndText rest = take (setCountIn rest) (behindCount rest)
 setIn (list shape) rest = []
 
 unfoldable pub parametersIn : Tail → List ℕ → List (List ℕ)
@@ -64,18 +71,18 @@ parametersIn (list shape) rest = map (cleaned shape) (cut shape zero rest)
 unfoldable pub textIn : Tail → List ℕ → List ℕ
 textIn nothing rest = []
 textIn text rest = rest
-textIn setAndText rest = drop (byteAt rest 0) (drop 1 rest)
+textIn setAndText rest = drop (setCountIn rest) (behindCount rest)
 textIn (list shape) rest = []
 
 -- behind MSGTYPE and the head
 unfoldable pub behindHead : Form → List ℕ → List ℕ
-behindHead f bytes = drop (1 + sizeOf (f .head)) bytes
+behindHead f bytes = drop (headAt + sizeOf (f .head)) bytes
 
 unfoldable pub fieldsAs : Form → List ℕ → Message ℕ
 fieldsAs f bytes =
     record {
-      kind = byteAt bytes 0;
-      numbers = readGroups (f .head) 1 bytes;
+      kind = typeIn bytes;
+      numbers = readGroups (f .head) headAt bytes;
       set = setIn (f .tail) (behindHead f bytes);
       parameters = parametersIn (f .tail) (behindHead f bytes);
       text = textIn (f .tail) (behindHead f bytes);
@@ -84,7 +91,7 @@ fieldsAs f bytes =
 -- not cut short, nothing left over, every value defined
 unfoldable pub soundAs : Form → List ℕ → Bool
 soundAs f bytes =
-    leb (1 + sizeOf (f .head)) (length bytes) &&
+    leb (headAt + sizeOf (f .head)) (length bytes) &&
     wholeTail (f .tail) (behindHead f bytes) &&
     definedFields (fieldsAs f bytes)
 
@@ -95,18 +102,18 @@ soundLength n = within 1 messageSize n
 unfoldable pub readRefusals : List ℕ → List Row
 readRefusals bytes =
     wrongLength when not (soundLength (length bytes)) ∷
-    wrongType when not (definedKind (byteAt bytes 0)) ∷
-    unsound when not (soundAs (formOf (byteAt bytes 0)) bytes) ∷
+    wrongType when not (definedKind (typeIn bytes)) ∷
+    unsound when not (soundAs (formOf (typeIn bytes)) bytes) ∷
     []
 
 -- reading: the first refusal that applies, else the fields
 unfoldable pub read : List ℕ → Outcome (Message ℕ)
-read bytes = firstOf refused (sound (fieldsAs (formOf (byteAt bytes 0)) bytes)) (readRefusals bytes)
+read bytes = firstOf refused (sound (fieldsAs (formOf (typeIn bytes)) bytes)) (readRefusals bytes)
 
 -- Writing.
 
 unfoldable pub allBytes : List ℕ → Bool
-allBytes bs = allAre (λ b. ltb b 256) bs
+allBytes bs = allAre (λ b. ltb b byteValues) bs
 
 unfoldable pub tailBytes : Tail → Message ℕ → List ℕ
 tailBytes nothing m = []

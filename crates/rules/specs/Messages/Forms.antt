@@ -16,12 +16,16 @@ pub record Message (D : Type 0) : Type 0 where
   -- DATA
   pub text : List D
 
-abbrev pub number : {D : Type 0} → Message D → ℕ → ℕ
-number m at = getD (m .numbers) at 0
+-- a field of the head by its place, 0 for one that is not there
+abbrev pub fieldAt : {D : Type 0} → Message D → ℕ → ℕ
+fieldAt m at = getD (m .numbers) at 0
 
--- MSGTYPE, the first byte
+-- MSGTYPE, the first byte; the head, which is FLAGS first, begins behind it
 abbrev pub typeIn : List ℕ → ℕ
 typeIn bytes = byteAt bytes 0
+
+abbrev pub headAt : ℕ
+headAt = 1
 
 -- a message that has no list
 abbrev pub plain : {D : Type 0} → ℕ → List ℕ → Message D
@@ -39,7 +43,17 @@ pub record Form : Type 0 where
 abbrev pub form : List Group → Tail → Form
 form head tail = record { head = head; tail = tail }
 
--- how many bits each field of FLAGS has, in a Start Read and in a Write
+-- bytes of Initiate's REVISION
+abbrev pub revisionSize : ℕ
+revisionSize = 8
+
+-- how many bytes FLAGS has, and how many bits each field of it, in a Start Read and in a Write
+abbrev pub startReadFlagBytes : ℕ
+startReadFlagBytes = 3
+
+abbrev pub writeFlagBytes : ℕ
+writeFlagBytes = 2
+
 abbrev pub startReadWidths : List ℕ
 startReadWidths = 2 ∷ 1 ∷ 1 ∷ 1 ∷ 1 ∷ 2 ∷ 3 ∷ 1 ∷ 1 ∷ 1 ∷ 2 ∷ 2 ∷ []
 
@@ -50,11 +64,11 @@ writeWidths = 2 ∷ 1 ∷ 1 ∷ 1 ∷ 1 ∷ 2 ∷ 2 ∷ 1 ∷ 1 ∷ []
 unfoldable pub forms : List Form
 forms =
     -- Initiate: FLAGS; VERSION, ECO, MOD, REVISION; PARAMETERs
-    form (flags 1 [] ∷ replicate 11 byte) (list initiation) ∷
+    form (flags 1 [] ∷ byte ∷ byte ∷ byte ∷ replicate revisionSize byte) (list initiation) ∷
     -- Start Read: UU, C, F, V, K, II, DDD, N, T, Q, ZZ, EE; MAX-LENGTH, END-OF-DATA, TIMEOUT, END-OF-PROMPT,
     -- START-OF-DISPLAY, LOW-WATER; TERMINATION-SET, DATA
     form
-    (flags 3 startReadWidths ∷ word ∷ word ∷ word ∷ word ∷ word ∷ word ∷ [])
+    (flags startReadFlagBytes startReadWidths ∷ word ∷ word ∷ word ∷ word ∷ word ∷ word ∷ [])
     setAndText ∷
     -- Read Data: completion code, more-data; LOW-WATER, VERTICAL-POSITION, HORIZONTAL-POSITION, TERMINATION-POSITION; DATA
     form (flags 1 (4 ∷ 1 ∷ []) ∷ word ∷ byte ∷ byte ∷ word ∷ []) text ∷
@@ -65,7 +79,7 @@ forms =
     -- Clear Input
     form (flags 1 [] ∷ []) nothing ∷
     -- Write: UU, L, D, B, E, PP, QQ, S, T; PREFIX-VALUE, POSTFIX-VALUE; DATA
-    form (flags 2 writeWidths ∷ byte ∷ byte ∷ []) text ∷
+    form (flags writeFlagBytes writeWidths ∷ byte ∷ byte ∷ []) text ∷
     -- Write Completion: discard status; HORIZONTAL-POS, VERTICAL-POS
     form (flags 1 (1 ∷ []) ∷ word ∷ word ∷ []) nothing ∷
     -- Discard State: discard control
@@ -130,3 +144,33 @@ inputCount = 13
 
 abbrev pub inputState : ℕ
 inputState = 14
+
+-- How many bytes stand in front of a message's list or text: MSGTYPE and the head. Of a message that has neither these are all its bytes.
+-- Of a type that is not known it is MSGTYPE alone; of most messages MSGTYPE and FLAGS of one byte.
+abbrev pub typeHeader : ℕ
+typeHeader = 1
+
+abbrev pub bareHeader : ℕ
+bareHeader = 2
+
+abbrev pub initiateHeader : ℕ
+initiateHeader = 13
+
+-- with the count of its termination set
+abbrev pub startReadHeader : ℕ
+startReadHeader = 17
+
+abbrev pub readDataHeader : ℕ
+readDataHeader = 8
+
+abbrev pub outOfBandHeader : ℕ
+outOfBandHeader = 3
+
+abbrev pub writeHeader : ℕ
+writeHeader = 5
+
+abbrev pub writeCompletionHeader : ℕ
+writeCompletionHeader = 6
+
+abbrev pub inputCountHeader : ℕ
+inputCountHeader = 4

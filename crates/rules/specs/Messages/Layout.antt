@@ -5,6 +5,22 @@ use mathlib.Core.List.{List, [], _∷_, _++_}
 use lib.Dec.{ltb}
 use lib.ListN.{length, drop, getD, replicate}
 
+-- bits of a byte, bytes and bits of a word, and how many values each has
+abbrev pub byteBits : ℕ
+byteBits = 8
+
+abbrev pub wordBytes : ℕ
+wordBytes = 2
+
+abbrev pub wordBits : ℕ
+wordBits = 16
+
+abbrev pub byteValues : ℕ
+byteValues = 256
+
+abbrev pub wordValues : ℕ
+wordValues = 65536
+
 abbrev pub byteAt : List ℕ → ℕ → ℕ
 byteAt bytes at = getD bytes at 0
 
@@ -35,10 +51,10 @@ abbrev pub flags : ℕ → List ℕ → Group
 flags n ws = record { bytes = n; widths = ws }
 
 abbrev pub byte : Group
-byte = flags 1 (8 ∷ [])
+byte = flags 1 (byteBits ∷ [])
 
 abbrev pub word : Group
-word = flags 2 (16 ∷ [])
+word = flags wordBytes (wordBits ∷ [])
 
 -- how many bytes the groups take
 unfoldable pub sizeOf : List Group → ℕ
@@ -51,10 +67,10 @@ widthsOf (g ∷ gs) = g .widths ++ widthsOf gs
 
 -- the number in so many bytes, low byte first, and its bytes
 abbrev pub numberAt : ℕ → ℕ → List ℕ → ℕ
-numberAt n at bytes = numberOf (replicate n 8) (drop at bytes)
+numberAt n at bytes = numberOf (replicate n byteBits) (drop at bytes)
 
 abbrev pub bytesOf : ℕ → ℕ → List ℕ
-bytesOf n value = fieldsIn (replicate n 8) value
+bytesOf n value = fieldsIn (replicate n byteBits) value
 
 -- reading: the fields of the groups that begin at a place
 unfoldable pub readGroups : List Group → ℕ → List ℕ → List ℕ

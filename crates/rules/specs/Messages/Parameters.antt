@@ -5,11 +5,11 @@ use mathlib.Core.List.{List, [], _∷_, zipWith}
 use lib.Dec.{ltb, eqb}
 use lib.ListN.{length, take, replicate}
 use Rattle.rules.specs.Choice.{pick, within}
-use Rattle.rules.specs.Messages.Layout.{byteAt}
+use Rattle.rules.specs.Messages.Layout.{byteValues, byteAt}
 
 -- how many values a byte has, of which all bits, seven, four or one are used: its limit
 abbrev pub allBits : ℕ
-allBits = 256
+allBits = byteValues
 
 abbrev pub sevenBits : ℕ
 sevenBits = 128
@@ -27,9 +27,32 @@ pub record Shape : Type 0 where
   -- 000 defines the parameter and its value
   pub defined : List ℕ → Bool
 
+-- the first two bytes of a parameter, its head; where the bytes behind it stand
+abbrev pub parameterHead : ℕ
+parameterHead = 2
+
+abbrev pub firstIn : List ℕ → ℕ
+firstIn p = byteAt p 0
+
+abbrev pub secondIn : List ℕ → ℕ
+secondIn p = byteAt p 1
+
+abbrev pub firstValueAt : ℕ
+firstValueAt = 2
+
+abbrev pub secondValueAt : ℕ
+secondValueAt = 3
+
+abbrev pub thirdValueAt : ℕ
+thirdValueAt = 4
+
+-- a number in two bytes, low byte first
+abbrev pub paired : ℕ → ℕ → ℕ
+paired low high = low + byteValues * high
+
 -- SELECTOR (000, 4.17): characteristic identifier, then the type of identifier, 2 for ours
 abbrev pub selector : List ℕ → ℕ
-selector p = byteAt p 0 + 256 * byteAt p 1
+selector p = paired (firstIn p) (secondIn p)
 
 -- identifiers of 4.17.2, as selectors
 abbrev pub characterAttributes : ℕ
@@ -53,8 +76,14 @@ autoPrompt = 0x0209
 abbrev pub errorProcessing : ℕ
 errorProcessing = 0x020A
 
+abbrev pub firstSelector : ℕ
+firstSelector = 0x0201
+
+abbrev pub lastSelector : ℕ
+lastSelector = errorProcessing
+
 unfoldable pub definedSelector : ℕ → Bool
-definedSelector n = within 0x0201 0x020A n
+definedSelector n = within firstSelector lastSelector n
 
 -- Initiate: PARMTYPE, a count, and that many bytes; nothing of it is looked at
 abbrev pub initiation : Shape
@@ -65,7 +94,7 @@ unfoldable pub questionLimits : ℕ → List ℕ
 questionLimits n = pick (eqb n characterAttributes) (allBits ∷ []) []
 
 abbrev pub question : Shape
-question = record { limits = λ low high. questionLimits (low + 256 * high); defined = λ p. definedSelector (selector p) }
+question = record { limits = λ low high. questionLimits (paired low high); defined = λ p. definedSelector (selector p) }
 
 -- Characteristics: SELECTOR and VALUE. A Boolean uses bit 0; character attributes are CHARACTER, MASK and seven bits;
 -- INPUT-COUNT-STATE is an integer, 1 to 3; ERROR-PROCESSING uses four bits.
@@ -76,11 +105,22 @@ valueLimits n =
     (pick (eqb n errorProcessing) (fourBits ∷ [])
     (pick (definedSelector n) (oneBit ∷ []) [])))
 
+-- the values of INPUT-COUNT-STATE
+abbrev pub firstCountState : ℕ
+firstCountState = 1
+
+abbrev pub lastCountState : ℕ
+lastCountState = 3
+
+abbrev pub countStateIn : List ℕ → ℕ
+countStateIn p = paired (byteAt p firstValueAt) (byteAt p secondValueAt)
+
 unfoldable pub definedValue : List ℕ → Bool
-definedValue p = pick (eqb (selector p) inputCountState) (within 1 3 (byteAt p 2 + 256 * byteAt p 3)) (definedSelector (selector p))
+definedValue p =
+    pick (eqb (selector p) inputCountState) (within firstCountState lastCountState (countStateIn p)) (definedSelector (selector p))
 
 abbrev pub setting : Shape
-setting = record { limits = λ low high. valueLimits (low + 256 * high); defined = definedValue }
+setting = record { limits = λ low high. valueLimits (paired low high); defined = definedValue }
 
 -- as many bytes as limits, each under its own
 unfoldable pub under : List ℕ → List ℕ → Bool
@@ -92,10 +132,10 @@ under (l ∷ ls) (b ∷ bs) = ltb b l && under ls bs
 module _ (shape : Shape) where
   -- the limits of the bytes behind the first two, and how long the parameter should be with those
   unfoldable pub limitsOf : List ℕ → List ℕ
-  limitsOf p = shape .limits (byteAt p 0) (byteAt p 1)
+  limitsOf p = shape .limits (firstIn p) (secondIn p)
 
   unfoldable pub parameterSize : List ℕ → ℕ
-  parameterSize p = 2 + length (limitsOf p)
+  parameterSize p = parameterHead + length (limitsOf p)
 
   -- whole, and with a defined value
   unfoldable pub soundParameter : List ℕ → Bool

@@ -4,7 +4,7 @@ use mathlib.Core.Bool.{Bool, _&&_}
 use mathlib.Core.List.{List, [], _∷_, map}
 use lib.Dec.{eqb}
 use lib.ListN.{take, drop}
-use Rattle.rules.specs.Choice.{pick, isOn, bit}
+use Rattle.rules.specs.Choice.{pick, isOn, isOff, bit}
 use Rattle.rules.specs.Messages.Layout.{byteAt}
 use Rattle.rules.specs.Messages.Forms.{Message}
 use Rattle.rules.specs.Screen.{SOH, LF}
@@ -38,7 +38,7 @@ hidesInput m = hidesLF m && eqb (fields.endOfPrompt m) 0
 module _ {C : Type 0} where
   -- C clears type-ahead and any held token
   unfoldable pub clearsFirst : Message ℕ → Rule C
-  clearsFirst m = only (isOn (fields.clears m)) emptiesTyped
+  clearsFirst m = only (isOn (fields.clearsTypeAhead m)) emptiesTyped
 
   -- F writes LF if the last terminal byte was CR
   unfoldable pub feedsLine : Message ℕ → Rule C
@@ -57,7 +57,7 @@ module _ {C : Type 0} (chars : Characters C) where
         disables = fields.disables m;
         raises = chosen (fields.raises m) (s .host .switches .raising);
         recognises = chosen (fields.escapes m) (s .host .switches .recognising);
-        echoes = eqb (fields.silent m) 0 && s .host .switches .echoing;
+        echoes = isOff (fields.silent m) && s .host .switches .echoing;
         terminatorEcho = isOn (fields.terminatorEcho m);
         timed = isOn (fields.timed m);
         timeout = fields.timeout m;
@@ -75,8 +75,8 @@ module _ {C : Type 0} (chars : Characters C) where
         terms = openedTerms m s;
         input = map (chars .given) (dataBehind m);
         lowWater = fields.lowWater m;
-        hidden = hidesInput m;
-        from = s .terminal .screen .column;
+        hiddenLF = hidesInput m;
+        displayColumn = s .terminal .screen .column;
         idle = 0;
       }
 

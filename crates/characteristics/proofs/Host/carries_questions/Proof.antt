@@ -1,5 +1,5 @@
 use borrow.Author.Tests.{not-true, not-false}
-use Rattle.characteristics.specs.View.{hostOf}
+use Rattle.characteristics.specs.View.{hostView}
 use Rattle.rules.proofs.Sizes.{message-area}
 use Rattle.characteristics.proofs.Answers.{not-carried, carried-size}
 use Rattle.characteristics.proofs.Host.carries_questions.Statement.{statement}
@@ -11,7 +11,7 @@ all-carried-requires c κs = tt
 returns : tie.Need-returns
 returns c s =
     let args = c .before .before .before .args in
-    not-carried (args .list .now) (hostOf (args .self)) s (c .before .all-carried .ensures) (not-true _ (c .if1 .taken))
+    not-carried (args .list .now) (hostView (args .self)) s (c .before .all-carried .ensures) (not-true _ (c .if1 .taken))
 
 answer-size-requires : tie.Need-answer-size-requires
 answer-size-requires c κs = tt
@@ -20,8 +20,8 @@ returns-2 : tie.Need-returns-2
 returns-2 c s =
     let b = c .before .before in
     let args = b .before .before .args in
-    carried-size (args .list .now) (hostOf (args .self)) s (b .all-carried .ensures) (not-false _ (c .before .if1 .left))
-    message-area (c .answer-size .ensures (hostOf (args .self)))
+    carried-size (args .list .now) (hostView (args .self)) s (b .all-carried .ensures) (not-false _ (c .before .if1 .left))
+    message-area (c .answer-size .ensures (hostView (args .self)))
 
 pub carries-questions-spec : {M : Type 1} → statement M
 carries-questions-spec =

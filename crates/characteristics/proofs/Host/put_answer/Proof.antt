@@ -1,7 +1,7 @@
 use mathlib.Core.Path.{ap, _∙_}
 use Rattle.rules.specs.Choice.{bit}
 use Rattle.areas.proofs.Putting.{equals}
-use Rattle.characteristics.specs.View.{hostOf}
+use Rattle.characteristics.specs.View.{hostView}
 use Rattle.characteristics.proofs.Answers.{attribute-answer, switch-answer}
 use Rattle.characteristics.proofs.Host.put_answer.Statement.{statement}
 use Rattle.characteristics.proofs.Host.put_answer.Tie as tie
@@ -19,7 +19,7 @@ returns : tie.Need-returns
 returns c i s is =
     let b = c .before .before in
     let a = b .before .before in
-    equals (attribute-answer is (hostOf (a .before .before .before .before .args .self)) (a .before .if1 .taken) (a .attribute .ensures))
+    equals (attribute-answer is (hostView (a .before .before .before .before .args .self)) (a .before .if1 .taken) (a .attribute .ensures))
     (b .put-setting .ensures)
 
 value-requires : tie.Need-value-requires
@@ -40,7 +40,7 @@ returns-2 c i s is =
     let a = b .before .before in
     let v = a .before in
     equals
-    (switch-answer is (hostOf (v .before .before .before .before .before .args .self)) (v .before .before .if1 .left)
+    (switch-answer is (hostView (v .before .before .before .before .before .args .self)) (v .before .before .if1 .left)
     (a .bit-of .ensures ∙ ap bit (v .value .ensures)))
     (b .put-setting2 .ensures)
 

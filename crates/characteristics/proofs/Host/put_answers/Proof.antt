@@ -2,7 +2,7 @@ use Prim.Native.Nat.{_-_}
 use native.Mathlib.Omega.{arith}
 use lib.ListN.{length}
 use Rattle.areas.proofs.Putting.{Left, all-left, turn, none-left}
-use Rattle.characteristics.specs.View.{hostOf}
+use Rattle.characteristics.specs.View.{hostView}
 use Rattle.characteristics.specs.Lists.{answersFrom}
 use Rattle.characteristics.proofs.Answers.{first-answer, no-answers}
 use Rattle.characteristics.proofs.Host.put_answers.Statement.{statement}
@@ -10,7 +10,7 @@ use Rattle.characteristics.proofs.Host.put_answers.Tie as tie
 
 abbrev Inv-loop : tie.InvT-loop
 Inv-loop self list area₀ at next₀ i₀ area next i =
-    Left (answersFrom 0 list (hostOf self)) area₀ at (answersFrom i list (hostOf self)) area next
+    Left (answersFrom 0 list (hostView self)) area₀ at (answersFrom i list (hostView self)) area next
 
 abbrev μ-loop : tie.MeasureT-loop
 μ-loop self list area₀ at next₀ i₀ area next i = length list - i
@@ -34,7 +34,7 @@ loop-again c =
     let b = c .before .before in
     let is = b .before .before .parameter-at .ensures in
     let a = b .before .before .before .before in
-    turn (first-answer is (hostOf (a .before .before .before .args .self)) (b .before .before .before .loop-test .taken)) (a .loop .inv) (b .put-answer .ensures _ _ is)
+    turn (first-answer is (hostView (a .before .before .before .args .self)) (b .before .before .before .loop-test .taken)) (a .loop .inv) (b .put-answer .ensures _ _ is)
 
 same-length : tie.Need-same-length Inv-loop μ-loop
 same-length c = c .before .loop .inv .same
@@ -43,7 +43,7 @@ returns : tie.Need-returns Inv-loop μ-loop
 returns c =
     let a = c .before in
     let start = a .before .before .before .args in
-    none-left (no-answers (start .list .now) (hostOf (start .self)) (a .loop .i) (c .loop-test .left)) (a .loop .inv)
+    none-left (no-answers (start .list .now) (hostView (start .self)) (a .loop .i) (c .loop-test .left)) (a .loop .inv)
 
 pub put-answers-spec : {M : Type 1} → statement M
 put-answers-spec =

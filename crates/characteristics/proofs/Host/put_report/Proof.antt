@@ -13,7 +13,7 @@ use Rattle.message.specs.Found.{heldIn}
 use Rattle.fronts.specs.Front.{frontBytes, frontTail}
 use Rattle.writing.specs.Spans.{spansOf}
 use Rattle.areas.proofs.Putting.{nothing, equals, joins}
-use Rattle.characteristics.specs.View.{hostOf}
+use Rattle.characteristics.specs.View.{hostView}
 use Rattle.characteristics.specs.Lists.{answersFrom, reportBytes}
 use Rattle.characteristics.proofs.Answers.{answer-bytes, own-size}
 use Rattle.characteristics.proofs.Host.put_report.Statement.{statement}
@@ -32,12 +32,12 @@ answer-size-requires c κs = tt
 -- the size that the code has is the answer's own
 sized : (c : tie.After-answer-size) →
     let args = c .before .before .before .before .before .args in
-    (c .answer-size .result ≡ 4 + length (answersFrom 0 (args .list .now) (hostOf (args .self)))) × (c .answer-size .result ≤ messageArea)
+    (c .answer-size .result ≡ 4 + length (answersFrom 0 (args .list .now) (hostView (args .self)))) × (c .answer-size .result ≤ messageArea)
 sized c =
     let b = c .before .before in
     let args = b .before .before .before .args in
-    own-size (args .list .now) (hostOf (args .self)) fresh (sym (b .carries-questions .ensures fresh) ∙ not-false _ (c .before .if1 .left))
-    (c .answer-size .ensures (hostOf (args .self)))
+    own-size (args .list .now) (hostView (args .self)) fresh (sym (b .carries-questions .ensures fresh) ∙ not-false _ (c .before .if1 .left))
+    (c .answer-size .ensures (hostView (args .self)))
 
 sub-t10 : tie.Need-sub-t10
 sub-t10 c = omega (arith, sized c .0)
@@ -63,7 +63,7 @@ returns-2 c =
     let b = a .before .before in
     let args = b .before .before .before .args in
     equals
-    (answer-bytes (args .list .now) (hostOf (args .self)) (2 + (a .answer-size .result - 4) + 0 + 0) (omega (arith, sized a .0)) ∙
+    (answer-bytes (args .list .now) (hostView (args .self)) (2 + (a .answer-size .result - 4) + 0 + 0) (omega (arith, sized a .0)) ∙
     sym (pick-true _ _ (sym (b .carries-questions .ensures fresh) ∙ not-false _ (a .before .if1 .left))))
     (joins (p1 .put-framed .ensures .front) (p2 .put-answers .ensures))
 

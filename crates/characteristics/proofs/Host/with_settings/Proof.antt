@@ -4,14 +4,14 @@ use native.Mathlib.Omega.{arith}
 use lib.ListN.{length}
 use Rattle.rules.specs.Characteristics.{withParameters}
 use Rattle.parameters.specs.Lists.{parametersFrom}
-use Rattle.characteristics.specs.View.{hostOf, KeepsSettings}
+use Rattle.characteristics.specs.View.{hostView, KeepsSettings}
 use Rattle.characteristics.proofs.Obeying.{obeys-first, obeys-none, kept-then}
 use Rattle.characteristics.proofs.Host.with_settings.Statement.{statement}
 use Rattle.characteristics.proofs.Host.with_settings.Tie as tie
 
 abbrev Inv-loop : tie.InvT-loop
 Inv-loop list host₀ at₀ host at =
-    (withParameters (parametersFrom 11 at list) (hostOf host) ≡ withParameters (parametersFrom 11 0 list) (hostOf host₀)) × KeepsSettings host₀ host
+    (withParameters (parametersFrom 11 at list) (hostView host) ≡ withParameters (parametersFrom 11 0 list) (hostView host₀)) × KeepsSettings host₀ host
 
 abbrev μ-loop : tie.MeasureT-loop
 μ-loop list host₀ at₀ host at = length list - at
@@ -32,12 +32,12 @@ loop-again : tie.Need-loop-again Inv-loop μ-loop
 loop-again c =
     let is = c .before .parameter-at .ensures in
     let a = c .before .before .before in
-    (obeys-first is (hostOf (a .loop .host)) (c .before .before .loop-test .taken) (c .with-setting .ensures .0 _ _ is) ∙ a .loop .inv .0, kept-then (a .loop .inv .1) (c .with-setting .ensures .1))
+    (obeys-first is (hostView (a .loop .host)) (c .before .before .loop-test .taken) (c .with-setting .ensures .0 _ _ is) ∙ a .loop .inv .0, kept-then (a .loop .inv .1) (c .with-setting .ensures .1))
 
 returns : tie.Need-returns Inv-loop μ-loop
 returns c =
     let a = c .before in (
-      sym (obeys-none (a .loop .at) (a .before .before .args .list .now) (hostOf (a .loop .host)) (c .loop-test .left)) ∙ a .loop .inv .0,
+      sym (obeys-none (a .loop .at) (a .before .before .args .list .now) (hostView (a .loop .host)) (c .loop-test .left)) ∙ a .loop .inv .0,
       a .loop .inv .1,
     )
 

@@ -12,7 +12,7 @@ act-of-requires : tie.Need-act-of-requires
 act-of-requires c κs = search needs
 
 returns : tie.Need-returns
-returns c = (λ s l y seen. c .act-of .ensures .0 s l seen, (λ n. absurd (true-false (sym (c .before .if1 .taken) ∙ n)), c .act-of .ensures .1 .0))
+returns c = (λ s l y sees. c .act-of .ensures .0 s l sees, (λ n. absurd (true-false (sym (c .before .if1 .taken) ∙ n)), c .act-of .ensures .1 .0))
 
 returns-2 : tie.Need-returns-2
 returns-2 c = (λ s l y. absurd (true-false (sym y ∙ c .if1 .left)), (λ n. refl, none-of (c .before .args .e)))

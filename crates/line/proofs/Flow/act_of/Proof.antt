@@ -38,7 +38,7 @@ returns : tie.Need-returns
 unfolding eventRule
 returns c =
     let a = c .before .before .before .before .args in (
-      λ s l h. event-meets s (onFlow (a .self) (lent (a .t) (l .text) l)) (a .seen) (c .before .before .e .given .1) h (λ k. c .act-of-key .ensures .0 s l (k .0) (k .1)),
+      λ s l h. event-meets s (onFlow (a .self) (lent (a .t) (l .text) l)) (a .lookup) (c .before .before .e .given .1) h (λ k. c .act-of-key .ensures .0 s l (k .0) (k .1)),
       (kind-as (c .act-of-key .result) (c .before .before .e .given .1) (c .act-of-key .ensures .1), λ m e. absurd (key-host (sym (c .before .before .e .given .1) ∙ e))),
     )
 
@@ -46,7 +46,7 @@ returns-2 : tie.Need-returns-2
 unfolding eventRule
 returns-2 c =
     let a = c .before .before .before .args in (
-      λ s l h. event-meets s (onFlow (a .self) (lent (a .t) (l .text) l)) (a .seen) (c .before .enum-told .given .1) h (λ k. c .act-of-tick .ensures .0 s l k),
+      λ s l h. event-meets s (onFlow (a .self) (lent (a .t) (l .text) l)) (a .lookup) (c .before .enum-told .given .1) h (λ k. c .act-of-tick .ensures .0 s l k),
       (kind-as (c .act-of-tick .result) (c .before .enum-told .given .1) (c .act-of-tick .ensures .1), λ m e. absurd (tick-host (sym (c .before .enum-told .given .1) ∙ e))),
     )
 
@@ -54,7 +54,7 @@ returns-3 : tie.Need-returns-3
 unfolding eventRule
 returns-3 c =
     let a = c .before .before .before .args in (
-      λ s l h. event-meets s (onFlow (a .self) (lent (a .t) (l .text) l)) (a .seen) (c .before .enum-told2 .given .1) h
+      λ s l h. event-meets s (onFlow (a .self) (lent (a .t) (l .text) l)) (a .lookup) (c .before .enum-told2 .given .1) h
           (λ k. c .act-of-step .ensures .0 s l (k .bounded) (k .held) (k .taken)),
       (kind-as (c .act-of-step .result) (c .before .enum-told2 .given .1) (c .act-of-step .ensures .1), λ m e. absurd (step-host (sym (c .before .enum-told2 .given .1) ∙ e))),
     )
@@ -63,7 +63,7 @@ returns-4 : tie.Need-returns-4
 unfolding eventRule
 returns-4 c =
     let a = c .before .before .before .args in (
-      λ s l h. event-meets s (onFlow (a .self) (lent (a .t) (l .text) l)) (a .seen) (c .before .e2 .given .1) h (λ k. met k),
+      λ s l h. event-meets s (onFlow (a .self) (lent (a .t) (l .text) l)) (a .lookup) (c .before .e2 .given .1) h (λ k. met k),
       (host-kind (c .before .e2 .given .0 .0) (c .before .e2 .given .1), λ m e. ap Obeys (event-same (sym (c .before .e2 .given .1) ∙ e))),
     )
 

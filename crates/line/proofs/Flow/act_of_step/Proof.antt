@@ -44,7 +44,7 @@ returns-3 c =
     let pending = not-false (a .self .pending) (c .before .before .before .before .if1 .left) in (
       λ s l bounded held taken.
           let line = onFlow (a .self) (lent (a .t) (l .text) l) in
-          let none = isEmpty-nil _ (keys-empty (a .self .typed .waiting) (l .keys) ∙ eq-eqb _ 0 (c .before .if3 .taken)) in
+          let none = isEmpty-nil _ (keys-empty (a .self .typed .«keys_len») (l .keys) ∙ eq-eqb _ 0 (c .before .if3 .taken)) in
           meets-pending (stepsWhile codes) pending
           (meets-second _ refl (sym held ∙ c .before .before .before .if2 .left)
           (meets-as (ap (λ ks. takesFirst codes ks (readingOf line (a .self .reading)) (view line)) none) (c .act-without-key .ensures .0 s line))),
@@ -58,7 +58,7 @@ returns-4 c =
     let a = start .args in
     let f = a .self in
     let pending = not-false (f .pending) (c .before .before .before .if1 .left) in
-    let waiting = f .typed .waiting in (
+    let waiting = f .typed .«keys_len» in (
       λ s l bounded held taken.
           let line = onFlow f (lent (a .t) (l .text) l) in
           let can : CanTakeKey f (a .t) = record {

@@ -75,7 +75,7 @@ returns-3 c =
     let a = c .before .before .before .before .before .before .before .args in
     carried-as (a .s .now) (view (a .self)) (c .before .before .before .before .m3 .given .1) (questionsIn (spanOf (a .s .now) _)) (held-questions _ _)
     (c .carries-questions .ensures (view (a .self))
-    ∙ ap (λ h. carriesQuestions (withHost (host.hostOf h) (view (a .self))) (questionsIn (c .before .span-of .result .now))) (c .before .before .characteristics .ensures)
+    ∙ ap (λ h. carriesQuestions (withHost (host.hostView h) (view (a .self))) (questionsIn (c .before .span-of .result .now))) (c .before .before .characteristics .ensures)
     ∙ ap (λ bs. carriesQuestions (view (a .self)) (questionsIn bs)) (c .before .span-of .ensures))
 
 returns-4 : tie.Need-returns-4
@@ -84,7 +84,7 @@ returns-4 c =
     let a = c .before .before .before .before .before .before .before .args in
     carried-as (a .s .now) (view (a .self)) (c .before .before .before .before .m4 .given .1) (settingsIn (spanOf (a .s .now) _)) (held-settings _ _)
     (c .carries-settings .ensures
-    ∙ ap (λ h. carriesSettings (host.hostOf h) (settingsIn (c .before .span-of2 .result .now))) (c .before .before .characteristics2 .ensures)
+    ∙ ap (λ h. carriesSettings (host.hostView h) (settingsIn (c .before .span-of2 .result .now))) (c .before .before .characteristics2 .ensures)
     ∙ ap (λ bs. carriesSettings (hostOf (a .self)) (settingsIn bs)) (c .before .span-of2 .ensures))
 
 returns-5 : tie.Need-returns-5

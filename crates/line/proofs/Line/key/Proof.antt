@@ -3,7 +3,7 @@ use mathlib.Core.Path.{refl}
 use mathlib.Core.List.{[]}
 use Rattle.line.specs.declared.events.Event.the-variants.{Key}
 use Rattle.line.proofs.EventRules.{eventOf}
-use Rattle.line.proofs.ActsDone.{keyed-answers, keyed-fits, numbered}
+use Rattle.line.proofs.ActsDone.{keyed-answers, keyed-doable, numbered}
 use borrow.Author.Needs.{needs}
 use Rattle.line.proofs.Line.key.Statement.{statement}
 use Rattle.line.proofs.Line.key.Tie as tie
@@ -36,7 +36,7 @@ acts-on-key-requires c κs =
     let a = start .args in
     let l = a .self in
     let act = c .before .before .before .before .before .before .before .before .act-if .ensures in
-    (start .pre .counted .flow, (start .pre .counted .text, (keyed-fits (Key (a .code)) l (start .pre) (a .terminal .now) (a .messages .now) (omega arith) (c .before .before .before .before .before .before .before .before .before .before .before .before .before .are-roomy .ensures) (λ y. act .0 [] l y (refl, refl)) (act .1 .0), act .1 .1)))
+    (start .pre .counted .flow, (start .pre .counted .text, (keyed-doable (Key (a .code)) l (start .pre) (a .terminal .now) (a .messages .now) (omega arith) (c .before .before .before .before .before .before .before .before .before .before .before .before .before .are-roomy .ensures) (λ y. act .0 [] l y (refl, refl)) (act .1 .0), act .1 .1)))
 
 row-of-requires : tie.Need-row-of-requires
 row-of-requires c κs = search needs

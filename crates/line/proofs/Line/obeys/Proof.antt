@@ -1,5 +1,5 @@
 use mathlib.Core.Path.{refl, sym, subst}
-use Rattle.line.specs.Acts.{Fits}
+use Rattle.line.specs.Acts.{Doable}
 use Rattle.line.proofs.HostAccepted.{startables}
 use Rattle.line.proofs.HostDone.{set-counted, host-answers}
 use borrow.Author.Needs.{needs}
@@ -35,8 +35,8 @@ acts-on-host-requires c κs =
     let next = set .result in
     let counted = set-counted (a .s .now) (a .self) next (a .m) (start .pre .0 .counted) (set .ensures) in
     let act = c .before .before .before .before .before .before .before .before .before .act-of .ensures .1 in
-    let fits = subst (Fits (a .s .now) (next .flow) (next .terms)) (sym (act .1 (a .m) refl)) (startables (a .self) (a .s .now) (a .m) (start .pre .1 .0)) in
-    (counted .flow, (counted .text, (counted .shown, (fits, act .0))))
+    let doable = subst (Doable (a .s .now) (next .flow) (next .terms)) (sym (act .1 (a .m) refl)) (startables (a .self) (a .s .now) (a .m) (start .pre .1 .0)) in
+    (counted .flow, (counted .text, (counted .shown, (doable, act .0))))
 
 same-length : tie.Need-same-length
 same-length c = search needs

@@ -30,7 +30,7 @@ same-length c = search needs
 returns : tie.Need-returns
 returns c =
     let a = c .before .before .before .before .before .before .before .before .before .before .before .args in
-    let bytes = ap₂ (λ h bs. reportBytes (host.hostOf h) bs) (c .before .before .before .before .before .characteristics .ensures) (c .before .before .before .before .span-of .ensures) in
+    let bytes = ap₂ (λ h bs. reportBytes (host.hostView h) bs) (c .before .before .before .before .before .characteristics .ensures) (c .before .before .before .before .span-of .ensures) in
     reported-as (a .s .now) (a .self) (a .messages .now) _ _ (c .before .before .before .before .before .before .before .m .given .1) (equals bytes (c .before .before .put-report .ensures))
 
 returns-2 : tie.Need-returns-2

@@ -7,7 +7,7 @@ use Rattle.characteristics.specs.View.{setOf}
 use Rattle.line.specs.declared.events.Event.the-variants.{Step}
 use Rattle.line.specs.View.{readingOf}
 use Rattle.line.proofs.EventRules.{eventOf}
-use Rattle.line.proofs.ActsDone.{keyed-answers, keyed-fits, numbered}
+use Rattle.line.proofs.ActsDone.{keyed-answers, keyed-doable, numbered}
 use borrow.Author.Needs.{needs}
 use Rattle.line.proofs.Line.step.Statement.{statement}
 use Rattle.line.proofs.Line.step.Tie as tie
@@ -62,7 +62,7 @@ acts-on-step-requires c κs =
     let raised = c .before .before .before .before .before .before .before .before .before .before .raised-by .ensures (l .text) l (l .flow .reading) ∙ ap (raisedBy codes (readingOf l (l .flow .reading))) (c .before .before .before .before .before .before .before .before .before .before .before .code-of .ensures) in
     let ends = c .before .before .before .before .before .before .before .before .before .has .ensures ∙ ap (inSet (setOf (l .set))) raised in
     let act = c .before .before .before .before .before .before .act-if .ensures in
-    (start .pre .counted .flow, (start .pre .counted .text, (keyed-fits Step l (start .pre) (a .terminal .now) (a .messages .now) tt (c .before .before .before .before .before .before .before .before .before .before .before .before .before .before .before .before .before .are-roomy .ensures) (λ y. act .0 [] l y (record { bounded = start .pre; held = c .before .before .before .before .before .before .before .before .is-held .ensures; taken = λ can. c .before .before .before .before .before .before .before .takes .ensures [] l can ends })) (act .1 .0), act .1 .1)))
+    (start .pre .counted .flow, (start .pre .counted .text, (keyed-doable Step l (start .pre) (a .terminal .now) (a .messages .now) tt (c .before .before .before .before .before .before .before .before .before .before .before .before .before .before .before .before .before .are-roomy .ensures) (λ y. act .0 [] l y (record { bounded = start .pre; held = c .before .before .before .before .before .before .before .before .is-held .ensures; taken = λ can. c .before .before .before .before .before .before .before .takes .ensures [] l can ends })) (act .1 .0), act .1 .1)))
 
 row-of-requires : tie.Need-row-of-requires
 row-of-requires c κs = search needs

@@ -2,7 +2,7 @@ use mathlib.Core.Path.{refl}
 use mathlib.Core.List.{[]}
 use Rattle.line.specs.declared.events.Event.the-variants.{Tick}
 use Rattle.line.proofs.EventRules.{eventOf}
-use Rattle.line.proofs.ActsDone.{keyed-answers, keyed-fits, numbered}
+use Rattle.line.proofs.ActsDone.{keyed-answers, keyed-doable, numbered}
 use borrow.Author.Needs.{needs}
 use Rattle.line.proofs.Line.tick.Statement.{statement}
 use Rattle.line.proofs.Line.tick.Tie as tie

@@ -34,7 +34,7 @@ returns c =
       same = c .with-host .ensures;
       settings =
           set .ensures .0
-          ∙ ap (λ h. withParameters (parametersFrom 11 0 (c .before .before .span-of .result .now)) (host.hostOf h)) (c .before .before .before .characteristics .ensures)
+          ∙ ap (λ h. withParameters (parametersFrom 11 0 (c .before .before .span-of .result .now)) (host.hostView h)) (c .before .before .before .characteristics .ensures)
           ∙ ap (λ bs. withParameters (parametersFrom 11 0 bs) (hostOf (a .self))) (c .before .before .span-of .ensures);
       counted = set .ensures .1 .counted (rw (c .before .before .before .characteristics .ensures) (record { table = c .before .before .before .before .before .pre .table; set = c .before .before .before .before .before .pre .lastSet }));
     }

@@ -41,13 +41,13 @@ returns c =
     let shown = c .before .before .before .before .first-shown in
     let from = shown .result in
     let kept = c .before .before .shown-of .result in
-    let part = take (r .count - from) (drop from text) in
-    let short : length part < 2 ^ 60 = omega (arith, length-take (r .count - from) (drop from text), start .pre .within) in
+    let part = take (r .«input_len» - from) (drop from text) in
+    let short : length part < 2 ^ 60 = omega (arith, length-take (r .«input_len» - from) (drop from text), start .pre .within) in
     λ t l.
     let line = lent t text l in
-    c .marks-behind .ensures ∙ counted-whole kept (r .from) part short
-    ∙ ap (λ x. marksBehind kept (r .from) x) (shown .ensures .text line)
-    ∙ ap (λ k. marksBehind k (r .from) (displayed codes (readingOf line r))) (c .before .before .shown-of .ensures)
+    c .marks-behind .ensures ∙ counted-whole kept (r .«display_column») part short
+    ∙ ap (λ x. marksBehind kept (r .«display_column») x) (shown .ensures .text line)
+    ∙ ap (λ k. marksBehind k (r .«display_column») (displayed codes (readingOf line r))) (c .before .before .shown-of .ensures)
 
 pub marks-spec : {M : Type 1} → statement M
 marks-spec =

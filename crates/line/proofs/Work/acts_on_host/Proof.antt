@@ -1,5 +1,5 @@
 use mathlib.Core.Path.{refl, subst}
-use Rattle.line.specs.Acts.{Fits}
+use Rattle.line.specs.Acts.{Doable}
 use Rattle.line.proofs.Turns.{still-does}
 use Rattle.line.proofs.ActsDone.{done-as, rest}
 use borrow.Author.Needs.{needs}
@@ -17,7 +17,7 @@ obeys-requires c κs =
     let start = c .before .before .before .before .before .before .before .before .before in
     let pre = start .pre in
     let a = start .args in
-    (pre .0, (pre .1 .0, (pre .1 .1 .0, subst (Fits (a .s .now) (a .self .flow) (a .t)) (c .before .before .before .act .given .1) (pre .1 .1 .1 .0))))
+    (pre .0, (pre .1 .0, (pre .1 .1 .0, subst (Doable (a .s .now) (a .self .flow) (a .t)) (c .before .before .before .act .given .1) (pre .1 .1 .1 .0))))
 
 same-length : tie.Need-same-length
 same-length c = search needs

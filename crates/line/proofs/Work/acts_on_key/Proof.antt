@@ -3,7 +3,7 @@ use mathlib.Core.List.{[]}
 use Rattle.rules.specs.Numbers.{typeAheadSize}
 use Rattle.rules.specs.Arrival.{stores}
 use Rattle.line.specs.With.{lent}
-use Rattle.line.specs.Acts.{Fits}
+use Rattle.line.specs.Acts.{Doable}
 use Rattle.line.proofs.Turns.{still-does}
 use Rattle.line.proofs.ArrivalLaws.{plain-key}
 use Rattle.line.proofs.ActsDone.{done-as, moved, rest}
@@ -71,7 +71,7 @@ returns c =
     let a = start .args in
     let done = c .before .before .stores .ensures in
     let e = c .before .before .before .before .enum-told .given .1 in
-    (done .0, (λ l. done-as [] (a .t) l (a .self) e (λ size p. plain-key _ (subst (Fits [] (a .self .flow) (a .t)) e (start .pre .1 .1 .0)) (stores typeAheadSize) (done .1 _ (lent (a .t) (a .text .now) l) size _)), λ n. absurd (moved e tt n)))
+    (done .0, (λ l. done-as [] (a .t) l (a .self) e (λ size p. plain-key _ (subst (Doable [] (a .self .flow) (a .t)) e (start .pre .1 .1 .0)) (stores typeAheadSize) (done .1 _ (lent (a .t) (a .text .now) l) size _)), λ n. absurd (moved e tt n)))
 
 same-length-2 : tie.Need-same-length-2
 same-length-2 c = search needs
@@ -82,7 +82,7 @@ returns-2 c =
     let a = start .args in
     let done = c .before .before .stores-quoted .ensures in
     let e = c .before .before .before .before .enum-told2 .given .1 in
-    (done .0, (λ l. done-as [] (a .t) l (a .self) e (λ size p. done .1 _ (subst (Fits [] (a .self .flow) (a .t)) e (start .pre .1 .1 .0)) (lent (a .t) (a .text .now) l) size _), λ n. absurd (moved e tt n)))
+    (done .0, (λ l. done-as [] (a .t) l (a .self) e (λ size p. done .1 _ (subst (Doable [] (a .self .flow) (a .t)) e (start .pre .1 .1 .0)) (lent (a .t) (a .text .now) l) size _), λ n. absurd (moved e tt n)))
 
 same-length-3 : tie.Need-same-length-3
 same-length-3 c = search needs

@@ -1,7 +1,7 @@
 use mathlib.Core.Path.{refl, subst}
 use mathlib.Core.List.{[]}
 use Rattle.line.specs.With.{lent}
-use Rattle.line.specs.Acts.{Fits}
+use Rattle.line.specs.Acts.{Doable}
 use Rattle.line.proofs.Turns.{still-does}
 use Rattle.line.proofs.ActsDone.{done-as, moved, rest}
 use borrow.Author.Needs.{needs}
@@ -20,8 +20,8 @@ takes-token-requires : tie.Need-takes-token-requires
 takes-token-requires c κs =
     let start = c .before .before .before .before .before .before .before .before in
     let a = start .args in
-    let fits = subst (Fits [] (a .self .flow) (a .t)) (c .before .before .enum-told .given .1) (start .pre .1 .1 .0) in
-    (start .pre .0, (record { within = start .pre .0 .within; full = start .pre .1 .0 }, fits))
+    let doable = subst (Doable [] (a .self .flow) (a .t)) (c .before .before .enum-told .given .1) (start .pre .1 .1 .0) in
+    (start .pre .0, (record { within = start .pre .0 .within; full = start .pre .1 .0 }, doable))
 
 enum-known-act : tie.Need-enum-known-act
 enum-known-act c = search needs
@@ -30,8 +30,8 @@ takes-requires : tie.Need-takes-requires
 takes-requires c κs =
     let start = c .before .before .before .before .before .before .before .before .before .before in
     let a = start .args in
-    let fits = subst (Fits [] (a .self .flow) (a .t)) (c .before .before .before .before .act .given .1) (start .pre .1 .1 .0) in
-    (start .pre .0, (start .pre .1 .0, fits))
+    let doable = subst (Doable [] (a .self .flow) (a .t)) (c .before .before .before .before .act .given .1) (start .pre .1 .1 .0) in
+    (start .pre .0, (start .pre .1 .0, doable))
 
 enum-told-2 : tie.Need-enum-told-2
 enum-told-2 c = search needs

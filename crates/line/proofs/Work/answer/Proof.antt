@@ -33,7 +33,7 @@ returns c =
     λ text k l full. (
       answer-held (a .self .flow) (a .t) (a .r) (a .code) (a .ending) text k l full (c .before .before .before .before .before .remains .ensures (k .keys))
           (c .before .before .change .ensures) (c .before .change2 .ensures),
-      text-inside (a .r .count) (length text) (omega (arith, full .within, full .full)),
+      text-inside (a .r .«input_len») (length text) (omega (arith, full .within, full .full)),
     )
 
 pub answer-spec : {M : Type 1} → statement M

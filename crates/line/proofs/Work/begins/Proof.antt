@@ -36,14 +36,14 @@ displays-requires : tie.Need-displays-requires
 displays-requires c κs =
     let pre = c .before .before .before .before .before .before .before .before .before .before .before .before .before .before .before .before .before .before .before .before .before .before .before .before .pre in
     let k = pre .1 .1 .1 in
-    let count = ap (λ r. r .count) (c .before .before .before .before .before .before .before .before .before .before .before .before .before .before .before .before .reading-at .ensures) in
+    let count = ap (λ r. r .«input_len») (c .before .before .before .before .before .before .before .before .before .before .before .before .before .before .before .before .reading-at .ensures) in
     (c .before .before .before .puts-if2 .ensures .0, (record { within = omega (arith, count, k .within, k .largest); full = pre .1 .0 }, pre .1 .1 .0))
 
 completes-if-requires : tie.Need-completes-if-requires
 completes-if-requires c κs =
     let pre = c .before .before .before .before .before .before .before .before .before .before .before .before .before .before .before .before .before .before .before .before .before .before .before .before .before .before .before .before .before .pre in
     let k = pre .1 .1 .1 in
-    let count = ap (λ r. r .count) (c .before .before .before .before .before .before .before .before .before .before .before .before .before .before .before .before .before .before .before .before .before .reading-at .ensures) in
+    let count = ap (λ r. r .«input_len») (c .before .before .before .before .before .before .before .before .before .before .before .before .before .before .before .before .before .before .before .before .before .reading-at .ensures) in
     (c .before .before .before .before .displays .ensures .0, record { within = omega (arith, count, k .within, k .largest); full = pre .1 .0 })
 
 same-length : tie.Need-same-length

@@ -3,7 +3,7 @@ use mathlib.Core.List.{[]}
 use Rattle.line.specs.With.{lent}
 use borrow.Author.Needs.{needs}
 use Rattle.rules.specs.Screen.{rubOut}
-use Rattle.rules.specs.Editing.{hiddenCount, rubbing, deletes}
+use Rattle.rules.specs.Editing.{hiddenCount, rubOutBytes, deletes}
 use Rattle.rules.proofs.Tests.{pick-true, pick-false}
 use Rattle.line.proofs.Turns.{then-does}
 use Rattle.line.proofs.FlowChanges.{same-writes, unwritten-does}
@@ -25,7 +25,7 @@ same-length : tie.Need-same-length
 same-length c = search needs
 
 returns : tie.Need-returns
-unfolding deletes rubbing hiddenCount
+unfolding deletes rubOutBytes hiddenCount
 returns c =
     let test = c .before .before .before .before .before .before .if1 .taken in
     let rubbed = c .before .before .before .rub-out .ensures in
@@ -42,7 +42,7 @@ deletes-unseen-requires-2 : tie.Need-deletes-unseen-requires-2
 deletes-unseen-requires-2 c κs = search needs
 
 returns-2 : tie.Need-returns-2
-unfolding deletes rubbing hiddenCount
+unfolding deletes rubOutBytes hiddenCount
 returns-2 c =
     let deleted = c .deletes-unseen2 .ensures in
     let text = c .before .before .before .before .args .text .now in

@@ -40,7 +40,7 @@ returns c =
     let start = c .before .before .before .before .before .before .before .before .before .before .before .before in
     let a = start .args in
     let text = a .text .now in
-    let left = c .before .before .before .before .before .before .before .before .left-by-127 .ensures ∙ ap (λ n. n - 1) (sym (input-length (a .r .count) text (omega (arith, start .pre .1 .0 .within, start .pre .1 .0 .full)))) in
+    let left = c .before .before .before .before .before .before .before .before .left-by-127 .ensures ∙ ap (λ n. n - 1) (sym (input-length (a .r .«input_len») text (omega (arith, start .pre .1 .0 .within, start .pre .1 .0 .full)))) in
     let done = c .before .before .before .before .erases .ensures in (
       done .0,
       (

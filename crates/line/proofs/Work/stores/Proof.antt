@@ -22,7 +22,7 @@ returns : tie.Need-returns
 unfolding stores
 returns c =
     let start = c .before .before .before .before .before .before in
-    let waiting = start .args .self .flow .typed .waiting in
+    let waiting = start .args .self .flow .typed .«keys_len» in
     let kept = c .keeps .ensures in (
       kept .0,
       λ k l size m.
@@ -39,7 +39,7 @@ returns-2 : tie.Need-returns-2
 unfolding stores
 returns-2 c =
     let self = c .before .before .before .before .before .before .before .before .before .args .self in
-    let waiting = self .flow .typed .waiting in
+    let waiting = self .flow .typed .«keys_len» in
     let full : typeAheadSize ≤ waiting = omega (arith, c .before .before .before .before .if1 .left, type-ahead-size) in
     let dropped = c .before .before .drops in (
       dropped .ensures .0,

@@ -30,7 +30,7 @@ returns c =
       λ k small l size m.
           then-does (terminal-does self _ next (withQuoting false) refl l _ m)
           (quoted-key k small (stores typeAheadSize)
-          (waited-key (done .result .flow) (self .flow) (k + 256) l (ap (λ v. v .flow .typed .waiting) next) (kept .1 (k + 256) l size m))),
+          (waited-key (done .result .flow) (self .flow) (k + 256) l (ap (λ v. v .flow .typed .«keys_len») next) (kept .1 (k + 256) l size m))),
     )
 
 pub stores-quoted-spec : {M : Type 1} → statement M

@@ -22,10 +22,10 @@ returns c =
     let a = c .before .before .before .before .args in
     let f = a .f in
     λ i. record {
-      count = f .«end_of_data» - f .«end_of_prompt»;
+      «input_len» = f .«end_of_data» - f .«end_of_prompt»;
       «low_water» = f .«low_water»;
-      hidden = c .before .hides-lf .ensures i && eqb (f .«end_of_prompt») 0;
-      from = a .column;
+      «hidden_lf» = c .before .hides-lf .ensures i && eqb (f .«end_of_prompt») 0;
+      «display_column» = a .column;
       idle = 0;
     }
 

@@ -16,7 +16,7 @@ returns c =
     let f = c .before .before .before .before .before .before .before .before .before .before .before .before .args .f in
     let k = c .struct-known12 .given in
     twelve
-    (ltb (f .underflow) 4) (ltb (f .clears) 2) (ltb (f .formats) 2) (ltb (f .vertical) 2) (ltb (f .continues) 2) (ltb (f .raises) 4)
+    (ltb (f .underflow) 4) (ltb (f .«clears_type_ahead») 2) (ltb (f .formats) 2) (ltb (f .vertical) 2) (ltb (f .continues) 2) (ltb (f .raises) 4)
     (ltb (f .disables) 8) (ltb (f .silent) 2) (ltb (f .«terminator_echo») 2) (ltb (f .timed) 2) (ltb (f .«set_choice») 4)
     (ltb (f .escapes) 4)
     (both (lt-ltb (f .«max_length») 65536 (omega (arith, k)))

@@ -15,10 +15,11 @@ use Rattle.rules.proofs.Tests.{pick-cases}
 use Rattle.rules.proofs.TwoRuns.Printing.{printing}
 use Rattle.rules.proofs.TwoRuns.Twins.{Twin, isBoth, code₁, code₂, first-chars, second-chars, same-code}
 use Rattle.rules.proofs.TwoRuns.Twins.{LevelRead, Level, isGuarded, RulesAt, Agreeing}
-use Rattle.rules.proofs.TwoRuns.Rules.{level-emptied, agrees-terminal, agrees-then, agrees-still, agrees-changes, agrees-writes, agrees-sends, told-at, told}
-use Rattle.rules.proofs.TwoRuns.Rules.{agrees-pick, by-test, by-code}
+use Rattle.rules.proofs.TwoRuns.Turns.{level-emptied, agrees-terminal, agrees-then, agrees-still, agrees-changes, agrees-writes, agrees-sends, told-at, told}
+use Rattle.rules.proofs.TwoRuns.Turns.{agrees-pick, by-test, by-code}
 use Rattle.rules.proofs.TwoRuns.Bands.{attributeAt, Passed, Initiated}
-use Rattle.rules.proofs.TwoRuns.Reads.{completes-agrees, deletesUnseen-agrees, deletes-agrees}
+use Rattle.rules.proofs.TwoRuns.ReadData.{completes-agrees}
+use Rattle.rules.proofs.TwoRuns.Editing.{deletesUnseen-agrees, deletes-agrees}
 
 module _ {changed : ℕ → Bool} where
   -- Storing: the code is not looked at.

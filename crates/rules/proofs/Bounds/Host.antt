@@ -16,16 +16,16 @@ use Rattle.rules.specs.Calls.{isCarriedBy}
 use Rattle.rules.specs.Bounds.{BoundedRead}
 use Rattle.rules.proofs.Tests.{pick-true, pick-false}
 use Rattle.rules.proofs.Sizes.{writing-room, answer-room, initiate-room, waiting-word}
-use Rattle.rules.proofs.Bounds.Screens.{change-byte}
+use Rattle.rules.proofs.Bounds.Screen.{change-byte}
 use Rattle.rules.proofs.Bounds.Sent.{Sent}
 use Rattle.rules.proofs.Bounds.Turns.{Steady, Fine, fine, roomier, rehosted}
 use Rattle.rules.proofs.Bounds.Turns.{still-good, changes-good, writes-good, sends-good, changes-then, quiet-then, writes-sends, pick-good, only-good}
 use Rattle.rules.proofs.Bounds.Messages.{completion-sent, inputCount-sent, initiate-sent}
-use Rattle.rules.proofs.Bounds.Reads.{bounded-answerable, completes-fine}
-use Rattle.rules.proofs.Bounds.Arrivals.{terminal-same, clearRule-fine}
-use Rattle.rules.proofs.Bounds.Received.{write-text, startable}
-use Rattle.rules.proofs.Bounds.Begins.{startsRead-fine}
-use Rattle.rules.proofs.Bounds.Settings.{settings-fine}
+use Rattle.rules.proofs.Bounds.ReadData.{bounded-answerable, completes-fine}
+use Rattle.rules.proofs.Bounds.Arrival.{terminal-same, clearRule-fine}
+use Rattle.rules.proofs.Bounds.Received.{write-text, accepted-start-read}
+use Rattle.rules.proofs.Bounds.StartRead.{startsRead-fine}
+use Rattle.rules.proofs.Bounds.Characteristics.{settings-fine}
 use Rattle.rules.proofs.Bounds.Reports.{reports-fine}
 
 module _ {s : State ℕ} (h : Steady BoundedRead s) where
@@ -64,7 +64,7 @@ module _ {s : State ℕ} (h : Steady BoundedRead s) where
   unfolding obeys isCarriedBy unreads
   obeys-fine m sent carried =
       pick-good _ _ _ (λ y. initiates-fine) λ n.
-      pick-good _ _ _ (λ y. startsRead-fine m (startable m (eqb-true (m .kind) startRead y) (sym (pick-true _ _ y) ∙ carried) (sent .fit)) h) λ no-start.
+      pick-good _ _ _ (λ y. startsRead-fine m (accepted-start-read m (eqb-true (m .kind) startRead y) (sym (pick-true _ _ y) ∙ carried) (sent .fit)) h) λ no-start.
       pick-good _ _ _ (λ y. unreadsWhile-fine (s .read) m (h .read)) λ n.
       pick-good _ _ _ (λ y. clearRule-fine h) λ n.
       pick-good _ _ _ (λ y. writesOut-fine m (write-text m (eqb-true (m .kind) write y) sent)) λ no-write.

@@ -12,7 +12,7 @@ use Rattle.rules.specs.Choice.{bit, allAre}
 use Rattle.rules.specs.Numbers.{inputSize, topColumn}
 use Rattle.rules.specs.Messages.Forms.{Message}
 use Rattle.rules.specs.Messages.Codec.{allBytes}
-use Rattle.rules.specs.State.{State, codes, withFrom}
+use Rattle.rules.specs.State.{State, codes, withDisplayColumn}
 use Rattle.rules.specs.Editing.{endOf}
 use Rattle.rules.specs.StartRead as fields
 use Rattle.rules.specs.StartRead.{universal, chosenSet}
@@ -23,9 +23,10 @@ use Rattle.rules.proofs.Bounds.Bytes.{bytes-drop}
 use Rattle.rules.proofs.Bounds.Turns.{Steady, Good, Fine, fine, rehosted}
 use Rattle.rules.proofs.Bounds.Turns.{changes-good, writes-good, then-good, quiet-then, then-quiet, writes-sends, only-good}
 use Rattle.rules.proofs.Bounds.Sent.{map-same}
-use Rattle.rules.proofs.Bounds.Reads.{Answerable, Unless, completes-full, displays-good}
-use Rattle.rules.proofs.Bounds.Arrivals.{emptiesTyped-good}
-use Rattle.rules.proofs.Bounds.Received.{Startable}
+use Rattle.rules.proofs.Bounds.ReadData.{Answerable, Unless, completes-full}
+use Rattle.rules.proofs.Bounds.Editing.{displays-good}
+use Rattle.rules.proofs.Bounds.Arrival.{emptiesTyped-good}
+use Rattle.rules.proofs.Bounds.Received.{AcceptedStartRead}
 
 -- A termination set: at most 32 bytes.
 abbrev SetBounded : List ℕ → Type 0
@@ -35,7 +36,7 @@ chosenSet-bounded : (last : List ℕ) (m : Message ℕ) → SetBounded last → 
 unfolding chosenSet universal allBytes allAre
 chosenSet-bounded last m h k = pick-case SetBounded _ (λ y. h) λ n. pick-case SetBounded _ (λ y. k) λ n. (omega arith, refl)
 
-module _ (m : Message ℕ) (known : Startable m) {s : State ℕ} (h : Steady BoundedRead s) where
+module _ (m : Message ℕ) (known : AcceptedStartRead m) {s : State ℕ} (h : Steady BoundedRead s) where
   terms-bounded : BoundedTerms (openedTerms codes m s)
   unfolding openedTerms shownPrompt
   terms-bounded =
@@ -75,7 +76,7 @@ module _ (m : Message ℕ) (known : Startable m) {s : State ℕ} (h : Steady Bou
   abbrev full : Bool
   full = eqb (fields.endOfData m) (fields.maxLength m)
 
-  reading-bounded : (column : ℕ) → column ≤ topColumn → Unless full (some (withFrom column (openedRead codes m s)))
+  reading-bounded : (column : ℕ) → column ≤ topColumn → Unless full (some (withDisplayColumn column (openedRead codes m s)))
   unfolding openedRead dataBehind hidesInput openedTerms shownPrompt endOf
   reading-bounded column top n =
       let end = input-length in
@@ -86,7 +87,7 @@ module _ (m : Message ℕ) (known : Startable m) {s : State ℕ} (h : Steady Bou
         lowWater = omega arith;
         inputBytes = input-bytes;
         idle = λ timed due. due;
-        from = top;
+        displayColumn = top;
       }
 
   begins-good : Good BoundedRead (2 + 8 * inputSize) (10 + inputSize) (begins codes m (openedRead codes m s) s)

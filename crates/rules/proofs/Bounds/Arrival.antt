@@ -19,13 +19,14 @@ use Rattle.rules.proofs.Bounds.Bytes.{no-bytes, one-byte, bytes-append}
 use Rattle.rules.proofs.Bounds.Turns.{OfRead, Steady, Good, Fine, fine, reset, retyped, reread}
 use Rattle.rules.proofs.Bounds.Turns.{still-good, changes-good, writes-good, sends-good, tells-then, changes-then, then-good, quiet-then, pick-good}
 use Rattle.rules.proofs.Bounds.Messages.{discardState-sent, outOfBand-sent}
-use Rattle.rules.proofs.Bounds.Reads.{bounded-answerable, completes-good, deletesUnseen-good, deletes-good}
+use Rattle.rules.proofs.Bounds.ReadData.{bounded-answerable, completes-good}
+use Rattle.rules.proofs.Bounds.Editing.{deletesUnseen-good, deletes-good}
 
 pub idle-bounded : (n : ℕ) (r : Reading ℕ) → (r .terms .timed ≡ true → 0 < r .terms .timeout → n < r .terms .timeout) →
     BoundedReading r → BoundedReading (withIdle n r)
 unfolding endOf
 idle-bounded n r due b =
-    record { terms = b .terms; room = b .room; lowWater = b .lowWater; inputBytes = b .inputBytes; idle = due; from = b .from }
+    record { terms = b .terms; room = b .room; lowWater = b .lowWater; inputBytes = b .inputBytes; idle = due; displayColumn = b .displayColumn }
 
 idleAgain-bounded : (o : Option (Reading ℕ)) → BoundedRead o → BoundedRead (idleAgain o)
 unfolding idleAgain

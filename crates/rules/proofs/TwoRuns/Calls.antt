@@ -1,0 +1,89 @@
+-- Agreement of two runs: a call's answer.
+use Prim.Native.Nat.{ℕ}
+use mathlib.Core.Path.{_≡_, refl}
+use mathlib.Core.Bool.{Bool, true, false}
+use mathlib.Core.List.{List}
+use Rattle.rules.specs.Choice.{firstOf, allAre}
+use Rattle.rules.specs.Messages.Forms.{Message}
+use Rattle.rules.specs.Messages.Codec.{Outcome, refused, sound}
+use Rattle.rules.specs.State.{Characters, State, fresh}
+use Rattle.rules.specs.Turns.{Fate, Rule}
+use Rattle.rules.specs.Arrival.{arrives}
+use Rattle.rules.specs.Calls.{Event, key, step, tick, message, Call, Answer, refuses, does, received, answersMessage, answers, answer}
+use Rattle.rules.proofs.Tests.{pick-both}
+use Rattle.rules.proofs.TwoRuns.Twins.{Twin, isBoth, code₁, code₂, first-chars, second-chars, Level}
+use Rattle.rules.proofs.TwoRuns.Twins.{Spared, Agree, Rules}
+use Rattle.rules.proofs.TwoRuns.Turns.{agrees-still}
+use Rattle.rules.proofs.TwoRuns.Bands.{Passed, Initiated}
+use Rattle.rules.proofs.TwoRuns.Arrival.{arrives-agrees}
+use Rattle.rules.proofs.TwoRuns.Steps.{steps-agrees, ticks-agrees}
+use Rattle.rules.proofs.TwoRuns.Host.{obeys-agrees}
+
+module _ {changed : ℕ → Bool} where
+  pub fresh-level : Level {changed = changed} fresh
+  unfolding fresh allAre
+  fresh-level = record { token = refl; read = tt }
+
+-- What is supposed of a key's arrival: a test of each of its fates, in one run.
+module _ {changed : ℕ → Bool} (arrival : (Twin changed → ℕ) → Fate (Twin changed) → Bool) where
+  -- rule 2 then passes a changed key over
+  abbrev pub Heeded : Type 0
+  Heeded = (chars : Characters (Twin changed)) (c : Twin changed) (s : State (Twin changed)) → isBoth c ≡ false → Initiated s →
+      allAre (arrival (chars .code)) (arrives chars c s .fates) ≡ true → Passed s (chars .code c)
+
+  -- all that is supposed of a run's fates
+  pub record Supposed (code : Twin changed → ℕ) (fs : List (Fate (Twin changed))) : Type 0 where
+    pub arrived : allAre (arrival code) fs ≡ true
+    pub spared : Spared code fs
+
+  record SameAnswer (a b : Answer (Twin changed)) : Type 0 where
+    number : a .number ≡ b .number
+    turn : Supposed code₁ (a .turn .fates) → Supposed code₂ (b .turn .fates) → Agree (a .turn) (b .turn)
+
+  -- from any level state
+  abbrev SameAnswers : (State (Twin changed) → Answer (Twin changed)) → (State (Twin changed) → Answer (Twin changed)) → Type 0
+  SameAnswers f g = (s : State (Twin changed)) → Level s → SameAnswer (f s) (g s)
+
+  does-same : {f g : Rule (Twin changed)} → Rules f g → SameAnswers (does f) (does g)
+  unfolding does
+  does-same p s l = record { number = refl; turn = λ x y. p s l .agreed (x .spared) (y .spared) }
+
+  refuses-same : (n : ℕ) → SameAnswers (refuses n) (refuses n)
+  unfolding refuses
+  refuses-same n s l = record { number = refl; turn = λ x y. agrees-still s l .agreed (x .spared) (y .spared) }
+
+  answersMessage-same : (o : Outcome (Message ℕ)) → SameAnswers (answersMessage first-chars o) (answersMessage second-chars o)
+  unfolding answersMessage
+  answersMessage-same (refused n) = refuses-same n
+  answersMessage-same (sound m) = does-same (obeys-agrees m)
+
+  key-same : Heeded → (c : Twin changed) → SameAnswers (does (arrives first-chars c)) (does (arrives second-chars c))
+  unfolding does
+  key-same heeded c s l =
+      record {
+        number = refl;
+        turn = λ x y.
+            arrives-agrees c s
+            (record {
+              first = λ a b. heeded first-chars c s a b (x .arrived);
+              second = λ a b. heeded second-chars c s a b (y .arrived);
+            })
+            l .agreed (x .spared) (y .spared);
+      }
+
+  answers-same : Heeded → (e : Event (Twin changed)) → SameAnswers (answers first-chars e) (answers second-chars e)
+  unfolding answers
+  answers-same heeded (key c) s l = key-same heeded c s l
+  answers-same heeded step s l = does-same steps-agrees s l
+  answers-same heeded tick s l = does-same ticks-agrees s l
+  answers-same heeded (message bytes) s l = answersMessage-same (received s bytes) s l
+
+  pub agree-answer : Heeded → (c : Call (Twin changed)) (s : State (Twin changed)) → Level s →
+      Supposed code₁ (answer first-chars c s .turn .fates) →
+      Supposed code₂ (answer second-chars c s .turn .fates) →
+      (answer first-chars c s .number ≡ answer second-chars c s .number) ×
+      Agree (answer first-chars c s .turn) (answer second-chars c s .turn)
+  unfolding answer firstOf
+  agree-answer heeded c s l x y =
+      let a = pick-both SameAnswers _ (refuses-same _) (answers-same heeded (c .event)) s l in
+      (a .number, a .turn x y)
