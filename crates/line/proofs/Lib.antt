@@ -14,6 +14,7 @@ mod PendingRead
 mod OurInitiate
 mod StartRead
 mod HostLaws
+mod Unread
 mod HostAccepted
 mod ActsDone
 mod Answers

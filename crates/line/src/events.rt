@@ -61,21 +61,18 @@ pub struct Lookup {
 pub(crate) fn sender_of(m: Message) -> Sender
     ensures { λ r. ⌜ r ≡ senderOf m ⌝ }
 {
-    match m {
-        Message::Initiate(f) => Sender::Host(HostMessage::Initiate(f)),
-        Message::StartRead(f) => Sender::Host(HostMessage::StartRead(f)),
-        Message::Unread { condition } => Sender::Host(HostMessage::Unread(condition)),
-        Message::ClearInput => Sender::Host(HostMessage::ClearInput),
-        Message::Write(f) => Sender::Host(HostMessage::Write(f)),
-        Message::ReadCharacteristics { parameters } => {
-            Sender::Host(HostMessage::ReadCharacteristics(parameters))
-        }
-        Message::Characteristics { parameters } => {
-            Sender::Host(HostMessage::Characteristics(parameters))
-        }
-        Message::CheckInput => Sender::Host(HostMessage::CheckInput),
-        _ => Sender::Server,
-    }
+    let sent = match m {
+        Message::Initiate(f) => HostMessage::Initiate(f),
+        Message::StartRead(f) => HostMessage::StartRead(f),
+        Message::Unread { condition } => HostMessage::Unread(condition),
+        Message::ClearInput => HostMessage::ClearInput,
+        Message::Write(f) => HostMessage::Write(f),
+        Message::ReadCharacteristics { parameters } => HostMessage::ReadCharacteristics(parameters),
+        Message::Characteristics { parameters } => HostMessage::Characteristics(parameters),
+        Message::CheckInput => HostMessage::CheckInput,
+        _ => return Sender::Server,
+    };
+    Sender::Host(sent)
 }
 
 impl Flow {

@@ -32,31 +32,31 @@ enum-told-2 : tie.Need-enum-told-2
 enum-told-2 c = search needs
 
 returns : tie.Need-returns
-returns c = sym (ap senderOf (c .before .m .given .1))
+returns c = server-sends (c .before .args .m) (c .match .keys9)
 
 returns-2 : tie.Need-returns-2
-returns-2 c = sym (ap senderOf (c .before .m2 .given .1))
+returns-2 c = sym (ap senderOf (c .before .m .given .1))
 
 returns-3 : tie.Need-returns-3
-returns-3 c = sym (ap senderOf (c .before .m3 .given .1))
+returns-3 c = sym (ap senderOf (c .before .m2 .given .1))
 
 returns-4 : tie.Need-returns-4
-returns-4 c = sym (ap senderOf (c .enum-told .given .1))
+returns-4 c = sym (ap senderOf (c .before .m3 .given .1))
 
 returns-5 : tie.Need-returns-5
-returns-5 c = sym (ap senderOf (c .before .m4 .given .1))
+returns-5 c = sym (ap senderOf (c .enum-told .given .1))
 
 returns-6 : tie.Need-returns-6
-returns-6 c = sym (ap senderOf (c .before .m5 .given .1))
+returns-6 c = sym (ap senderOf (c .before .m4 .given .1))
 
 returns-7 : tie.Need-returns-7
-returns-7 c = sym (ap senderOf (c .before .m6 .given .1))
+returns-7 c = sym (ap senderOf (c .before .m5 .given .1))
 
 returns-8 : tie.Need-returns-8
-returns-8 c = sym (ap senderOf (c .enum-told2 .given .1))
+returns-8 c = sym (ap senderOf (c .before .m6 .given .1))
 
 returns-9 : tie.Need-returns-9
-returns-9 c = server-sends (c .before .args .m) (c .match .keys9)
+returns-9 c = sym (ap senderOf (c .enum-told2 .given .1))
 
 pub sender-of-spec : {M : Type 1} → statement M
 sender-of-spec =
