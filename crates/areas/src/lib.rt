@@ -54,5 +54,5 @@ pub fn put_bytes(s: &[u8], area: &mut [u8], at: usize) -> usize
 pub fn put_word(n: u16, area: &mut [u8], at: usize) -> usize
     ensures { λ r. ⌜ Puts (bytesOf wordBytes n) (now (area .entry)) at r (now (area .exit)) ⌝ }
 {
-    put_number(layout::WORD, n as u32, area, at)
+    put_number(layout::WORD_BYTES, n as u32, area, at)
 }

@@ -13,9 +13,9 @@ pub struct Switches {
     pub prompting: bool,
 }
 
-// A termination set: its first bytes.
+// A termination set: its first `len` bytes were given; codes behind them are not in it.
 pub struct Set {
-    pub bytes: [u8; rules::SET],
+    pub bytes: [u8; rules::SET_SIZE],
     pub len: u8,
 }
 
@@ -24,7 +24,7 @@ pub struct Host {
     // Initiate was accepted
     pub initiated: bool,
     pub switches: Switches,
-    pub attributes: [u8; rules::CODES],
+    pub attributes: [u8; rules::CODE_COUNT],
     // the last set given with ZZ 1
     pub last_set: Set,
 }

@@ -17,7 +17,7 @@ impl Set {
     pub fn universal() -> Set
         ensures { λ r. ⌜ (setOf r ≡ sets.universal) × CountedSet r ⌝ }
     {
-        let mut bytes = [0u8; rules::SET];
+        let mut bytes = [0u8; rules::SET_SIZE];
         bytes[0] = 0b1111_1111;
         bytes[1] = 0b1111_1100;
         bytes[2] = 0b0101_1011;
@@ -37,6 +37,6 @@ impl Set {
         if self.len <= at {
             return false;
         }
-        (bytes[at as usize] >> (c % CODES_A_BYTE)) % bits::ONE == fields::ON
+        (bytes[at as usize] >> (c % CODES_A_BYTE)) % bits::ONE_BIT == fields::ON
     }
 }

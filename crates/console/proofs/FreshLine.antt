@@ -57,7 +57,7 @@ module _ (keys text : List ℕ) (set : Set) (terms : Terms) (flow : Flow) where
               text = x;
               set = universal-set .1;
               lastSet = universal-set .1;
-              shown = omega arith;
+              prompt = omega arith;
               flow = f .counted;
             };
           };

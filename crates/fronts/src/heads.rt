@@ -26,11 +26,11 @@ use rules::layout;
 const REVISION_SIZE: usize = layout::REVISION_SIZE as usize;
 
 // Fields of FLAGS, by how many values they have.
-const FOUR_BITS: u32 = bits::FOUR as u32;
+const FOUR_BITS: u32 = bits::FOUR_BITS as u32;
 
-const ONE_BIT: u16 = bits::ONE as u16;
+const ONE_BIT: u16 = bits::ONE_BIT as u16;
 
-const TWO_BITS: u16 = bits::TWO as u16;
+const TWO_BITS: u16 = bits::TWO_BITS as u16;
 
 // Eight bytes of a span; 0 for those that it does not have.
 fn put_eight(s: &[u8], p: Span, area: &mut [u8], at: usize) -> usize
@@ -111,7 +111,7 @@ pub(crate) fn put_write(f: WriteFields, s: &[u8], area: &mut [u8], at: usize) ->
     let text = f.text;
     let flags = write_flags(f);
     let next = put_byte(rules::WRITE, area, at);
-    let next = put_number(layout::WRITE_FLAGS, flags, area, next);
+    let next = put_number(layout::WRITE_FLAG_BYTES, flags, area, next);
     let next = put_pair(f.prefix_value, f.postfix_value, area, next);
     put_span(s, text, area, next)
 }

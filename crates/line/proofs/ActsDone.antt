@@ -160,7 +160,7 @@ done-counted l a text r c size f =
       text = size;
       set = c .set;
       lastSet = c .lastSet;
-      shown = c .shown;
+      prompt = c .prompt;
       flow = f;
     }
 

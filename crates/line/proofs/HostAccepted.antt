@@ -158,13 +158,13 @@ abbrev unreported : List ℕ
 unreported = 0 ∷ 1 ∷ 2 ∷ 3 ∷ 4 ∷ 6 ∷ 7 ∷ []
 
 pub nothing-reported : (s : List ℕ) (l : Line) (m : HostMessage) (a : List ℕ) → OneOf unreported (tagOf host-type m) → Reported s m l a 0 a
-nothing-reported s l (Initiate f) a h = record { front = refl; area = refl }
-nothing-reported s l (StartRead f) a h = record { front = refl; area = refl }
-nothing-reported s l (Unread condition) a h = record { front = refl; area = refl }
-nothing-reported s l ClearInput a h = record { front = refl; area = refl }
-nothing-reported s l (Write f) a h = record { front = refl; area = refl }
-nothing-reported s l (Characteristics p) a h = record { front = refl; area = refl }
-nothing-reported s l CheckInput a h = record { front = refl; area = refl }
+nothing-reported s l (Initiate f) a h = record { nothing = refl; area = refl }
+nothing-reported s l (StartRead f) a h = record { nothing = refl; area = refl }
+nothing-reported s l (Unread condition) a h = record { nothing = refl; area = refl }
+nothing-reported s l ClearInput a h = record { nothing = refl; area = refl }
+nothing-reported s l (Write f) a h = record { nothing = refl; area = refl }
+nothing-reported s l (Characteristics p) a h = record { nothing = refl; area = refl }
+nothing-reported s l CheckInput a h = record { nothing = refl; area = refl }
 nothing-reported s l (ReadCharacteristics p) a h = absurd (miss unreported 5 tt h)
 
 -- what is set, or reported, by what the message is found to be

@@ -169,7 +169,7 @@ module _ {s : List ℕ} {f : StartReadFields} (k : Startable s f) where
           prompting = ap (λ x. x .«auto_prompt») t;
           last = z .0;
           size = placed-size (l .text) typed shown full room;
-          shown = omega arith;
+          prompt = omega arith;
           set = c .1;
           lastSet = z .1;
         }

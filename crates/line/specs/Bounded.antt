@@ -34,7 +34,7 @@ pub record Counted (l : Line) : Type 0 where
   pub text : length (l .text) ≡ inputSize
   pub set : CountedSet (l .set)
   pub lastSet : CountedSet (l .«last_set»)
-  pub shown : l .terms .«prompt_len» ≤ inputSize
+  pub prompt : l .terms .«prompt_len» ≤ inputSize
   pub flow : CountedFlow (l .flow)
 
 pub record Bounded (l : Line) : Type 0 where

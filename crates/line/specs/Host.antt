@@ -155,7 +155,7 @@ SetBy s CheckInput l next = next ≡ l
 
 -- A report goes into the message area, up to a place; any other message leaves it alone.
 pub record NoReport (before : List ℕ) (place : ℕ) (after : List ℕ) : Type 0 where
-  pub front : place ≡ 0
+  pub nothing : place ≡ 0
   pub area : after ≡ before
 
 abbrev pub Reported : List ℕ → HostMessage → Line → List ℕ → ℕ → List ℕ → Type 0
@@ -170,6 +170,6 @@ Reported s (Characteristics p) l before place after = NoReport before place afte
 Reported s CheckInput l before place after = NoReport before place after
 
 -- what the host has set, as the characteristics look at it
-abbrev pub hostStruct : Line → Host
-hostStruct l =
+abbrev pub hostIn : Line → Host
+hostIn l =
     record { initiated = l .initiated; switches = l .switches; attributes = l .attributes; «last_set» = l .«last_set» }

@@ -84,6 +84,6 @@ pub record Opens (s : List ℕ) (f : StartReadFields) (l next : Line) : Type 0 w
   pub prompting : next .terms .«auto_prompt» ≡ l .switches .prompting
   pub last : setOf (next .«last_set») ≡ pick (eqb (f .«set_choice») choosesThis) (spanOf s (f .set)) (setOf (l .«last_set»))
   pub size : length (next .text) ≡ inputSize
-  pub shown : next .terms .«prompt_len» ≤ inputSize
+  pub prompt : next .terms .«prompt_len» ≤ inputSize
   pub set : CountedSet (next .set)
   pub lastSet : CountedSet (next .«last_set»)

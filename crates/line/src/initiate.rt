@@ -28,12 +28,12 @@ const REVISION_SIZE: usize = layout::REVISION_SIZE as usize;
 // How many values a byte has.
 const BYTE_VALUES: usize = layout::BYTE_VALUES as usize;
 
-// The parameters: their types, each with its count 2 in one word; the bytes of a value, and one that it does not have; the bytes of all three.
-const MESSAGE_SIZE: u16 = 0x0201;
+// Each parameter's PARMTYPE and its count 2, as one word; VALUE: bytes of a value; NO_BYTE: what stands for a third; PARAMETERS: bytes of all three.
+const MESSAGE_PARAMETER: u16 = 0x0201;
 
-const INPUT_SIZE: u16 = 0x0202;
+const INPUT_PARAMETER: u16 = 0x0202;
 
-const SUPPORTED: u16 = 0x0203;
+const SUPPORTED_PARAMETER: u16 = 0x0203;
 
 const VALUE: usize = 2;
 
@@ -74,9 +74,9 @@ fn put_initiate(area: &mut [u8], at: usize) -> usize
         parameters,
     });
     let next = writing::put_framed(head, &spaces, area, at);
-    let next = put_parameter(MESSAGE_SIZE, rules::MESSAGE, area, next);
-    let next = put_parameter(INPUT_SIZE, rules::INPUT, area, next);
-    put_parameter(SUPPORTED, MESSAGES_1_TO_14, area, next)
+    let next = put_parameter(MESSAGE_PARAMETER, rules::MESSAGE_SIZE, area, next);
+    let next = put_parameter(INPUT_PARAMETER, rules::INPUT_SIZE, area, next);
+    put_parameter(SUPPORTED_PARAMETER, MESSAGES_1_TO_14, area, next)
 }
 
 impl Work {

@@ -72,7 +72,7 @@ impl Reading {
     }
 
     // One character more.
-    pub(crate) fn push(self, text: &mut [u8; rules::INPUT], c: u8) -> Reading
+    pub(crate) fn push(self, text: &mut [u8; rules::INPUT_SIZE], c: u8) -> Reading
         requires { ⌜ CountedReading self (now text) ⌝ }
         requires { ⌜ self .«input_len» < inputSize ⌝ }
         ensures { λ r. ⌜ Appends (c ∷ []) self (now (text .entry)) r (now (text .exit)) ⌝ }
@@ -85,7 +85,7 @@ impl Reading {
     }
 
     // More characters.
-    pub(crate) fn push_all(self, text: &mut [u8; rules::INPUT], cs: &[u8]) -> Reading
+    pub(crate) fn push_all(self, text: &mut [u8; rules::INPUT_SIZE], cs: &[u8]) -> Reading
         requires { ⌜ CountedReading self (now text) ⌝ }
         requires { ⌜ self .«input_len» + length (now cs) ≤ inputSize ⌝ }
         ensures { λ r. ⌜ Appends (now (cs .entry)) self (now (text .entry)) r (now (text .exit)) ⌝ }

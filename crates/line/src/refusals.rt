@@ -44,7 +44,7 @@ pub(crate) fn row_of(roomy: bool) -> u8
 fn is_sound_length(size: usize) -> bool
     ensures { λ r. ⌜ r ≡ soundLength size ⌝ }
 {
-    (1 <= size) & (size <= rules::MESSAGE)
+    (1 <= size) & (size <= rules::MESSAGE_SIZE)
 }
 
 // A type that a host sends.
@@ -147,12 +147,12 @@ impl Line {
             HostMessage::StartRead(f) => carries_start_read(f),
             HostMessage::Write(f) => carries_write(f),
             HostMessage::ReadCharacteristics(parameters) => {
-                let host = self.characteristics();
+                let host = self.host_in();
                 let list = message::span_of(s, parameters);
                 host.carries_questions(list)
             }
             HostMessage::Characteristics(parameters) => {
-                let host = self.characteristics();
+                let host = self.host_in();
                 let list = message::span_of(s, parameters);
                 host.carries_settings(list)
             }

@@ -62,7 +62,7 @@ fn set_of(given: &[u8]) -> Set
     requires { ⌜ length (now given) ≤ setSize ⌝ }
     ensures { λ r. ⌜ (setOf r ≡ now (given .entry)) × CountedSet r ⌝ }
 {
-    let mut held = [0u8; rules::SET];
+    let mut held = [0u8; rules::SET_SIZE];
     let len = bytes::copy(given, &mut held) as u8;
     Set { bytes: held, len }
 }
@@ -143,7 +143,7 @@ fn data_of(f: StartReadFields, s: &[u8]) -> &[u8]
 }
 
 // A piece of a read's text, put at its place.
-fn put_text(text: &mut [u8; rules::INPUT], at: usize, piece: &[u8])
+fn put_text(text: &mut [u8; rules::INPUT_SIZE], at: usize, piece: &[u8])
     requires { ⌜ length (now text) ≡ inputSize ⌝ }
     requires { ⌜ at + length (now piece) ≤ inputSize ⌝ }
     ensures { λ r. ⌜ now (text .exit) ≡ sets (now (text .entry)) at (now (piece .entry)) ⌝ }
@@ -213,7 +213,7 @@ impl Line {
         next.last_set = last_set(last, f, s);
         next.terms = terms;
         put_text(&mut next.text, 0, data);
-        put_text(&mut next.text, rules::INPUT - size, prompt);
+        put_text(&mut next.text, rules::INPUT_SIZE - size, prompt);
         next
     }
 }
@@ -259,7 +259,7 @@ impl Work {
             (now (messages .exit))) ⌝ }
     {
         if full {
-            return self.completes(messages, read_data::BUFFER_FULL, NO_ENDING, r, text, t);
+            return self.completes(messages, read_data::BY_FULL_BUFFER, NO_ENDING, r, text, t);
         }
         self
     }

@@ -11,10 +11,10 @@ mod start_read;
 mod texts;
 
 pub use crate::spans::span_of;
-pub use crate::start_read::start_read_test;
+pub use crate::start_read::is_sound_start_read;
 
 // The last completion code that 000 defines, and the last value of a Write's PP and QQ.
-pub const LAST_CODE: u8 = 13;
+pub const LAST_COMPLETION_CODE: u8 = 13;
 
 pub const LAST_FIX: u8 = 2;
 
@@ -138,8 +138,8 @@ pub fn decode(s: &[u8]) -> Found
     ensures { λ r. ⌜ Finds (now (s .entry)) (asHeld (codec.read (now (s .entry)))) r ⌝ }
 {
     let size = s.len();
-    let fits = (1 <= size) & (size <= rules::MESSAGE);
-    if !fits {
+    let sized = (1 <= size) & (size <= rules::MESSAGE_SIZE);
+    if !sized {
         return Found::Refused(rules::WRONG_LENGTH);
     }
     let kind = fields::byte_at(s, rules::layout::MSGTYPE);
@@ -163,7 +163,7 @@ pub fn decode(s: &[u8]) -> Found
 }
 
 // The number of what was found; of a message it is 0.
-pub fn number_of(f: Found) -> u8
+pub fn found_number(f: Found) -> u8
     ensures { λ r. ⌜ r ≡ foundNumber f ⌝ }
 {
     match f {

@@ -11,7 +11,7 @@ use crate::Span;
 use crate::sizes;
 use crate::spans::rest_from;
 use fields::byte_at;
-use parameters::whole_list;
+use parameters::is_sound_list;
 use rules::layout;
 
 // Initiate's version, in three bytes, and REVISION.
@@ -50,7 +50,7 @@ pub(crate) fn decode_initiate(s: &[u8]) -> Found
     if s.len() < sizes::INITIATE_HEADER {
         return Found::Refused(rules::UNSOUND);
     }
-    if !whole_list(rules::INITIATE, s, sizes::INITIATE_HEADER) {
+    if !is_sound_list(rules::INITIATE, s, sizes::INITIATE_HEADER) {
         return Found::Refused(rules::UNSOUND);
     }
     let f = initiate_fields(s);
@@ -64,7 +64,7 @@ pub(crate) fn decode_read_characteristics(s: &[u8]) -> Found
     if s.len() < sizes::BARE_HEADER {
         return Found::Refused(rules::UNSOUND);
     }
-    if !whole_list(rules::READ_CHARACTERISTICS, s, sizes::BARE_HEADER) {
+    if !is_sound_list(rules::READ_CHARACTERISTICS, s, sizes::BARE_HEADER) {
         return Found::Refused(rules::UNSOUND);
     }
     let parameters = rest_from(s, layout::BARE_HEADER);
@@ -78,7 +78,7 @@ pub(crate) fn decode_characteristics(s: &[u8]) -> Found
     if s.len() < sizes::BARE_HEADER {
         return Found::Refused(rules::UNSOUND);
     }
-    if !whole_list(rules::CHARACTERISTICS, s, sizes::BARE_HEADER) {
+    if !is_sound_list(rules::CHARACTERISTICS, s, sizes::BARE_HEADER) {
         return Found::Refused(rules::UNSOUND);
     }
     let parameters = rest_from(s, layout::BARE_HEADER);

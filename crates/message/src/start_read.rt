@@ -19,11 +19,11 @@ use rules::bits;
 use rules::layout;
 
 // Fields of FLAGS, by how many values they have.
-const ONE_BIT: u32 = bits::ONE as u32;
+const ONE_BIT: u32 = bits::ONE_BIT as u32;
 
-const TWO_BITS: u32 = bits::TWO as u32;
+const TWO_BITS: u32 = bits::TWO_BITS as u32;
 
-const THREE_BITS: u32 = bits::THREE as u32;
+const THREE_BITS: u32 = bits::THREE_BITS as u32;
 
 // Where the fields behind FLAGS stand; behind SET_COUNT begins the termination set.
 const MAX_LENGTH: usize = 4;
@@ -116,7 +116,7 @@ fn less(a: u16, b: u16) -> u16
     if b <= a { a - b } else { 0 }
 }
 
-pub fn start_read_test(f: StartReadFields) -> bool
+pub fn is_sound_start_read(f: StartReadFields) -> bool
     ensures { λ r. ⌜ ((s : List ℕ) → length (spanOf s (f .text)) ≡ f .text .len → r ≡ soundStartRead inputSize (startReadIn s f)) ⌝ }
 {
     let text = f.text;
@@ -131,7 +131,7 @@ pub fn start_read_test(f: StartReadFields) -> bool
         & (f.low_water <= f.end_of_data)
         & (f.start_of_display <= f.end_of_data)
         & (f.end_of_data <= f.max_length)
-        & (largest <= rules::INPUT)
+        & (largest <= rules::INPUT_SIZE)
         & (text.len == shown)
 }
 
@@ -144,12 +144,12 @@ pub(crate) fn decode_start_read(s: &[u8]) -> Found
     }
     let behind = s.len() - SET_COUNT;
     let count = byte_at(s, SET_COUNT) as usize;
-    let whole = (count < behind) & (count <= rules::SET);
+    let whole = (count < behind) & (count <= rules::SET_SIZE);
     if !whole {
         return Found::Refused(rules::UNSOUND);
     }
     let f = start_read_fields(s);
-    if start_read_test(f) {
+    if is_sound_start_read(f) {
         return Found::Message(Message::StartRead(f));
     }
     Found::Refused(rules::UNSOUND)

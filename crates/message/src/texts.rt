@@ -3,7 +3,7 @@ ghost use Rattle.rules.specs.Messages.Forms as forms;
 ghost use Rattle.message.specs.declared.Message.the-variants as variants;
 ghost use Rattle.message.specs.Found.{IsType, FieldsIn, Finds, decodedAs};
 use crate::Found;
-use crate::LAST_CODE;
+use crate::LAST_COMPLETION_CODE;
 use crate::LAST_FIX;
 use crate::Message;
 use crate::ReadDataFields;
@@ -25,9 +25,9 @@ const HORIZONTAL: usize = 5;
 const TERMINATOR: usize = 6;
 
 // Fields of a Write's FLAGS, by how many values they have, and where its other fields stand.
-const ONE_BIT: u16 = bits::ONE as u16;
+const ONE_BIT: u16 = bits::ONE_BIT as u16;
 
-const TWO_BITS: u16 = bits::TWO as u16;
+const TWO_BITS: u16 = bits::TWO_BITS as u16;
 
 const PREFIX_VALUE: usize = 3;
 
@@ -45,8 +45,8 @@ fn read_data_fields(s: &[u8]) -> ReadDataFields
     let terminator = word_at(s, TERMINATOR);
     let text = rest_from(s, layout::READ_DATA_HEADER);
     ReadDataFields {
-        code: flags % bits::FOUR,
-        more: flags / bits::FOUR % bits::ONE,
+        code: flags % bits::FOUR_BITS,
+        more: flags / bits::FOUR_BITS % bits::ONE_BIT,
         low_water,
         vertical,
         horizontal,
@@ -63,7 +63,7 @@ pub(crate) fn decode_read_data(s: &[u8]) -> Found
         return Found::Refused(rules::UNSOUND);
     }
     let f = read_data_fields(s);
-    if LAST_CODE < f.code {
+    if LAST_COMPLETION_CODE < f.code {
         return Found::Refused(rules::UNSOUND);
     }
     Found::Message(Message::ReadData(f))

@@ -13,11 +13,11 @@ use rules::layout;
 // Limits of a byte, by how many of its bits are used.
 const ALL_BITS: u16 = layout::BYTE_VALUES as u16;
 
-const SEVEN_BITS: u16 = bits::SEVEN as u16;
+const SEVEN_BITS: u16 = bits::SEVEN_BITS as u16;
 
-const FOUR_BITS: u16 = bits::FOUR as u16;
+const FOUR_BITS: u16 = bits::FOUR_BITS as u16;
 
-const ONE_BIT: u16 = bits::ONE as u16;
+const ONE_BIT: u16 = bits::ONE_BIT as u16;
 
 const NO_BITS: u16 = 1;
 

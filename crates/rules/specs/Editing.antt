@@ -64,8 +64,8 @@ module _ {C : Type 0} where
       }
 
   -- delete all but the first characters, without rubbing out; every one deleted meets a fate
-  unfoldable pub deletesUnseen : (C → Fate C) → ℕ → Reading C → Rule C
-  deletesUnseen fate left r = tells (map fate (drop left (r .input))) then changes (withRead (some (shortened left r)))
+  unfoldable pub deletesWithoutRubbing : (C → Fate C) → ℕ → Reading C → Rule C
+  deletesWithoutRubbing fate left r = tells (map fate (drop left (r .input))) then changes (withRead (some (shortened left r)))
 
 module _ {C : Type 0} (chars : Characters C) where
   abbrev pub inputCodes : Reading C → List ℕ
@@ -79,7 +79,7 @@ module _ {C : Type 0} (chars : Characters C) where
   rubOutBytes left r = pick (r .terms .echoes) (rubOut (marksBehind (left - hiddenCount r) (r .displayColumn) (displayed r))) []
 
   unfoldable pub deletes : (C → Fate C) → ℕ → Reading C → Rule C
-  deletes fate left r = writes (rubOutBytes left r) then deletesUnseen fate left r
+  deletes fate left r = writes (rubOutBytes left r) then deletesWithoutRubbing fate left r
 
   -- if the read echoes, the echo of what follows the prompt; its display begins here
   unfoldable pub displaysData : Reading C → Rule C

@@ -29,13 +29,13 @@ pub const INPUT_COUNT_HEADER: u16 = 4;
 pub const REVISION_SIZE: u16 = 8;
 
 // bytes of FLAGS, of a Start Read and of a Write, and of a byte and a word
-pub const START_READ_FLAGS: u8 = 3;
+pub const START_READ_FLAG_BYTES: u8 = 3;
 
-pub const WRITE_FLAGS: u8 = 2;
+pub const WRITE_FLAG_BYTES: u8 = 2;
 
 pub const BYTE: u8 = 1;
 
-pub const WORD: u8 = 2;
+pub const WORD_BYTES: u8 = 2;
 
 // how many values a byte has, as in specs/Messages/Layout.antt
 pub const BYTE_VALUES: u32 = 256;

@@ -13,6 +13,6 @@ pub fn put_framed(m: Message, s: &[u8], area: &mut [u8], at: usize) -> usize
 {
     let p = spans_of(m);
     let size = size_of(p);
-    let next = put_number(layout::WORD, size, area, at);
+    let next = put_number(layout::WORD_BYTES, size, area, at);
     put_message(m, s, area, next)
 }

@@ -6,24 +6,24 @@ use message::Message;
 use message::Span;
 use rules::layout;
 
-// `head` is how many bytes stand in front of the list, or of the text; a set has its count among them. A span that a message
+// `header` is how many bytes stand in front of the list, or of the text; a set has its count among them. A span that a message
 // does not have is empty.
 pub(crate) struct Spans {
     pub kind: u8,
-    pub head: u16,
+    pub header: u16,
     pub list: Span,
     pub set: Span,
     pub text: Span,
     pub revision: Span,
 }
 
-fn with_text(kind: u8, head: u16, text: Span) -> Spans
-    ensures { λ r. ⌜ r ≡ withText kind head text ⌝ }
+fn with_text(kind: u8, header: u16, text: Span) -> Spans
+    ensures { λ r. ⌜ r ≡ withText kind header text ⌝ }
 {
     let none = Span { start: 0, len: 0 };
     Spans {
         kind,
-        head,
+        header,
         list: none,
         set: none,
         text,
@@ -31,20 +31,20 @@ fn with_text(kind: u8, head: u16, text: Span) -> Spans
     }
 }
 
-fn bare(kind: u8, head: u16) -> Spans
-    ensures { λ r. ⌜ r ≡ bare kind head ⌝ }
+fn bare(kind: u8, header: u16) -> Spans
+    ensures { λ r. ⌜ r ≡ bare kind header ⌝ }
 {
     let none = Span { start: 0, len: 0 };
-    with_text(kind, head, none)
+    with_text(kind, header, none)
 }
 
-fn with_list(kind: u8, head: u16, list: Span) -> Spans
-    ensures { λ r. ⌜ r ≡ withList kind head list ⌝ }
+fn with_list(kind: u8, header: u16, list: Span) -> Spans
+    ensures { λ r. ⌜ r ≡ withList kind header list ⌝ }
 {
     let none = Span { start: 0, len: 0 };
     Spans {
         kind,
-        head,
+        header,
         list,
         set: none,
         text: none,
@@ -58,7 +58,7 @@ fn initiate_spans(list: Span, revision: Span) -> Spans
     let none = Span { start: 0, len: 0 };
     Spans {
         kind: rules::INITIATE,
-        head: layout::INITIATE_HEADER,
+        header: layout::INITIATE_HEADER,
         list,
         set: none,
         text: none,
@@ -72,7 +72,7 @@ fn start_read_spans(set: Span, text: Span) -> Spans
     let none = Span { start: 0, len: 0 };
     Spans {
         kind: rules::START_READ,
-        head: layout::START_READ_HEADER,
+        header: layout::START_READ_HEADER,
         list: none,
         set,
         text,
@@ -124,7 +124,7 @@ pub(crate) fn size_of(p: Spans) -> u32
     let list = p.list;
     let set = p.set;
     let text = p.text;
-    p.head as u32 + list.len as u32 + set.len as u32 + text.len as u32
+    p.header as u32 + list.len as u32 + set.len as u32 + text.len as u32
 }
 
 // A span lies in a slice of this length.
