@@ -32,8 +32,8 @@ const ONE_BIT: u16 = bits::ONE_BIT as u16;
 
 const TWO_BITS: u16 = bits::TWO_BITS as u16;
 
-// Eight bytes of a span; 0 for those that it does not have.
-fn put_eight(s: &[u8], p: Span, area: &mut [u8], at: usize) -> usize
+// REVISION out of a span; 0 for each byte that it does not have.
+fn put_revision(s: &[u8], p: Span, area: &mut [u8], at: usize) -> usize
     ensures { λ r. ⌜ Puts (writeGroups (replicate revisionSize byte) (spanOf (now (s .entry)) p)) (now (area .entry)) at r (now (area .exit)) ⌝ }
 {
     let t = message::span_of(s, p);
@@ -53,7 +53,7 @@ pub(crate) fn put_initiate(f: InitiateFields, s: &[u8], area: &mut [u8], at: usi
     let next = put_pair(rules::INITIATE, layout::NO_FLAGS, area, at);
     let next = put_pair(f.version, f.eco, area, next);
     let next = put_number(layout::BYTE, f.modification as u32, area, next);
-    put_eight(s, revision, area, next)
+    put_revision(s, revision, area, next)
 }
 
 pub(crate) fn put_read_data(f: ReadDataFields, s: &[u8], area: &mut [u8], at: usize) -> usize
@@ -62,7 +62,7 @@ pub(crate) fn put_read_data(f: ReadDataFields, s: &[u8], area: &mut [u8], at: us
     let text = f.text;
     let flags = f.code as u32 + FOUR_BITS * (f.more as u32);
     let next = put_byte(rules::READ_DATA, area, at);
-    let next = put_number(layout::BYTE, flags, area, next);
+    let next = put_number(layout::FLAG_BYTES, flags, area, next);
     let next = put_word(f.low_water, area, next);
     let next = put_pair(f.vertical, f.horizontal, area, next);
     let next = put_word(f.terminator, area, next);

@@ -7,7 +7,7 @@ use mathlib.Core.List.{List, [], _∷_, reverse, reverse-append, map-id}
 use lib.ListN.{length, getD, take, drop, take-append-drop, length-drop, length-reverse}
 use lib.Seq.{take-suc, take-take, drop-at, length-take-le}
 use Rattle.rules.specs.Choice.{pick}
-use Rattle.rules.specs.Editing.{isWord, leading, leftBy23}
+use Rattle.rules.specs.Editing.{isWord, leading, leftByDeleteWord}
 use Rattle.rules.proofs.Tests.{pick-true, pick-false, pick-case}
 use Rattle.line.specs.declared.Reading.{Reading}
 use Rattle.line.specs.View.{inputOf}
@@ -54,8 +54,8 @@ drop-reverse ns k h =
 
 -- first back over what is of no word, then over a word
 left-by : (text : List ℕ) (end spaces left : ℕ) → end ≤ length text → spaces ≡ before (ofClass false) end text →
-    left ≡ before (ofClass true) spaces text → left ≡ leftBy23 (take end text)
-unfolding leftBy23 ofClass pick
+    left ≡ before (ofClass true) spaces text → left ≡ leftByDeleteWord (take end text)
+unfolding leftByDeleteWord ofClass pick
 left-by text end spaces left h e f =
     let ns = take end text in
     let long : length ns ≡ end = length-take-le end text h in
@@ -72,6 +72,6 @@ pub leaves-23 : (r : Reading) (text : List ℕ) (spaces left : ℕ) → CountedR
 unfolding inputOf
 leaves-23 r text spaces left c e f =
     record {
-      left-by = λ t l. left-by text (r .«input_len») spaces left (omega arith) e f ∙ ap leftBy23 (sym (map-id (take (r .«input_len») text)));
+      left-by = λ t l. left-by text (r .«input_len») spaces left (omega arith) e f ∙ ap leftByDeleteWord (sym (map-id (take (r .«input_len») text)));
       within = omega arith;
     }

@@ -156,7 +156,7 @@ impl Reading {
     }
 
     // How many characters 127 leaves.
-    pub(crate) fn left_by_127(self) -> u16
+    pub(crate) fn left_by_delete(self) -> u16
         ensures { λ r. ⌜ r ≡ self .«input_len» - 1 ⌝ }
     {
         if 0 < self.input_len {
@@ -166,7 +166,7 @@ impl Reading {
     }
 
     // How many characters 23 leaves.
-    pub(crate) fn left_by_23(self, text: &[u8]) -> u16
+    pub(crate) fn left_by_delete_word(self, text: &[u8]) -> u16
         requires { ⌜ CountedReading self (now text) ⌝ }
         ensures { λ r. ⌜ LeftBy23 (now (text .entry)) self r ⌝ }
     {

@@ -44,7 +44,7 @@ pub(crate) fn row_of(roomy: bool) -> u8
 fn is_sound_length(size: usize) -> bool
     ensures { λ r. ⌜ r ≡ soundLength size ⌝ }
 {
-    (1 <= size) & (size <= rules::MESSAGE_SIZE)
+    (rules::SHORTEST_MESSAGE <= size) & (size <= rules::MESSAGE_SIZE)
 }
 
 // A type that a host sends.

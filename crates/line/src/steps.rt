@@ -290,11 +290,11 @@ impl Work {
             (lent t (now (text .exit)) l) w (now (terminal .exit)) (now (messages .exit))) ⌝ }
     {
         if c == DELETE_KEY {
-            let left = r.left_by_127();
+            let left = r.left_by_delete();
             return self.erases(terminal, messages, left, c, r, text, t);
         }
         if c == DELETE_WORD_KEY {
-            let left = r.left_by_23(text);
+            let left = r.left_by_delete_word(text);
             return self.erases(terminal, messages, left, c, r, text, t);
         }
         if c == DELETE_LINE_KEY {

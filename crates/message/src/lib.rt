@@ -138,7 +138,7 @@ pub fn decode(s: &[u8]) -> Found
     ensures { λ r. ⌜ Finds (now (s .entry)) (asHeld (codec.read (now (s .entry)))) r ⌝ }
 {
     let size = s.len();
-    let sized = (1 <= size) & (size <= rules::MESSAGE_SIZE);
+    let sized = (rules::SHORTEST_MESSAGE <= size) & (size <= rules::MESSAGE_SIZE);
     if !sized {
         return Found::Refused(rules::WRONG_LENGTH);
     }

@@ -20,11 +20,24 @@ deleteLineKey = 21
 abbrev pub redisplayKey : ℕ
 redisplayKey = 18
 
+-- the digits and the capital letters
+abbrev pub firstDigit : ℕ
+firstDigit = 48
+
+abbrev pub lastDigit : ℕ
+lastDigit = 57
+
 abbrev pub isDigit : ℕ → Bool
-isDigit n = within 48 57 n
+isDigit n = within firstDigit lastDigit n
+
+abbrev pub firstCapital : ℕ
+firstCapital = 65
+
+abbrev pub lastCapital : ℕ
+lastCapital = 90
 
 abbrev pub isCapital : ℕ → Bool
-isCapital n = within 65 90 n
+isCapital n = within firstCapital lastCapital n
 
 -- word class: ASCII letter or digit, or neither
 unfoldable pub isWord : ℕ → Bool
@@ -36,8 +49,8 @@ leading test [] = 0
 leading test (n ∷ ns) = pick (test n) (1 + leading test ns) 0
 
 -- how many characters 23 leaves: it deletes trailing non-word characters, then word characters
-unfoldable pub leftBy23 : List ℕ → ℕ
-leftBy23 ns =
+unfoldable pub leftByDeleteWord : List ℕ → ℕ
+leftByDeleteWord ns =
     let last = reverse ns in
     let spaces = leading (λ n. not (isWord n)) last in
     length ns - (spaces + leading isWord (drop spaces last))

@@ -13,7 +13,7 @@ use Rattle.rules.specs.Token.{ESC, CSI, standing, isValid, isWhole, isPa
 use Rattle.rules.specs.Turns.{Rule, edit, control, taken, tokened, edited, still, writes, tells, changes, here, _then_, only}
 use Rattle.rules.specs.ReadData.{noEnding, oneEnding, byTerminator, byValidToken, byInvalidToken, byFullBuffer, byTimeout, byUnderflow, byAbsentee}
 use Rattle.rules.specs.ReadData.{tokenCodes, completes}
-use Rattle.rules.specs.Editing.{deleteWordKey, deleteLineKey, redisplayKey, endOf, inputCodes, leftBy23, deletes, redisplays}
+use Rattle.rules.specs.Editing.{deleteWordKey, deleteLineKey, redisplayKey, endOf, inputCodes, leftByDeleteWord, deletes, redisplays}
 
 module _ {C : Type 0} where
   abbrev pub columnNow : State C → ℕ
@@ -104,7 +104,7 @@ module _ {C : Type 0} (chars : Characters C) where
   unfoldable pub edits : C → Reading C → Rule C
   edits c r =
       pick (eqb (chars .code c) DEL) (erases (length (r .input) - 1) c r)
-      (pick (eqb (chars .code c) deleteWordKey) (erases (leftBy23 (inputCodes chars r)) c r)
+      (pick (eqb (chars .code c) deleteWordKey) (erases (leftByDeleteWord (inputCodes chars r)) c r)
       (pick (eqb (chars .code c) deleteLineKey) (erasesAll c r)
       (showsAgain c r)))
 

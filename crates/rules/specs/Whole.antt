@@ -77,7 +77,7 @@ unfolding ReadData.waitingCount ReadData.checksInput ReadData.moreData ReadData.
 openReadData = tt
 
 unfoldable pub openEditing : Unit {0}
-unfolding Editing.isWord Editing.leading Editing.leftBy23 Editing.endOf Editing.hiddenCount Editing.shortened Editing.deletesWithoutRubbing Editing.displayed Editing.rubOutBytes Editing.deletes Editing.displaysData Editing.displays Editing.redisplays
+unfolding Editing.isWord Editing.leading Editing.leftByDeleteWord Editing.endOf Editing.hiddenCount Editing.shortened Editing.deletesWithoutRubbing Editing.displayed Editing.rubOutBytes Editing.deletes Editing.displaysData Editing.displays Editing.redisplays
 openEditing = tt
 
 unfoldable pub openArrival : Unit {0}

@@ -28,7 +28,9 @@ pub const INPUT_COUNT_HEADER: u16 = 4;
 // Initiate's REVISION
 pub const REVISION_SIZE: u16 = 8;
 
-// bytes of FLAGS, of a Start Read and of a Write, and of a byte and a word
+// bytes of FLAGS, of most messages, of a Start Read and of a Write, and of a byte and a word
+pub const FLAG_BYTES: u8 = 1;
+
 pub const START_READ_FLAG_BYTES: u8 = 3;
 
 pub const WRITE_FLAG_BYTES: u8 = 2;

@@ -11,6 +11,9 @@ pub const TOKEN_SIZE: usize = 16;
 
 pub const MESSAGE_SIZE: usize = 256;
 
+// bytes of the shortest message (specs/Messages/Codec.antt)
+pub const SHORTEST_MESSAGE: usize = 1;
+
 pub const TERMINAL_AREA: usize = 4096;
 
 pub const MESSAGE_AREA: usize = 256;

@@ -23,7 +23,7 @@ use Rattle.rules.proofs.TwoRuns.Turns.{agrees-pick, agrees-only, by-tes
 use Rattle.rules.proofs.TwoRuns.Fates.{tokened-both, Safe, taken-safe}
 use Rattle.rules.proofs.TwoRuns.ReadData.{same-token, completes-agrees}
 use Rattle.rules.proofs.TwoRuns.Editing.{deletes-agrees, redisplays-agrees}
-use Rattle.rules.proofs.TwoRuns.Words.{leftBy23-same}
+use Rattle.rules.proofs.TwoRuns.Words.{leftByDeleteWord-same}
 
 module _ {changed : ℕ → Bool} where
   -- Tokens hold no changed key.
@@ -96,7 +96,7 @@ module _ {changed : ℕ → Bool} where
   unfolding edits printing
   edits-agrees c r h =
       by-code DEL refl c (λ b. erases-agrees refl c r h)
-      (by-code 23 refl c (λ b. erases-agrees (leftBy23-same code₁ code₂ same-word (r .input)) c r h)
+      (by-code 23 refl c (λ b. erases-agrees (leftByDeleteWord-same code₁ code₂ same-word (r .input)) c r h)
       (by-code 21 refl c (λ b. erasesAll-agrees c r h)
       (showsAgain-agrees c r h)))
 

@@ -95,8 +95,12 @@ soundAs f bytes =
     wholeTail (f .tail) (behindHead f bytes) &&
     definedFields (fieldsAs f bytes)
 
+-- bytes of the shortest message: a type alone
+abbrev pub shortestMessage : ℕ
+shortestMessage = 1
+
 unfoldable pub soundLength : ℕ → Bool
-soundLength n = within 1 messageSize n
+soundLength n = within shortestMessage messageSize n
 
 -- the refusals of reading, in the table's order
 unfoldable pub readRefusals : List ℕ → List Row

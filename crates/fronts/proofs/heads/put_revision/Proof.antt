@@ -5,8 +5,8 @@ use Rattle.rules.specs.Messages.Layout.{byte, writeGroups}
 use Rattle.areas.proofs.Putting.{Left, equals, all-left, turn, none-left}
 use Rattle.fronts.proofs.Groups.{first-of-run, no-run}
 use mathlib.Core.Path.{ap}
-use Rattle.fronts.proofs.heads.put_eight.Statement.{statement}
-use Rattle.fronts.proofs.heads.put_eight.Tie as tie
+use Rattle.fronts.proofs.heads.put_revision.Statement.{statement}
+use Rattle.fronts.proofs.heads.put_revision.Tie as tie
 
 abbrev Inv-loop : tie.InvT-loop
 Inv-loop s area₀ at t next₀ i₀ area next i = Left (writeGroups (replicate 8 byte) t) area₀ at (writeGroups (replicate (8 - i) byte) (drop i t)) area next
@@ -48,8 +48,8 @@ returns c =
     let s = a .before .span-of .result .now in
     equals (ap (writeGroups (replicate 8 byte)) (a .before .span-of .ensures)) (none-left (no-run s 8 (a .loop .i) (c .loop-test .left)) (a .loop .inv))
 
-pub put-eight-spec : {M : Type 1} → statement M
-put-eight-spec =
+pub put-revision-spec : {M : Type 1} → statement M
+put-revision-spec =
     tie.close
     (tie.spec
     Inv-loop

@@ -1,7 +1,7 @@
 use borrow.Author.Needs.{needs}
 use Rattle.line.proofs.WordDeletion.{leaves-23}
-use Rattle.line.proofs.Reading.left_by_23.Statement.{statement}
-use Rattle.line.proofs.Reading.left_by_23.Tie as tie
+use Rattle.line.proofs.Reading.left_by_delete_word.Statement.{statement}
+use Rattle.line.proofs.Reading.left_by_delete_word.Tie as tie
 
 cast-end : tie.Need-cast-end
 cast-end c = search needs
@@ -20,8 +20,8 @@ returns c =
     let start = c .before .before .before .before in
     leaves-23 (start .args .self) (start .args .text .now) (c .before .end-before .result) _ (start .pre) (c .before .end-before .ensures) (c .end-before2 .ensures)
 
-pub left-by-23-spec : {M : Type 1} → statement M
-left-by-23-spec =
+pub left-by-delete-word-spec : {M : Type 1} → statement M
+left-by-delete-word-spec =
     tie.close
     (tie.spec
     cast-end
