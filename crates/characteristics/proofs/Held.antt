@@ -8,7 +8,7 @@ use Rattle.rules.specs.Messages.Forms as forms
 use Rattle.rules.specs.Messages.Codec.{message}
 use Rattle.rules.specs.State.{Host, State, withHost}
 use Rattle.rules.specs.Calls.{carriesQuestions}
-use Rattle.rules.proofs.Tests.{pick-true}
+use Rattle.rules.proofs.Choice.{pick-true}
 use Rattle.message.specs.declared.Span.{Span}
 use Rattle.message.specs.declared.Message.the-variants.{ReadCharacteristics, Characteristics}
 use Rattle.message.specs.Found.{heldIn, spanOf, listMessage}

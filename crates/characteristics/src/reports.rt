@@ -23,7 +23,7 @@ use message::Message;
 use message::Span;
 use parameters::Parameter;
 use parameters::selectors;
-use rules::layout;
+use rules::forms;
 
 // Bytes of an answer for character attributes, and of a switch.
 const ATTRIBUTE_ANSWER: usize = parameters::HEAD + parameters::LONGEST_VALUE;
@@ -36,7 +36,7 @@ const SWITCH_VALUE: usize = 1;
 const NO_BYTE: u8 = 0;
 
 // Bytes in front of the answers: the message's length, MSGTYPE and FLAGS.
-const FRAMED_HEADER: usize = layout::WORD_BYTES as usize + layout::BARE_HEADER as usize;
+const FRAMED_HEADER: usize = forms::WORD_BYTES as usize + forms::BARE_HEADER as usize;
 
 // How many bytes the answer to one question takes.
 fn size_of_one(n: u16) -> usize

@@ -2,10 +2,10 @@
 ghost use mathlib.Core.Path.{_≡_};
 ghost use Rattle.rules.specs.Choice.{bit};
 ghost use Rattle.rules.specs.Messages.Layout.{wordBytes, byteAt, numberAt};
-use rules::layout;
+use rules::forms;
 
 // How many values a byte has.
-const BYTE_VALUES: u16 = layout::BYTE_VALUES as u16;
+const BYTE_VALUES: u16 = forms::BYTE_VALUES as u16;
 
 pub fn byte_at(s: &[u8], at: usize) -> u8
     ensures { λ r. ⌜ r ≡ byteAt (now (s .entry)) at ⌝ }
@@ -34,7 +34,7 @@ pub fn three_at(s: &[u8], at: usize) -> u32
     }
     let low = byte_at(s, at) as u32;
     let rest = word_at(s, at + 1) as u32;
-    low + layout::BYTE_VALUES * rest
+    low + forms::BYTE_VALUES * rest
 }
 
 // A flag as a number.

@@ -20,10 +20,10 @@ use message::ReadDataFields;
 use message::Span;
 use message::WriteFields;
 use rules::bits;
-use rules::layout;
+use rules::forms;
 
 // Bytes of Initiate's REVISION.
-const REVISION_SIZE: usize = layout::REVISION_SIZE as usize;
+const REVISION_SIZE: usize = forms::REVISION_SIZE as usize;
 
 // Fields of FLAGS, by how many values they have.
 const FOUR_BITS: u32 = bits::FOUR_BITS as u32;
@@ -50,9 +50,9 @@ pub(crate) fn put_initiate(f: InitiateFields, s: &[u8], area: &mut [u8], at: usi
     ensures { λ r. ⌜ Puts (frontBytes (heldIn (now (s .entry)) (variants.Initiate f))) (now (area .entry)) at r (now (area .exit)) ⌝ }
 {
     let revision = f.revision;
-    let next = put_pair(rules::INITIATE, layout::NO_FLAGS, area, at);
+    let next = put_pair(rules::INITIATE, forms::NO_FLAGS, area, at);
     let next = put_pair(f.version, f.eco, area, next);
-    let next = put_number(layout::BYTE, f.modification as u32, area, next);
+    let next = put_number(forms::BYTE, f.modification as u32, area, next);
     put_revision(s, revision, area, next)
 }
 
@@ -62,7 +62,7 @@ pub(crate) fn put_read_data(f: ReadDataFields, s: &[u8], area: &mut [u8], at: us
     let text = f.text;
     let flags = f.code as u32 + FOUR_BITS * (f.more as u32);
     let next = put_byte(rules::READ_DATA, area, at);
-    let next = put_number(layout::FLAG_BYTES, flags, area, next);
+    let next = put_number(forms::FLAG_BYTES, flags, area, next);
     let next = put_word(f.low_water, area, next);
     let next = put_pair(f.vertical, f.horizontal, area, next);
     let next = put_word(f.terminator, area, next);
@@ -111,7 +111,7 @@ pub(crate) fn put_write(f: WriteFields, s: &[u8], area: &mut [u8], at: usize) ->
     let text = f.text;
     let flags = write_flags(f);
     let next = put_byte(rules::WRITE, area, at);
-    let next = put_number(layout::WRITE_FLAG_BYTES, flags, area, next);
+    let next = put_number(forms::WRITE_FLAG_BYTES, flags, area, next);
     let next = put_pair(f.prefix_value, f.postfix_value, area, next);
     put_span(s, text, area, next)
 }
@@ -137,6 +137,6 @@ pub(crate) fn put_write_completion(
 pub(crate) fn put_input_count(count: u16, s: &[u8], area: &mut [u8], at: usize) -> usize
     ensures { λ r. ⌜ Puts (frontBytes (heldIn (now (s .entry)) (variants.InputCount count))) (now (area .entry)) at r (now (area .exit)) ⌝ }
 {
-    let next = put_pair(rules::INPUT_COUNT, layout::NO_FLAGS, area, at);
+    let next = put_pair(rules::INPUT_COUNT, forms::NO_FLAGS, area, at);
     put_word(count, area, next)
 }

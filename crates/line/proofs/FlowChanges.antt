@@ -32,7 +32,7 @@ use Rattle.line.specs.With.{goesOn, onRead, onTyped, offRead, onFlow, le
 use Rattle.line.specs.ReadChanges.{idling, shownAt}
 use Rattle.line.specs.TokenChanges.{codesOf, untokened, tokened}
 use Rattle.line.specs.Promise.{Progress, on, Does}
-use Rattle.rules.proofs.Tests.{pick-true, pick-false}
+use Rattle.rules.proofs.Choice.{pick-true, pick-false}
 use Rattle.line.proofs.Turns.{changes-does, still-does}
 use Rattle.line.proofs.InputAppended.{input-length}
 use Rattle.line.proofs.TokenBytes.{tokened-token}

@@ -21,7 +21,7 @@ use Rattle.rules.specs.Messages.Layout.{byteAt}
 use Rattle.rules.proofs.Outcomes.{refused-sound, readable}
 use borrow.Author.Tests.{not-false}
 use Rattle.rules.proofs.Bounds.Calls.{received-sound}
-use Rattle.rules.proofs.Tests.{pick-true, pick-false, row-behind}
+use Rattle.rules.proofs.Choice.{pick-true, pick-false, row-behind}
 use Rattle.message.specs.declared.Span.{Span}
 use Rattle.message.specs.declared.StartReadFields.{StartReadFields}
 use Rattle.message.specs.Found.{spanOf, startReadIn, heldIn}

@@ -8,11 +8,11 @@ use lib.ListN.{length, getD, take, drop, take-append-drop, length-drop, length-r
 use lib.Seq.{take-suc, take-take, drop-at, length-take-le}
 use Rattle.rules.specs.Choice.{pick}
 use Rattle.rules.specs.Editing.{isWord, leading, leftByDeleteWord}
-use Rattle.rules.proofs.Tests.{pick-true, pick-false, pick-case}
+use Rattle.rules.proofs.Choice.{pick-true, pick-false, pick-case}
 use Rattle.line.specs.declared.Reading.{Reading}
 use Rattle.line.specs.View.{inputOf}
 use Rattle.line.specs.Bounded.{CountedReading}
-use Rattle.line.specs.ReadChanges.{ofClass, LeftBy23}
+use Rattle.line.specs.ReadChanges.{ofClass, LeftByDeleteWord}
 
 -- where the characters that pass a test at the end begin
 abbrev pub before : (ℕ → Bool) → ℕ → List ℕ → ℕ
@@ -68,7 +68,7 @@ left-by text end spaces left h e f =
     omega arith
 
 pub leaves-23 : (r : Reading) (text : List ℕ) (spaces left : ℕ) → CountedReading r text → spaces ≡ before (ofClass false) (r .«input_len») text →
-    left ≡ before (ofClass true) spaces text → LeftBy23 text r left
+    left ≡ before (ofClass true) spaces text → LeftByDeleteWord text r left
 unfolding inputOf
 leaves-23 r text spaces left c e f =
     record {

@@ -39,7 +39,7 @@ pub record ShownFrom (r : Reading) (start : ℕ) : Type 0 where
   pub within : start ≤ r .«input_len»
 
 -- what 23 leaves of it
-pub record LeftBy23 (text : List ℕ) (r : Reading) (left : ℕ) : Type 0 where
+pub record LeftByDeleteWord (text : List ℕ) (r : Reading) (left : ℕ) : Type 0 where
   pub left-by : (t : Terms) (l : Line) → left ≡ leftByDeleteWord (inputCodes rules.codes (readingOf (lent t text l) r))
   pub within : left ≤ r .«input_len»
 

@@ -14,7 +14,7 @@ use message::InitiateFields;
 use message::Message;
 use message::Span;
 use rules::characters;
-use rules::layout;
+use rules::forms;
 
 // VERSION, ECO and MOD.
 const VERSION: u8 = 1;
@@ -23,10 +23,10 @@ const ECO: u8 = 0;
 
 const MODIFICATION: u8 = 0;
 
-const REVISION_SIZE: usize = layout::REVISION_SIZE as usize;
+const REVISION_SIZE: usize = forms::REVISION_SIZE as usize;
 
 // How many values a byte has.
-const BYTE_VALUES: usize = layout::BYTE_VALUES as usize;
+const BYTE_VALUES: usize = forms::BYTE_VALUES as usize;
 
 // Each parameter's PARMTYPE and its count 2, as one word; VALUE: bytes of a value; NO_BYTE: what stands for a third; PARAMETERS: bytes of all three.
 const MESSAGE_PARAMETER: u16 = 0x0201;
@@ -60,10 +60,10 @@ fn put_initiate(area: &mut [u8], at: usize) -> usize
     let spaces = [characters::SP; REVISION_SIZE];
     let revision = Span {
         start: 0,
-        len: layout::REVISION_SIZE,
+        len: forms::REVISION_SIZE,
     };
     let parameters = Span {
-        start: layout::REVISION_SIZE,
+        start: forms::REVISION_SIZE,
         len: PARAMETERS,
     };
     let head = Message::Initiate(InitiateFields {

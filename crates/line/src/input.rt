@@ -13,7 +13,7 @@ ghost use Rattle.line.specs.declared.Line.{Line};
 ghost use Rattle.line.specs.View.{readingOf};
 ghost use Rattle.line.specs.With.{lent};
 ghost use Rattle.line.specs.Bounded.{CountedReading};
-ghost use Rattle.line.specs.ReadChanges.{Shortened, Appends, ShownFrom, LeftBy23, ofClass, idling, shownAt};
+ghost use Rattle.line.specs.ReadChanges.{Shortened, Appends, ShownFrom, LeftByDeleteWord, ofClass, idling, shownAt};
 use crate::Reading;
 use crate::Terms;
 
@@ -168,7 +168,7 @@ impl Reading {
     // How many characters 23 leaves.
     pub(crate) fn left_by_delete_word(self, text: &[u8]) -> u16
         requires { ⌜ CountedReading self (now text) ⌝ }
-        ensures { λ r. ⌜ LeftBy23 (now (text .entry)) self r ⌝ }
+        ensures { λ r. ⌜ LeftByDeleteWord (now (text .entry)) self r ⌝ }
     {
         let end = self.input_len as usize;
         let spaces = end_before(text, end, false);

@@ -119,7 +119,7 @@ pub(crate) fn early_row(
 {
     let roomy = are_roomy(terminal, messages);
     let sized = is_sound_length(s.len());
-    let kind = fields::byte_at(s, rules::layout::MSGTYPE);
+    let kind = fields::byte_at(s, rules::forms::MSGTYPE);
     let hosts = is_hosts(kind);
     let timely = is_timely(kind, initiated, pending);
     first_row(roomy, sized, hosts, timely)

@@ -12,7 +12,7 @@ use Rattle.rules.specs.Messages.Layout.{byteAt, sizeOf}
 use Rattle.rules.specs.Messages.Parameters.{Shape, cleaned, cut}
 use Rattle.rules.specs.Messages.Forms.{Message, Tail, nothing, text, list, formOf, startRead, readData, write}
 use Rattle.rules.specs.Messages.Codec.{Outcome, Held, message, sound, refused, definedFields, soundAs, fieldsAs, wholeTail, behindHead, setIn, parametersIn, textIn}
-use Rattle.rules.proofs.Tests.{both, thirds, pick-true, pick-false}
+use Rattle.rules.proofs.Choice.{both, thirds, pick-true, pick-false}
 use Rattle.message.specs.declared.Span.{Span}
 use Rattle.message.specs.declared.Message as declared
 use Rattle.message.specs.declared.Found.the-variants as found

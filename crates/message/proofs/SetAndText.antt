@@ -12,7 +12,7 @@ use Rattle.rules.specs.Choice.{allAre}
 use Rattle.rules.specs.Messages.Layout.{word, byteAt, sizeOf, numberAt}
 use Rattle.rules.specs.Messages.Forms.{setAndText, forms, formOf, startReadWidths}
 use Rattle.rules.specs.Messages.Codec.{message, behindHead, wholeTail, definedFields, soundAs, fieldsAs, setIn, parametersIn, textIn}
-use Rattle.rules.proofs.Tests.{both, halves, thirds}
+use Rattle.rules.proofs.Choice.{both, halves, thirds}
 use Rattle.message.specs.declared.Span.{Span}
 use Rattle.message.specs.declared.StartReadFields.{StartReadFields}
 use Rattle.message.specs.Found.{RestFrom, FlagsAre, StartReadIs, spanOf, startReadIn, heldIn, spanListOf, lies}

@@ -7,7 +7,7 @@ use crate::sizes;
 use fields::byte_at;
 use fields::word_at;
 use rules::bits;
-use rules::layout::FLAGS;
+use rules::forms::FLAGS;
 
 // Out-of-Band's CHARACTER, Write Completion's HORIZONTAL-POS and VERTICAL-POS, and Input Count's COUNT.
 const CHARACTER: usize = 2;

@@ -142,7 +142,7 @@ pub fn decode(s: &[u8]) -> Found
     if !sized {
         return Found::Refused(rules::WRONG_LENGTH);
     }
-    let kind = fields::byte_at(s, rules::layout::MSGTYPE);
+    let kind = fields::byte_at(s, rules::forms::MSGTYPE);
     match kind {
         rules::INITIATE => listed::decode_initiate(s),
         rules::START_READ => start_read::decode_start_read(s),

@@ -16,7 +16,7 @@ use fields::byte_at;
 use fields::three_at;
 use fields::word_at;
 use rules::bits;
-use rules::layout;
+use rules::forms;
 
 // Fields of FLAGS, by how many values they have.
 const ONE_BIT: u32 = bits::ONE_BIT as u32;
@@ -53,7 +53,7 @@ const LAST_DISABLE: u8 = 3;
 fn start_read_flags(s: &[u8], set: Span, text: Span) -> StartReadFields
     ensures { λ r. ⌜ FlagsAre (now (s .entry)) set text r ⌝ }
 {
-    let flags = three_at(s, layout::FLAGS);
+    let flags = three_at(s, forms::FLAGS);
     let clears_type_ahead = flags / TWO_BITS;
     let formats = clears_type_ahead / ONE_BIT;
     let vertical = formats / ONE_BIT;
@@ -95,10 +95,10 @@ fn start_read_fields(s: &[u8]) -> StartReadFields
 {
     let count = byte_at(s, SET_COUNT) as u16;
     let set = Span {
-        start: layout::START_READ_HEADER,
+        start: forms::START_READ_HEADER,
         len: count,
     };
-    let text = rest_from(s, layout::START_READ_HEADER + count);
+    let text = rest_from(s, forms::START_READ_HEADER + count);
     let mut f = start_read_flags(s, set, text);
     f.max_length = word_at(s, MAX_LENGTH);
     f.end_of_data = word_at(s, END_OF_DATA);

@@ -13,7 +13,7 @@ use crate::spans::rest_from;
 use fields::byte_at;
 use fields::word_at;
 use rules::bits;
-use rules::layout;
+use rules::forms;
 
 // Where the fields of a Read Data stand.
 const LOW_WATER: usize = 2;
@@ -38,12 +38,12 @@ fn read_data_fields(s: &[u8]) -> ReadDataFields
     requires { ⌜ IsType forms.readData (now s) ⌝ }
     ensures { λ r. ⌜ FieldsIn forms.readData (now (s .entry)) (variants.ReadData r) ⌝ }
 {
-    let flags = byte_at(s, layout::FLAGS);
+    let flags = byte_at(s, forms::FLAGS);
     let low_water = word_at(s, LOW_WATER);
     let vertical = byte_at(s, VERTICAL);
     let horizontal = byte_at(s, HORIZONTAL);
     let terminator = word_at(s, TERMINATOR);
-    let text = rest_from(s, layout::READ_DATA_HEADER);
+    let text = rest_from(s, forms::READ_DATA_HEADER);
     ReadDataFields {
         code: flags % bits::FOUR_BITS,
         more: flags / bits::FOUR_BITS % bits::ONE_BIT,
@@ -73,7 +73,7 @@ fn write_fields(s: &[u8]) -> WriteFields
     requires { ⌜ IsType forms.write (now s) ⌝ }
     ensures { λ r. ⌜ FieldsIn forms.write (now (s .entry)) (variants.Write r) ⌝ }
 {
-    let flags = word_at(s, layout::FLAGS);
+    let flags = word_at(s, forms::FLAGS);
     let newline = flags / TWO_BITS;
     let keeps_output = newline / ONE_BIT;
     let first = keeps_output / ONE_BIT;
@@ -84,7 +84,7 @@ fn write_fields(s: &[u8]) -> WriteFields
     let transparent = wants_completion / ONE_BIT;
     let prefix_value = byte_at(s, PREFIX_VALUE);
     let postfix_value = byte_at(s, POSTFIX_VALUE);
-    let text = rest_from(s, layout::WRITE_HEADER);
+    let text = rest_from(s, forms::WRITE_HEADER);
     WriteFields {
         lock: (flags % TWO_BITS) as u8,
         newline: (newline % ONE_BIT) as u8,

@@ -9,7 +9,7 @@ use crate::limits::defined_selector;
 use crate::limits::limits_at;
 use fields::byte_at;
 use fields::word_at;
-use rules::layout;
+use rules::forms;
 
 mod limits;
 mod put;
@@ -30,7 +30,7 @@ const SECOND: usize = HEAD + 1;
 const THIRD: usize = HEAD + 2;
 
 // How many values a byte has.
-const BYTE_VALUES: u16 = layout::BYTE_VALUES as u16;
+const BYTE_VALUES: u16 = forms::BYTE_VALUES as u16;
 
 // The values of INPUT-COUNT-STATE.
 const FIRST_COUNT_STATE: u16 = 1;

@@ -8,10 +8,10 @@ use crate::selectors;
 use fields::byte_at;
 use fields::word_at;
 use rules::bits;
-use rules::layout;
+use rules::forms;
 
 // Limits of a byte, by how many of its bits are used.
-const ALL_BITS: u16 = layout::BYTE_VALUES as u16;
+const ALL_BITS: u16 = forms::BYTE_VALUES as u16;
 
 const SEVEN_BITS: u16 = bits::SEVEN_BITS as u16;
 
@@ -59,7 +59,7 @@ fn question_limits(n: u16) -> Limits
     ensures { λ r. ⌜ LimitsAre (questionLimits n) r ⌝ }
 {
     if n == selectors::CHARACTER_ATTRIBUTES {
-        return Limits(layout::BYTE, ALL_BITS, NO_BITS, NO_BITS);
+        return Limits(forms::BYTE, ALL_BITS, NO_BITS, NO_BITS);
     }
     Limits(NO_VALUE, NO_BITS, NO_BITS, NO_BITS)
 }
@@ -71,13 +71,13 @@ fn setting_limits(n: u16) -> Limits
         return Limits(ATTRIBUTES_VALUE, ALL_BITS, ALL_BITS, SEVEN_BITS);
     }
     if n == selectors::INPUT_COUNT_STATE {
-        return Limits(layout::WORD_BYTES, ALL_BITS, ALL_BITS, NO_BITS);
+        return Limits(forms::WORD_BYTES, ALL_BITS, ALL_BITS, NO_BITS);
     }
     if n == selectors::ERROR_PROCESSING {
-        return Limits(layout::BYTE, FOUR_BITS, NO_BITS, NO_BITS);
+        return Limits(forms::BYTE, FOUR_BITS, NO_BITS, NO_BITS);
     }
     if defined_selector(n) {
-        return Limits(layout::BYTE, ONE_BIT, NO_BITS, NO_BITS);
+        return Limits(forms::BYTE, ONE_BIT, NO_BITS, NO_BITS);
     }
     Limits(NO_VALUE, NO_BITS, NO_BITS, NO_BITS)
 }

@@ -1,7 +1,7 @@
 // The numbers of page 01 and 000 for the crates above. First the sizes, as in specs/Numbers.antt.
 pub mod bits;
 pub mod characters;
-pub mod layout;
+pub mod forms;
 
 pub const INPUT_SIZE: usize = 132;
 

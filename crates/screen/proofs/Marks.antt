@@ -12,7 +12,7 @@ use borrow.Author.Tests.{leb-true}
 use Rattle.rules.specs.Choice.{pick, allAre}
 use Rattle.rules.specs.Numbers.{topColumn}
 use Rattle.rules.specs.Screen.{SP, isMark, toTab, columnAfter, columnAfterAll, echo, echoAll, marksBehind}
-use Rattle.rules.proofs.Tests.{pick-true, pick-false, pick-case, within-true, both, all-cons}
+use Rattle.rules.proofs.Choice.{pick-true, pick-false, pick-case, within-true, both, all-cons}
 use Rattle.rules.proofs.Bounds.Screen.{echoAll-length}
 use Rattle.screen.specs.View.{capped}
 use Rattle.screen.proofs.Cases.{column-mark}

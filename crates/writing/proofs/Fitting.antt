@@ -12,7 +12,7 @@ use Rattle.rules.specs.Messages.Forms.{forms, formOf}
 use Rattle.rules.specs.Messages.Codec.{allBytes, definedFields, fitsTail, fitsAs, fitsHeld}
 use Rattle.rules.specs.Numbers.{inputSize}
 use Rattle.rules.specs.StartRead.{soundStartRead}
-use Rattle.rules.proofs.Tests.{both, all-split}
+use Rattle.rules.proofs.Choice.{both, all-split}
 use Rattle.message.specs.declared.Span.{Span}
 use Rattle.message.specs.declared.Message.{Message}
 use Rattle.message.specs.declared.Message.the-variants.{StartRead, OutOfBand, Unread, WriteCompletion, DiscardState, InputCount, InputState}

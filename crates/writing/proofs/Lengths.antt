@@ -17,9 +17,9 @@ use Rattle.rules.specs.Messages.Parameters.{Shape, initiation, question, settin
 use Rattle.rules.specs.Messages.Forms as forms
 use Rattle.rules.specs.Messages.Forms.{Tail, nothing, text, setAndText, list, Form, formOf}
 use Rattle.rules.specs.Messages.Codec.{tailBytes, bytesAs, heldBytes}
-use Rattle.rules.proofs.Tests.{both, quarters, all-cons}
+use Rattle.rules.proofs.Choice.{both, quarters, all-cons}
 use Rattle.rules.proofs.Fields.{length-writeGroups}
-use Rattle.rules.proofs.ParameterLists.{joined-cut}
+use Rattle.rules.proofs.Parameters.{joined-cut}
 use Rattle.message.specs.declared.Span.{Span}
 use Rattle.message.specs.declared.Message.{Message}
 use Rattle.message.specs.declared.Message.the-variants.{Initiate, StartRead, ReadData, OutOfBand, Unread, ClearInput, Write}

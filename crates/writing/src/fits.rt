@@ -16,7 +16,7 @@ use message::Span;
 use message::StartReadFields;
 use message::WriteFields;
 use rules::bits;
-use rules::layout;
+use rules::forms;
 
 // The most bytes of a termination set.
 const SET_SIZE: u16 = rules::SET_SIZE as u16;
@@ -83,7 +83,7 @@ fn fits_initiate(f: InitiateFields, s: &[u8]) -> bool
     let revision = f.revision;
     let parameters = f.parameters;
     let whole = fits_list(rules::INITIATE, parameters, s);
-    (revision.len == layout::REVISION_SIZE) & whole
+    (revision.len == forms::REVISION_SIZE) & whole
 }
 
 pub(crate) fn fits_message(m: Message, s: &[u8]) -> bool

@@ -4,7 +4,7 @@ ghost use Rattle.message.specs.Found.{lies};
 ghost use Rattle.writing.specs.Spans.{spansOf, spannedSize, inside, bare, withText, withList, initiateSpans, startReadSpans};
 use message::Message;
 use message::Span;
-use rules::layout;
+use rules::forms;
 
 // `header` is how many bytes stand in front of the list, or of the text; a set has its count among them. A span that a message
 // does not have is empty.
@@ -58,7 +58,7 @@ fn initiate_spans(list: Span, revision: Span) -> Spans
     let none = Span { start: 0, len: 0 };
     Spans {
         kind: rules::INITIATE,
-        header: layout::INITIATE_HEADER,
+        header: forms::INITIATE_HEADER,
         list,
         set: none,
         text: none,
@@ -72,7 +72,7 @@ fn start_read_spans(set: Span, text: Span) -> Spans
     let none = Span { start: 0, len: 0 };
     Spans {
         kind: rules::START_READ,
-        header: layout::START_READ_HEADER,
+        header: forms::START_READ_HEADER,
         list: none,
         set,
         text,
@@ -86,34 +86,34 @@ pub(crate) fn spans_of(m: Message) -> Spans
     match m {
         Message::Initiate(f) => initiate_spans(f.parameters, f.revision),
         Message::StartRead(f) => start_read_spans(f.set, f.text),
-        Message::ReadData(f) => with_text(rules::READ_DATA, layout::READ_DATA_HEADER, f.text),
+        Message::ReadData(f) => with_text(rules::READ_DATA, forms::READ_DATA_HEADER, f.text),
         Message::OutOfBand {
             discard: _,
             character: _,
-        } => bare(rules::OUT_OF_BAND, layout::OUT_OF_BAND_HEADER),
-        Message::Unread { condition: _ } => bare(rules::UNREAD, layout::BARE_HEADER),
-        Message::ClearInput => bare(rules::CLEAR_INPUT, layout::BARE_HEADER),
-        Message::Write(f) => with_text(rules::WRITE, layout::WRITE_HEADER, f.text),
+        } => bare(rules::OUT_OF_BAND, forms::OUT_OF_BAND_HEADER),
+        Message::Unread { condition: _ } => bare(rules::UNREAD, forms::BARE_HEADER),
+        Message::ClearInput => bare(rules::CLEAR_INPUT, forms::BARE_HEADER),
+        Message::Write(f) => with_text(rules::WRITE, forms::WRITE_HEADER, f.text),
         Message::WriteCompletion {
             lost: _,
             horizontal: _,
             vertical: _,
-        } => bare(rules::WRITE_COMPLETION, layout::WRITE_COMPLETION_HEADER),
-        Message::DiscardState { kept: _ } => bare(rules::DISCARD_STATE, layout::BARE_HEADER),
+        } => bare(rules::WRITE_COMPLETION, forms::WRITE_COMPLETION_HEADER),
+        Message::DiscardState { kept: _ } => bare(rules::DISCARD_STATE, forms::BARE_HEADER),
         Message::ReadCharacteristics { parameters } => with_list(
             rules::READ_CHARACTERISTICS,
-            layout::BARE_HEADER,
+            forms::BARE_HEADER,
             parameters,
         ),
         Message::Characteristics { parameters } => with_list(
             rules::CHARACTERISTICS,
-            layout::BARE_HEADER,
+            forms::BARE_HEADER,
             parameters,
         ),
-        Message::CheckInput => bare(rules::CHECK_INPUT, layout::BARE_HEADER),
-        Message::InputCount { count: _ } => bare(rules::INPUT_COUNT, layout::INPUT_COUNT_HEADER),
-        Message::InputState { nonzero: _ } => bare(rules::INPUT_STATE, layout::BARE_HEADER),
-        Message::Other { kind, body } => with_text(kind, layout::TYPE_HEADER, body),
+        Message::CheckInput => bare(rules::CHECK_INPUT, forms::BARE_HEADER),
+        Message::InputCount { count: _ } => bare(rules::INPUT_COUNT, forms::INPUT_COUNT_HEADER),
+        Message::InputState { nonzero: _ } => bare(rules::INPUT_STATE, forms::BARE_HEADER),
+        Message::Other { kind, body } => with_text(kind, forms::TYPE_HEADER, body),
     }
 }
 

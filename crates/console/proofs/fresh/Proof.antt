@@ -1,5 +1,5 @@
 use mathlib.Core.Path.{sym}
-use Rattle.rules.proofs.Sizes.{input-size, type-ahead-size}
+use Rattle.rules.proofs.Numbers.{input-size, type-ahead-size}
 use Rattle.console.proofs.FreshLine.{is-fresh}
 use borrow.Author.Needs.{needs}
 use Rattle.console.proofs.fresh.Statement.{statement}

@@ -11,7 +11,7 @@ use Rattle.rules.specs.State.{Reading, State, codes, withDisplayColumn}
 use Rattle.rules.specs.Turns.{Fate}
 use Rattle.rules.specs.Editing.{endOf, hiddenCount, inputCodes, shortened, deletesWithoutRubbing, displayed, rubOutBytes, deletes, displaysData, displays, redisplays}
 use Rattle.rules.specs.Bounds.{BoundedReading, BoundedRead}
-use Rattle.rules.proofs.Tests.{pick-case}
+use Rattle.rules.proofs.Choice.{pick-case}
 use Rattle.rules.proofs.Bounds.Bytes.{bytes-take}
 use Rattle.rules.proofs.Bounds.Screen.{echoAll-length, rubbed-length}
 use Rattle.rules.proofs.Bounds.Turns.{OfRead, Steady, Good, reread}

@@ -14,7 +14,7 @@ use Rattle.rules.specs.Turns.{only}
 use Rattle.rules.specs.ReadData.{byFullBuffer, moreData, readDataOf, losesPartial, sendsReadData, endsRead, completes}
 use Rattle.rules.specs.Editing.{endOf}
 use Rattle.rules.specs.Bounds.{BoundedTyped, BoundedReading, BoundedRead}
-use Rattle.rules.proofs.Sizes.{input-word}
+use Rattle.rules.proofs.Numbers.{input-word}
 use Rattle.rules.proofs.Bounds.Bytes.{no-bytes}
 use Rattle.rules.proofs.Bounds.Screen.{change-byte}
 use Rattle.rules.proofs.Bounds.Sent.{Sent}

@@ -9,7 +9,7 @@ use Rattle.rules.specs.Screen.{echoAll, marksBehind, rubOut}
 use Rattle.rules.specs.State.{Reading}
 use Rattle.rules.specs.Turns.{Fate}
 use Rattle.rules.specs.Editing.{hiddenCount, shortened, deletesWithoutRubbing, displayed, rubOutBytes, deletes, displaysData, displays, redisplays}
-use Rattle.rules.proofs.Tests.{pick-same, all-split}
+use Rattle.rules.proofs.Choice.{pick-same, all-split}
 use Rattle.rules.proofs.TwoRuns.Twins.{Twin, isBoth, first-chars, second-chars, same-codes, LevelReading}
 use Rattle.rules.proofs.TwoRuns.Twins.{Agreeing}
 use Rattle.rules.proofs.TwoRuns.Turns.{level-read, agrees-then, agrees-changes, agrees-writes, told}

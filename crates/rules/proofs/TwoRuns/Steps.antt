@@ -14,7 +14,7 @@ use Rattle.rules.specs.ReadData.{byValidToken, byInvalidToken}
 use Rattle.rules.specs.Steps.{columnNow, appended, isEditKey, isTokenStart, tokenCode, endsByToken, takesToken, addsToToken, echoesIf, takesData, echoesTerminatorIf, terminates}
 use Rattle.rules.specs.Steps.{underflows, erases, erasesAll, showsAgain, edits, takesPlain, raisedBy, takes, takesFirst}
 use Rattle.rules.specs.Steps.{stepsWhile, steps, setsIdle, idles, ticksWhile, ticks}
-use Rattle.rules.proofs.Tests.{pick-same, pick-case, all-snoc}
+use Rattle.rules.proofs.Choice.{pick-same, pick-case, all-snoc}
 use Rattle.rules.proofs.TwoRuns.Printing.{printing}
 use Rattle.rules.proofs.TwoRuns.Twins.{Twin, isBoth, raise, code₁, code₂, first-chars, second-chars, same-code, same-codes, same-word}
 use Rattle.rules.proofs.TwoRuns.Twins.{Settled, settled-code, settled-or, settled-and, LevelReading, LevelRead, Rules, Agreeing}

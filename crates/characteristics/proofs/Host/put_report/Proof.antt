@@ -7,8 +7,8 @@ use Rattle.rules.specs.Numbers.{messageArea}
 use Rattle.rules.specs.Messages.Layout.{fieldsIn, numberOf, writeGroups}
 use Rattle.rules.specs.Messages.Forms.{forms, formOf}
 use Rattle.rules.specs.State.{fresh}
-use Rattle.rules.proofs.Sizes.{area-word}
-use Rattle.rules.proofs.Tests.{pick-true, pick-false}
+use Rattle.rules.proofs.Numbers.{area-word}
+use Rattle.rules.proofs.Choice.{pick-true, pick-false}
 use Rattle.message.specs.Found.{heldIn}
 use Rattle.fronts.specs.Front.{frontBytes, frontTail}
 use Rattle.writing.specs.Spans.{spansOf}

@@ -4,7 +4,7 @@ use Rattle.line.specs.With.{lent}
 use borrow.Author.Needs.{needs}
 use Rattle.rules.specs.Screen.{rubOut}
 use Rattle.rules.specs.Editing.{hiddenCount, rubOutBytes, deletes}
-use Rattle.rules.proofs.Tests.{pick-true, pick-false}
+use Rattle.rules.proofs.Choice.{pick-true, pick-false}
 use Rattle.line.proofs.Turns.{then-does}
 use Rattle.line.proofs.FlowChanges.{same-writes, unwritten-does}
 use Rattle.line.proofs.Work.deletes.Statement.{statement}

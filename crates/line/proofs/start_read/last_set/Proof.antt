@@ -3,7 +3,7 @@ use lib.ListN.{length}
 use native.Mathlib.Omega.{arith}
 use borrow.Author.Needs.{needs}
 use borrow.Author.Tests.{eq-eqb, ne-eqb}
-use Rattle.rules.proofs.Tests.{pick-true, pick-false}
+use Rattle.rules.proofs.Choice.{pick-true, pick-false}
 use Rattle.line.proofs.start_read.last_set.Statement.{statement}
 use Rattle.line.proofs.start_read.last_set.Tie as tie
 use Rattle.line.proofs.start_read.last_set.Reads as reads

@@ -1,6 +1,6 @@
 use mathlib.Core.Path.{sym}
 use Rattle.line.specs.TokenChanges.{placeOf}
-use Rattle.rules.proofs.Sizes.{token-size}
+use Rattle.rules.proofs.Numbers.{token-size}
 use Rattle.line.proofs.TokenPlaces.{standing-cut, standing-kept}
 use Rattle.line.proofs.tokens.standing.Statement.{statement}
 use Rattle.line.proofs.tokens.standing.Tie as tie

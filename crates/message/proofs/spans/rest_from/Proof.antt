@@ -3,7 +3,7 @@ use Prim.Native.Nat.{_-_}
 use native.Mathlib.Omega.{arith}
 use lib.ListN.{length}
 use borrow.Author.Needs.{needs}
-use Rattle.rules.proofs.Sizes.{message-word}
+use Rattle.rules.proofs.Numbers.{message-word}
 use Rattle.message.specs.Found.{spanOf}
 use Rattle.fields.proofs.Pieces.{all-behind}
 use Rattle.message.proofs.spans.rest_from.Statement.{statement}

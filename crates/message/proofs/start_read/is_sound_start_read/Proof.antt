@@ -1,6 +1,6 @@
 use borrow.Author.Needs.{needs}
 use Rattle.rules.specs.StartRead.{soundStartRead}
-use Rattle.rules.proofs.Sizes.{input-size}
+use Rattle.rules.proofs.Numbers.{input-size}
 use Rattle.message.specs.Found.{startReadIn}
 use Rattle.message.proofs.start_read.is_sound_start_read.Statement.{statement}
 use Rattle.message.proofs.start_read.is_sound_start_read.Tie as tie

@@ -5,7 +5,7 @@ use borrow.Author.Needs.{needs}
 use Rattle.rules.specs.Choice.{allAre}
 use Rattle.rules.specs.Messages.Layout.{sizeOf, fieldsIn}
 use Rattle.rules.specs.Messages.Forms.{forms, formOf}
-use Rattle.rules.proofs.Tests.{both}
+use Rattle.rules.proofs.Choice.{both}
 use Rattle.message.specs.Found.{heldIn, spanListOf}
 use Rattle.message.proofs.Heads.{no-more, bits-first, byte-first, word-first}
 use Rattle.message.proofs.Decoding.{rest-lies, text-fields}

@@ -5,8 +5,8 @@ use borrow.Author.Tests.{lt-ltb, le-ltb}
 use Rattle.rules.specs.Choice.{firstOf}
 use Rattle.rules.specs.Numbers.{messageArea, messageSize}
 use Rattle.rules.specs.Messages.Codec.{writeRefusals}
-use Rattle.rules.proofs.Tests.{pick-true, pick-false}
-use Rattle.rules.proofs.Sizes.{message-area, message-size}
+use Rattle.rules.proofs.Choice.{pick-true, pick-false}
+use Rattle.rules.proofs.Numbers.{message-area, message-size}
 use Rattle.writing.specs.Writing.{firstRefusal}
 use Rattle.writing.proofs.encoding.first_refusal.Statement.{statement}
 use Rattle.writing.proofs.encoding.first_refusal.Tie as tie

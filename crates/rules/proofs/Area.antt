@@ -9,7 +9,7 @@ use lib.ListN.{length, set, length-set}
 use lib.Seq.{sets, sets-eq}
 use borrow.Author.Tests.{lt-ltb}
 use Rattle.rules.specs.Calls.{areaAfter}
-use Rattle.rules.proofs.Tests.{pick-true}
+use Rattle.rules.proofs.Choice.{pick-true}
 use Rattle.rules.specs.Area.{Spot, put, puts, spot}
 
 pub puts-append : (xs ys : List ℕ) (s : Spot) → puts (xs ++ ys) s ≡ puts ys (puts xs s)

@@ -16,7 +16,7 @@ use Rattle.rules.specs.Messages.Parameters.{Shape, under, limitsOf, para
 use Rattle.rules.specs.Messages.Parameters.{selector, inputCountState, definedSelector, questionLimits, valueLimits, definedValue}
 use Rattle.rules.specs.Messages.Parameters.{initiation, question, setting}
 use Rattle.rules.specs.Messages.Codec.{allBytes}
-use Rattle.rules.proofs.Tests.{both, halves, all-cons, all-joined, all-both, all-map, pick-true, pick-false, pick-case}
+use Rattle.rules.proofs.Choice.{both, halves, all-cons, all-joined, all-both, all-map, pick-true, pick-false, pick-case}
 
 -- Cutting.
 module _ (shape : Shape) where
