@@ -9,9 +9,10 @@ use Rattle.rules.specs.Messages.Codec.{message}
 use Rattle.rules.specs.State.{Host, State, withHost}
 use Rattle.rules.specs.Calls.{carriesQuestions}
 use Rattle.rules.proofs.Choice.{pick-true}
-use Rattle.message.specs.declared.Span.{Span}
+use Rattle.fields.specs.declared.Span.{Span}
 use Rattle.message.specs.declared.Message.the-variants.{ReadCharacteristics, Characteristics}
-use Rattle.message.specs.Found.{heldIn, spanOf, listMessage}
+use Rattle.fields.specs.Spans.{spanOf}
+use Rattle.message.specs.Found.{heldIn, listMessage}
 use Rattle.parameters.proofs.Shapes.{is-question, is-setting}
 use Rattle.message.proofs.Lists.{list-from}
 use Rattle.characteristics.specs.Lists.{settingsIn, questionsIn, answerTo, reportBytes}

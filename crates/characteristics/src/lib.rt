@@ -1,8 +1,9 @@
-// What the host sets: characteristics, character attributes and termination sets.
+// What the host sets: characteristics and character attributes; and the last termination set that it gave.
+use sets::Set;
+
 mod attributes;
 pub mod out_of_band;
 mod reports;
-mod sets;
 mod settings;
 
 // The four characteristics that are switches.
@@ -11,12 +12,6 @@ pub struct Switches {
     pub echoing: bool,
     pub recognising: bool,
     pub prompting: bool,
-}
-
-// A termination set: its first `len` bytes were given; codes behind them are not in it.
-pub struct Set {
-    pub bytes: [u8; rules::SET_SIZE],
-    pub len: u8,
 }
 
 // What the host has set.

@@ -3,7 +3,6 @@ ghost use mathlib.Core.Path.{_≡_};
 ghost use Rattle.line.specs.View.{view};
 ghost use Rattle.line.specs.Bounded.{IsFresh};
 ghost use Rattle.console.specs.FreshFlow.{IsFreshFlow};
-use characteristics::Set;
 use characteristics::Switches;
 use line::Flow;
 use line::Line;
@@ -12,6 +11,7 @@ use line::Terminal;
 use line::Terms;
 use line::Typed;
 use screen::Screen;
+use sets::Set;
 
 // The terms of a line that has no read pending.
 fn no_terms() -> Terms

@@ -5,7 +5,8 @@ ghost use Rattle.rules.specs.Messages.Layout.{byte, numberOf, writeGroups};
 ghost use Rattle.rules.specs.Messages.Forms.{revisionSize, writeWidths};
 ghost use lib.ListN.{replicate};
 ghost use Rattle.message.specs.declared.Message.the-variants as variants;
-ghost use Rattle.message.specs.Found.{heldIn, spanOf};
+ghost use Rattle.fields.specs.Spans.{spanOf};
+ghost use Rattle.message.specs.Found.{heldIn};
 ghost use Rattle.areas.specs.Puts.{Puts};
 ghost use Rattle.fronts.specs.Front.{frontBytes, writeFlags};
 use crate::put::put_span;
@@ -15,9 +16,9 @@ use areas::put_byte;
 use areas::put_number;
 use areas::put_pair;
 use areas::put_word;
+use fields::Span;
 use message::InitiateFields;
 use message::ReadDataFields;
-use message::Span;
 use message::WriteFields;
 use rules::bits;
 use rules::forms;
@@ -36,7 +37,7 @@ const TWO_BITS: u16 = bits::TWO_BITS as u16;
 fn put_revision(s: &[u8], p: Span, area: &mut [u8], at: usize) -> usize
     ensures { λ r. ⌜ Puts (writeGroups (replicate revisionSize byte) (spanOf (now (s .entry)) p)) (now (area .entry)) at r (now (area .exit)) ⌝ }
 {
-    let t = message::span_of(s, p);
+    let t = fields::span_of(s, p);
     let mut next = at;
     let mut i = 0;
     while i < REVISION_SIZE {

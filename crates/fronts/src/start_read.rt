@@ -78,7 +78,7 @@ pub(crate) fn put_start_read(f: StartReadFields, s: &[u8], area: &mut [u8], at: 
     let set = f.set;
     let text = f.text;
     let flags = start_read_flags(f);
-    let bytes = message::span_of(s, set);
+    let bytes = fields::span_of(s, set);
     let count = (bytes.len() % BYTE_VALUES) as u8;
     let next = put_byte(rules::START_READ, area, at);
     let next = put_number(forms::START_READ_FLAG_BYTES, flags, area, next);

@@ -9,7 +9,7 @@ use Rattle.rules.specs.StartRead.{inSet}
 use Rattle.rules.specs.Turns.{Rule, _then_}
 use Rattle.rules.specs.Token.{isPartial}
 use Rattle.rules.specs.Steps.{isTokenStart, isEditKey, addsToToken, takesData, takesPlain, raisedBy, takes}
-use Rattle.characteristics.specs.View.{setOf}
+use Rattle.sets.specs.View.{setOf}
 use Rattle.line.specs.declared.Line.{Line}
 use Rattle.line.specs.declared.acts.Taken.{Taken}
 use Rattle.line.specs.declared.acts.Taken.the-variants.{Token, Terminator, Edit, Data}

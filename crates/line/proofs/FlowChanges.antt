@@ -18,7 +18,8 @@ use Rattle.rules.specs.ReadData.{endsRead, moreData, readDataOf, completes}
 use Rattle.rules.specs.Calls.{messageBytes}
 use Rattle.rules.specs.Messages.Codec as codec
 use Rattle.rules.specs.Messages.Forms as forms
-use Rattle.message.specs.Found.{heldIn, spanOf}
+use Rattle.fields.specs.Spans.{spanOf}
+use Rattle.message.specs.Found.{heldIn}
 use Rattle.message.specs.declared.Message.the-variants.{ReadData}
 use Rattle.line.specs.declared.Work.{Work}
 use Rattle.line.specs.declared.Line.{Line}

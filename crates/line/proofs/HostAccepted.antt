@@ -14,12 +14,13 @@ use Rattle.rules.specs.Calls.{isCarriedBy, carriesQuestions}
 use Rattle.rules.proofs.Bounds.Sent.{Fit, read-sent}
 use Rattle.rules.proofs.Bounds.Received as received
 use Rattle.rules.proofs.Bounds.Calls.{received-sound}
-use Rattle.message.specs.declared.Span.{Span}
+use Rattle.fields.specs.declared.Span.{Span}
 use Rattle.message.specs.declared.Message.{Message}
 use Rattle.message.specs.declared.Message.the-variants as message
 use Rattle.message.proofs.Message.{the-type}
 use Rattle.message.specs.declared.StartReadFields.{StartReadFields}
-use Rattle.message.specs.Found.{spanOf, startReadIn, heldIn}
+use Rattle.fields.specs.Spans.{spanOf}
+use Rattle.message.specs.Found.{startReadIn, heldIn}
 use Rattle.characteristics.specs.Lists.{questionsIn}
 use Rattle.characteristics.proofs.Held.{held-questions}
 use Rattle.line.specs.declared.Line.{Line}

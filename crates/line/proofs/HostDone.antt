@@ -22,12 +22,13 @@ use Rattle.rules.proofs.Outcomes.{refused-sound, readable}
 use borrow.Author.Tests.{not-false}
 use Rattle.rules.proofs.Bounds.Calls.{received-sound}
 use Rattle.rules.proofs.Choice.{pick-true, pick-false, row-behind}
-use Rattle.message.specs.declared.Span.{Span}
+use Rattle.fields.specs.declared.Span.{Span}
 use Rattle.message.specs.declared.StartReadFields.{StartReadFields}
-use Rattle.message.specs.Found.{spanOf, startReadIn, heldIn}
+use Rattle.fields.specs.Spans.{spanOf}
+use Rattle.message.specs.Found.{startReadIn, heldIn}
 use Rattle.areas.specs.Puts.{Puts}
 use Rattle.areas.proofs.Putting.{equals}
-use Rattle.characteristics.specs.declared.Set.{Set}
+use Rattle.sets.specs.declared.Set.{Set}
 use Rattle.line.specs.declared.Terms.{Terms}
 use Rattle.characteristics.specs.Lists.{answerTo, reportBytes, questionsIn, settingsIn}
 use Rattle.characteristics.proofs.Held.{held-questions, held-settings, report-carried}

@@ -6,7 +6,7 @@ use lib.ListN.{length}
 use Rattle.rules.specs.Numbers.{codeCount, inputSize, typeAheadSize, tokenSize}
 use Rattle.rules.specs.Bounds as rules
 use Rattle.rules.specs.State as state
-use Rattle.characteristics.specs.View.{CountedSet}
+use Rattle.sets.specs.View.{CountedSet}
 use Rattle.line.specs.declared.Typed.{Typed}
 use Rattle.line.specs.declared.Reading.{Reading}
 use Rattle.line.specs.declared.Flow.{Flow}

@@ -22,7 +22,8 @@ use Rattle.characteristics.specs.View.{CountedHost, hostView}
 use Rattle.characteristics.specs.declared.Host.{Host}
 use Rattle.message.specs.declared.Message.{Message}
 use Rattle.message.specs.declared.Message.the-variants as message
-use Rattle.message.specs.Found.{spanOf, startReadIn, writeIn, heldIn}
+use Rattle.fields.specs.Spans.{spanOf}
+use Rattle.message.specs.Found.{startReadIn, writeIn, heldIn}
 use Rattle.line.specs.declared.events.Sender.{Sender}
 use Rattle.line.specs.declared.events.Sender.the-variants as sender
 use Rattle.line.specs.declared.events.HostMessage.{HostMessage}

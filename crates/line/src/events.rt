@@ -16,9 +16,9 @@ use crate::Flow;
 use crate::Terms;
 use crate::acts::Act;
 use crate::acts::Taken;
+use fields::Span;
 use message::InitiateFields;
 use message::Message;
-use message::Span;
 use message::StartReadFields;
 use message::WriteFields;
 

@@ -10,9 +10,9 @@ ghost use Rattle.line.specs.declared.Line.{Line};
 ghost use Rattle.line.specs.Bounded.{CountedFlow};
 ghost use Rattle.line.specs.Promise.{on, Does};
 use crate::Work;
+use fields::Span;
 use message::InitiateFields;
 use message::Message;
-use message::Span;
 use rules::characters;
 use rules::forms;
 

@@ -1,7 +1,7 @@
 // One line of the console end: its state by value, and the four calls on it.
-use characteristics::Set;
 use characteristics::Switches;
 use screen::Screen;
+use sets::Set;
 
 mod acts;
 mod arrival;

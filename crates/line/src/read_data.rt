@@ -17,9 +17,9 @@ ghost use Rattle.line.specs.Promise.{on, Does};
 use crate::Reading;
 use crate::Terms;
 use crate::Work;
+use fields::Span;
 use message::Message;
 use message::ReadDataFields;
-use message::Span;
 
 // Completion codes (000, 4.16.4).
 pub(crate) const BY_TERMINATOR: u8 = 0;

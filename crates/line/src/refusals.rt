@@ -148,12 +148,12 @@ impl Line {
             HostMessage::Write(f) => carries_write(f),
             HostMessage::ReadCharacteristics(parameters) => {
                 let host = self.host_in();
-                let list = message::span_of(s, parameters);
+                let list = fields::span_of(s, parameters);
                 host.carries_questions(list)
             }
             HostMessage::Characteristics(parameters) => {
                 let host = self.host_in();
-                let list = message::span_of(s, parameters);
+                let list = fields::span_of(s, parameters);
                 host.carries_settings(list)
             }
             _ => true,

@@ -10,7 +10,7 @@ ghost use Rattle.rules.specs.StartRead.{inSet};
 ghost use Rattle.rules.specs.Turns.{_then_};
 ghost use Rattle.rules.specs.Steps as rules;
 ghost use Rattle.rules.specs.Token.{isWhole};
-ghost use Rattle.characteristics.specs.View.{setOf};
+ghost use Rattle.sets.specs.View.{setOf};
 ghost use Rattle.line.specs.declared.Line.{Line};
 ghost use Rattle.line.specs.declared.acts.Act.the-variants.{Takes};
 ghost use Rattle.line.specs.View.{keyOf, readingOf};

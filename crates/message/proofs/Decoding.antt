@@ -13,10 +13,11 @@ use Rattle.rules.specs.Messages.Parameters.{Shape, cleaned, cut}
 use Rattle.rules.specs.Messages.Forms.{Message, Tail, nothing, text, list, formOf, startRead, readData, write}
 use Rattle.rules.specs.Messages.Codec.{Outcome, Held, message, sound, refused, definedFields, soundAs, fieldsAs, wholeTail, behindHead, setIn, parametersIn, textIn}
 use Rattle.rules.proofs.Choice.{both, thirds, pick-true, pick-false}
-use Rattle.message.specs.declared.Span.{Span}
+use Rattle.fields.specs.declared.Span.{Span}
 use Rattle.message.specs.declared.Message as declared
 use Rattle.message.specs.declared.Found.the-variants as found
-use Rattle.message.specs.Found.{RestFrom, FieldsIn, Finds, spanOf, parametersOf, plainMessage, textMessage, listMessage, heldIn, spanListOf, lies}
+use Rattle.fields.specs.Spans.{spanOf}
+use Rattle.message.specs.Found.{RestFrom, FieldsIn, Finds, parametersOf, plainMessage, textMessage, listMessage, heldIn, spanListOf, lies}
 use Rattle.message.specs.Found.{asHeld, foundIn, foundInside, decodedAs}
 use Rattle.message.proofs.Heads.{Head}
 

@@ -13,9 +13,10 @@ use Rattle.rules.specs.Messages.Layout.{word, byteAt, sizeOf, numberAt}
 use Rattle.rules.specs.Messages.Forms.{setAndText, forms, formOf, startReadWidths}
 use Rattle.rules.specs.Messages.Codec.{message, behindHead, wholeTail, definedFields, soundAs, fieldsAs, setIn, parametersIn, textIn}
 use Rattle.rules.proofs.Choice.{both, halves, thirds}
-use Rattle.message.specs.declared.Span.{Span}
+use Rattle.fields.specs.declared.Span.{Span}
 use Rattle.message.specs.declared.StartReadFields.{StartReadFields}
-use Rattle.message.specs.Found.{RestFrom, FlagsAre, StartReadIs, spanOf, startReadIn, heldIn, spanListOf, lies}
+use Rattle.fields.specs.Spans.{spanOf}
+use Rattle.message.specs.Found.{RestFrom, FlagsAre, StartReadIs, startReadIn, heldIn, spanListOf, lies}
 use Rattle.fields.proofs.Numbers.{byte-behind}
 use Rattle.message.proofs.Heads.{Head, flags-first}
 use Rattle.message.proofs.Decoding.{fields-are}

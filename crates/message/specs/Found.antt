@@ -14,7 +14,8 @@ use Rattle.rules.specs.Messages.Forms as forms
 use Rattle.rules.specs.Messages.Forms.{formOf, plain}
 use Rattle.rules.specs.Messages.Codec as codec
 use Rattle.rules.specs.Messages.Codec.{Outcome, Held, soundAs, fieldsAs}
-use Rattle.message.specs.declared.Span.{Span}
+use Rattle.fields.specs.declared.Span.{Span}
+use Rattle.fields.specs.Spans.{spanOf}
 use Rattle.message.specs.declared.StartReadFields.{StartReadFields}
 use Rattle.message.specs.declared.WriteFields.{WriteFields}
 use Rattle.message.specs.declared.Message.{Message}
@@ -23,10 +24,6 @@ use Rattle.message.specs.declared.Message.the-variants.{WriteCompletion,
 use Rattle.message.specs.declared.Message.the-variants.{CheckInput, InputCount, InputState, Other}
 use Rattle.message.specs.declared.Found.{Found}
 use Rattle.message.specs.declared.Found.the-variants as found
-
--- the bytes of a span
-unfoldable pub spanOf : List ℕ → Span → List ℕ
-spanOf s p = take (p .len) (drop (p .start) s)
 
 -- the parameters in a span
 unfoldable pub parametersOf : Shape → List ℕ → Span → List (List ℕ)

@@ -2,6 +2,7 @@
 ghost use mathlib.Core.Path.{_≡_};
 ghost use Rattle.rules.specs.Messages.Codec as codec;
 ghost use Rattle.message.specs.Found.{Finds, asHeld, foundNumber};
+use fields::Span;
 
 mod fixed;
 mod listed;
@@ -10,19 +11,12 @@ mod spans;
 mod start_read;
 mod texts;
 
-pub use crate::spans::span_of;
 pub use crate::start_read::is_sound_start_read;
 
 // The last completion code that 000 defines, and the last value of a Write's PP and QQ.
 pub const LAST_COMPLETION_CODE: u8 = 13;
 
 pub const LAST_FIX: u8 = 2;
-
-// A span of the lent slice: where it starts, and how long it is.
-pub struct Span {
-    pub start: u16,
-    pub len: u16,
-}
 
 pub struct InitiateFields {
     pub version: u8,

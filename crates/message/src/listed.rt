@@ -7,9 +7,9 @@ ghost use Rattle.message.specs.Found.{IsType, FieldsIn, Finds, decodedAs
 use crate::Found;
 use crate::InitiateFields;
 use crate::Message;
-use crate::Span;
 use crate::sizes;
 use crate::spans::rest_from;
+use fields::Span;
 use fields::byte_at;
 use parameters::is_sound_list;
 use rules::forms;

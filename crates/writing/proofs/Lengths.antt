@@ -20,12 +20,13 @@ use Rattle.rules.specs.Messages.Codec.{tailBytes, bytesAs, heldBytes}
 use Rattle.rules.proofs.Choice.{both, quarters, all-cons}
 use Rattle.rules.proofs.Fields.{length-writeGroups}
 use Rattle.rules.proofs.Parameters.{joined-cut}
-use Rattle.message.specs.declared.Span.{Span}
+use Rattle.fields.specs.declared.Span.{Span}
 use Rattle.message.specs.declared.Message.{Message}
 use Rattle.message.specs.declared.Message.the-variants.{Initiate, StartRead, ReadData, OutOfBand, Unread, ClearInput, Write}
 use Rattle.message.specs.declared.Message.the-variants.{WriteCompletion, DiscardState, ReadCharacteristics, Characteristics}
 use Rattle.message.specs.declared.Message.the-variants.{CheckInput, InputCount, InputState, Other}
-use Rattle.message.specs.Found.{spanOf, parametersOf, startReadIn, heldIn, spanListOf, lies, allLie}
+use Rattle.fields.specs.Spans.{spanOf}
+use Rattle.message.specs.Found.{parametersOf, startReadIn, heldIn, spanListOf, lies, allLie}
 use Rattle.parameters.proofs.Walk.{size-taken, size-least}
 use Rattle.fronts.specs.Front.{frontTail, frontBytes}
 use Rattle.writing.specs.Spans as spans

@@ -16,8 +16,9 @@ use Rattle.rules.specs.Messages.Codec.{allBytes, definedFields, fitsTail, fitsA
 use Rattle.rules.proofs.Choice.{both, halves, pick-same, all-cons, all-joined}
 use Rattle.rules.proofs.Parameters.{Cleanable, initiation-cleanable, question-cleanable, setting-cleanable}
 use Rattle.rules.proofs.Parameters.{joined-cut, limits-cleaned, selector-cleaned, count-cleaned, cut-cleaned-fits, cut-cleaned-sound}
-use Rattle.message.specs.declared.Span.{Span}
-use Rattle.message.specs.Found.{spanOf, parametersOf, listMessage}
+use Rattle.fields.specs.declared.Span.{Span}
+use Rattle.fields.specs.Spans.{spanOf}
+use Rattle.message.specs.Found.{parametersOf, listMessage}
 use Rattle.parameters.specs.Lists.{shapeOf, soundFrom}
 use Rattle.writing.proofs.Lengths.{cut-short, cleaned-length}
 use Rattle.writing.proofs.Fitting.{span-bytes}

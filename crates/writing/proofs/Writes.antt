@@ -32,7 +32,8 @@ use Rattle.message.specs.declared.Message.the-variants.{WriteCompletion, Discar
 use Rattle.message.specs.declared.Message.the-variants.{CheckInput, InputCount, InputState, Other}
 use Rattle.message.specs.declared.Found.{Found}
 use Rattle.message.specs.declared.Found.the-variants as variants
-use Rattle.message.specs.Found.{Finds, spanOf, parametersOf, startReadIn, heldIn, asHeld, foundIn, foundInside}
+use Rattle.fields.specs.Spans.{spanOf}
+use Rattle.message.specs.Found.{Finds, parametersOf, startReadIn, heldIn, asHeld, foundIn, foundInside}
 use Rattle.parameters.specs.Lists.{soundFrom}
 use Rattle.parameters.proofs.Shapes.{is-setting}
 use Rattle.message.proofs.Lists.{list-from}

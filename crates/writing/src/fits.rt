@@ -4,15 +4,16 @@ ghost use mathlib.Core.List.{[]};
 ghost use Rattle.rules.specs.Messages.Layout.{widthsOf, fits};
 ghost use Rattle.rules.specs.Messages.Forms.{formOf, startRead};
 ghost use Rattle.message.specs.declared.Message.the-variants as variants;
-ghost use Rattle.message.specs.Found.{spanOf, startReadIn};
+ghost use Rattle.fields.specs.Spans.{spanOf};
+ghost use Rattle.message.specs.Found.{startReadIn};
 ghost use Rattle.parameters.specs.Lists.{soundFrom};
 ghost use Rattle.writing.specs.Fits.{Fits, FitsIn};
+use fields::Span;
 use message::InitiateFields;
 use message::LAST_COMPLETION_CODE;
 use message::LAST_FIX;
 use message::Message;
 use message::ReadDataFields;
-use message::Span;
 use message::StartReadFields;
 use message::WriteFields;
 use rules::bits;
@@ -73,7 +74,7 @@ fn fits_start_read(f: StartReadFields) -> bool
 fn fits_list(kind: u8, p: Span, s: &[u8]) -> bool
     ensures { λ r. ⌜ r ≡ soundFrom kind 0 (spanOf (now (s .entry)) p) ⌝ }
 {
-    let t = message::span_of(s, p);
+    let t = fields::span_of(s, p);
     parameters::is_sound_list(kind, t, 0)
 }
 

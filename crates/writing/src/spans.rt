@@ -2,8 +2,8 @@
 ghost use mathlib.Core.Path.{_≡_};
 ghost use Rattle.message.specs.Found.{lies};
 ghost use Rattle.writing.specs.Spans.{spansOf, spannedSize, inside, bare, withText, withList, initiateSpans, startReadSpans};
+use fields::Span;
 use message::Message;
-use message::Span;
 use rules::forms;
 
 // `header` is how many bytes stand in front of the list, or of the text; a set has its count among them. A span that a message

@@ -8,7 +8,7 @@ use Rattle.console.proofs.fresh.Reads as reads
 use Rattle.console.proofs.fresh.Lts as lts
 use Rattle.console.proofs.fresh_flow.Reads as fresh-flow-reads
 use Rattle.console.proofs.no_terms.Reads as no-terms-reads
-use Rattle.characteristics.proofs.Set.universal.Reads as universal-reads
+use Rattle.sets.proofs.Set.universal.Reads as universal-reads
 
 universal-requires : tie.Need-universal-requires
 universal-requires c κs = search needs

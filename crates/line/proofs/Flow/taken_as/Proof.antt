@@ -1,6 +1,6 @@
 use mathlib.Core.Path.{sym, ap, _∙_}
 use Rattle.rules.specs.StartRead.{inSet}
-use Rattle.characteristics.specs.View.{setOf}
+use Rattle.sets.specs.View.{setOf}
 use Rattle.rules.specs.State.{codes}
 use Rattle.rules.specs.Steps.{isTokenStart, raisedBy}
 use Rattle.line.specs.View.{keyOf, readingOf}

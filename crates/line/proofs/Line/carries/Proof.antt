@@ -2,7 +2,8 @@ use mathlib.Core.Path.{refl, ap, _∙_}
 use Rattle.rules.specs.Choice.{pick}
 use Rattle.rules.specs.Calls.{isCarriedBy, carriesQuestions}
 use Rattle.rules.specs.Characteristics.{carriesSettings}
-use Rattle.message.specs.Found.{spanOf, heldIn, startReadIn, writeIn}
+use Rattle.fields.specs.Spans.{spanOf}
+use Rattle.message.specs.Found.{heldIn, startReadIn, writeIn}
 use Rattle.characteristics.specs.View as host
 use Rattle.characteristics.specs.Lists.{settingsIn, questionsIn}
 use Rattle.characteristics.proofs.Held.{held-settings, held-questions}
@@ -19,7 +20,7 @@ use Rattle.characteristics.proofs.Host.carries_settings.Reads as carries-settin
 use Rattle.line.proofs.Line.host_in.Reads as host-in-reads
 use Rattle.line.proofs.refusals.carries_start_read.Reads as carries-start-read-reads
 use Rattle.line.proofs.refusals.carries_write.Reads as carries-write-reads
-use Rattle.message.proofs.span_of.Reads as span-of-reads
+use Rattle.fields.proofs.span_of.Reads as span-of-reads
 
 enum-known-m : tie.Need-enum-known-m
 enum-known-m c = search needs

@@ -10,7 +10,7 @@ use Rattle.line.proofs.Line.reports.Reads as reads
 use Rattle.line.proofs.Line.reports.Lts as lts
 use Rattle.characteristics.proofs.Host.put_report.Reads as put-report-reads
 use Rattle.line.proofs.Line.host_in.Reads as host-in-reads
-use Rattle.message.proofs.span_of.Reads as span-of-reads
+use Rattle.fields.proofs.span_of.Reads as span-of-reads
 
 enum-known-m : tie.Need-enum-known-m
 enum-known-m c = search needs

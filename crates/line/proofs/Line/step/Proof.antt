@@ -3,7 +3,7 @@ use mathlib.Core.List.{[]}
 use Rattle.rules.specs.State.{codes}
 use Rattle.rules.specs.StartRead.{inSet}
 use Rattle.rules.specs.Steps.{raisedBy}
-use Rattle.characteristics.specs.View.{setOf}
+use Rattle.sets.specs.View.{setOf}
 use Rattle.line.specs.declared.events.Event.the-variants.{Step}
 use Rattle.line.specs.View.{readingOf}
 use Rattle.line.proofs.EventRules.{eventOf}
@@ -13,7 +13,7 @@ use Rattle.line.proofs.Line.step.Statement.{statement}
 use Rattle.line.proofs.Line.step.Tie as tie
 use Rattle.line.proofs.Line.step.Reads as reads
 use Rattle.line.proofs.Line.step.Lts as lts
-use Rattle.characteristics.proofs.Set.has.Reads as has-reads
+use Rattle.sets.proofs.Set.has.Reads as has-reads
 use Rattle.line.proofs.Flow.act_if.Reads as act-if-reads
 use Rattle.line.proofs.Terms.raised_by.Reads as raised-by-reads
 use Rattle.line.proofs.Flow.taken_as.Reads as taken-as-reads

@@ -11,7 +11,7 @@ use Rattle.line.proofs.Line.with_characteristics.Lts as lts
 use Rattle.characteristics.proofs.Host.with_settings.Reads as with-settings-reads
 use Rattle.line.proofs.Line.host_in.Reads as host-in-reads
 use Rattle.line.proofs.Line.with_host.Reads as with-host-reads
-use Rattle.message.proofs.span_of.Reads as span-of-reads
+use Rattle.fields.proofs.span_of.Reads as span-of-reads
 
 host-in-requires : tie.Need-host-in-requires
 host-in-requires c κs = search needs

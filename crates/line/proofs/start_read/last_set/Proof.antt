@@ -9,7 +9,7 @@ use Rattle.line.proofs.start_read.last_set.Tie as tie
 use Rattle.line.proofs.start_read.last_set.Reads as reads
 use Rattle.line.proofs.start_read.last_set.Lts as lts
 use Rattle.line.proofs.start_read.set_of.Reads as set-of-reads
-use Rattle.message.proofs.span_of.Reads as span-of-reads
+use Rattle.fields.proofs.span_of.Reads as span-of-reads
 
 span-of-requires : tie.Need-span-of-requires
 span-of-requires c κs = search needs

@@ -7,7 +7,8 @@ use Rattle.rules.specs.Messages.Layout.{sizeOf}
 use Rattle.rules.specs.Messages.Parameters.{initiation}
 use Rattle.rules.specs.Messages.Forms.{forms, formOf}
 use Rattle.rules.proofs.Choice.{both}
-use Rattle.message.specs.Found.{spanOf, heldIn, spanListOf}
+use Rattle.fields.specs.Spans.{spanOf}
+use Rattle.message.specs.Found.{heldIn, spanListOf}
 use Rattle.message.proofs.Heads.{none-first, byte-first, bytes-run}
 use Rattle.message.proofs.Decoding.{rest-lies, list-fields}
 use Rattle.message.proofs.listed.initiate_fields.Statement.{statement}

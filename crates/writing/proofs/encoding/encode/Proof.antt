@@ -1,6 +1,6 @@
 use mathlib.Core.Path.{sym, ap, _∙_}
 use native.Mathlib.Omega.{arith}
-use Rattle.message.specs.Found.{spanOf}
+use Rattle.fields.specs.Spans.{spanOf}
 use Rattle.parameters.specs.Lists.{soundFrom}
 use Rattle.writing.specs.Spans.{listBytes}
 use Rattle.areas.proofs.Putting.{equals, joins}

@@ -8,9 +8,9 @@ use lib.Dec.{eqb}
 use lib.ListN.{take, List·getD-eq-default, length-take}
 use lib.Seq.{getD-take}
 use Rattle.rules.specs.StartRead.{inSet}
-use Rattle.characteristics.specs.View.{setOf}
-use Rattle.characteristics.proofs.Set.has.Statement.{statement}
-use Rattle.characteristics.proofs.Set.has.Tie as tie
+use Rattle.sets.specs.View.{setOf}
+use Rattle.sets.proofs.Set.has.Statement.{statement}
+use Rattle.sets.proofs.Set.has.Tie as tie
 
 -- the bit of a code in its byte
 abbrev bitIn : ℕ → ℕ → Bool

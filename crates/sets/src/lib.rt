@@ -2,8 +2,7 @@
 ghost use mathlib.Core.Path.{_≡_};
 ghost use Rattle.rules.specs.StartRead as sets;
 ghost use Rattle.rules.specs.StartRead.{inSet};
-ghost use Rattle.characteristics.specs.View.{setOf, CountedSet};
-use crate::Set;
+ghost use Rattle.sets.specs.View.{setOf, CountedSet};
 use rules::bits;
 
 // Codes that a byte of a set holds, from its lowest bit on.
@@ -11,6 +10,12 @@ const CODES_A_BYTE: u8 = 8;
 
 // Bytes of the universal set: the others would be 0.
 const UNIVERSAL: u8 = 4;
+
+// Its first `len` bytes were given; codes behind them are not in it.
+pub struct Set {
+    pub bytes: [u8; rules::SET_SIZE],
+    pub len: u8,
+}
 
 impl Set {
     // The universal set: codes 0 to 31 except 8, 9, 18, 21, 23.

@@ -4,10 +4,10 @@ use native.Mathlib.Nat.{add-sub-cancel-left}
 use native.Mathlib.Omega.{arith}
 use borrow.Author.Needs.{needs}
 use lib.ListN.{length, take, drop}
-use Rattle.message.specs.Found.{spanOf}
+use Rattle.fields.specs.Spans.{spanOf}
 use Rattle.fields.proofs.Pieces.{none-behind, all-behind}
-use Rattle.message.proofs.spans.span_of.Statement.{statement}
-use Rattle.message.proofs.spans.span_of.Tie as tie
+use Rattle.fields.proofs.span_of.Statement.{statement}
+use Rattle.fields.proofs.span_of.Tie as tie
 
 cast-start : tie.Need-cast-start
 cast-start c = search needs
