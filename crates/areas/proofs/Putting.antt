@@ -10,8 +10,8 @@ use lib.Seq.{drop-cons}
 use borrow.Author.Tests.{lt-ltb, le-ltb}
 use Rattle.rules.specs.Area.{put, puts, spot}
 use Rattle.rules.specs.Messages.Layout.{fieldsIn, bytesOf}
-use Rattle.rules.proofs.Tests.{pick-true, pick-false}
-use Rattle.rules.proofs.Areas.{puts-append}
+use Rattle.rules.proofs.Choice.{pick-true, pick-false}
+use Rattle.rules.proofs.Area.{puts-append}
 use Rattle.areas.specs.Puts.{Puts}
 
 module _ {before : List ℕ} {at : ℕ} where

@@ -2,7 +2,7 @@
 ghost use mathlib.Core.List.{[], _∷_, _++_};
 ghost use Rattle.rules.specs.Messages.Layout.{wordBytes, bytesOf};
 ghost use Rattle.areas.specs.Puts.{Puts};
-use rules::layout;
+use rules::forms;
 
 pub fn put_byte(b: u8, area: &mut [u8], at: usize) -> usize
     ensures { λ r. ⌜ Puts (b ∷ []) (now (area .entry)) at r (now (area .exit)) ⌝ }
@@ -30,8 +30,8 @@ pub fn put_number(count: u8, n: u32, area: &mut [u8], at: usize) -> usize
     let mut rest = n;
     let mut next = at;
     while 0 < left {
-        next = put_byte((rest % layout::BYTE_VALUES) as u8, area, next);
-        rest /= layout::BYTE_VALUES;
+        next = put_byte((rest % forms::BYTE_VALUES) as u8, area, next);
+        rest /= forms::BYTE_VALUES;
         left -= 1;
     }
     next
@@ -54,5 +54,5 @@ pub fn put_bytes(s: &[u8], area: &mut [u8], at: usize) -> usize
 pub fn put_word(n: u16, area: &mut [u8], at: usize) -> usize
     ensures { λ r. ⌜ Puts (bytesOf wordBytes n) (now (area .entry)) at r (now (area .exit)) ⌝ }
 {
-    put_number(layout::WORD, n as u32, area, at)
+    put_number(forms::WORD_BYTES, n as u32, area, at)
 }

@@ -16,7 +16,7 @@ use Rattle.rules.specs.Messages.Codec.{bytesAs, tailBytes}
 use Rattle.rules.specs.State.{Host, State, withHost}
 use Rattle.rules.specs.Characteristics.{switchOf, reported, report}
 use Rattle.rules.specs.Calls.{framed, sentBytes, carriesQuestions}
-use Rattle.rules.proofs.Tests.{halves, pick-true, pick-false}
+use Rattle.rules.proofs.Choice.{halves, pick-true, pick-false}
 use Rattle.rules.proofs.Bounds.Sent.{framed-length}
 use Rattle.parameters.specs.declared.Parameter.{Parameter}
 use Rattle.parameters.specs.Lists.{ParameterIs, shapeOf, parameterAt, parametersFrom, usedAt}

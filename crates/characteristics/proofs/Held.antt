@@ -8,10 +8,11 @@ use Rattle.rules.specs.Messages.Forms as forms
 use Rattle.rules.specs.Messages.Codec.{message}
 use Rattle.rules.specs.State.{Host, State, withHost}
 use Rattle.rules.specs.Calls.{carriesQuestions}
-use Rattle.rules.proofs.Tests.{pick-true}
-use Rattle.message.specs.declared.Span.{Span}
+use Rattle.rules.proofs.Choice.{pick-true}
+use Rattle.fields.specs.declared.Span.{Span}
 use Rattle.message.specs.declared.Message.the-variants.{ReadCharacteristics, Characteristics}
-use Rattle.message.specs.Found.{heldIn, spanOf, listMessage}
+use Rattle.fields.specs.Spans.{spanOf}
+use Rattle.message.specs.Found.{heldIn, listMessage}
 use Rattle.parameters.proofs.Shapes.{is-question, is-setting}
 use Rattle.message.proofs.Lists.{list-from}
 use Rattle.characteristics.specs.Lists.{settingsIn, questionsIn, answerTo, reportBytes}

@@ -10,7 +10,7 @@ use lib.Pow.{pow-pos}
 use borrow.Author.Tests.{eqb-true, eqb-false}
 use Rattle.rules.specs.Choice.{pick}
 use Rattle.rules.specs.Characteristics.{masked}
-use Rattle.rules.proofs.Tests.{pick-case}
+use Rattle.rules.proofs.Choice.{pick-case}
 
 -- the old bits where `kept` has 1, the new ones where the mask has 1
 abbrev mixed : ℕ → ℕ → ℕ → ℕ → ℕ

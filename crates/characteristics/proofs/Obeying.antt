@@ -8,7 +8,7 @@ use borrow.Author.Tests.{eq-eqb, ne-eqb}
 use Rattle.rules.specs.Messages.Parameters.{selector, characterAttributes}
 use Rattle.rules.specs.State.{Host, Switches, withSwitches, withAttributes}
 use Rattle.rules.specs.Characteristics.{masked, withAttribute, withSwitch, withParameter, withParameters}
-use Rattle.rules.proofs.Tests.{pick-true, pick-false}
+use Rattle.rules.proofs.Choice.{pick-true, pick-false}
 use Rattle.parameters.specs.declared.Parameter.{Parameter}
 use Rattle.parameters.specs.Lists.{ParameterIs, parametersFrom, usedAt}
 use Rattle.parameters.proofs.Shapes.{parameters-end}

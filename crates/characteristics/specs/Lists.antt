@@ -1,9 +1,10 @@
 -- Characteristics and Read Characteristics by the bytes of their parameter list, and the bytes of the answer.
-use Prim.Native.Nat.{ℕ}
+use Prim.Native.Nat.{ℕ, _+_}
 use mathlib.Core.List.{List, [], map}
 use Rattle.rules.specs.Choice.{pick, joined}
 use Rattle.rules.specs.Messages.Forms as forms
 use Rattle.rules.specs.Messages.Forms.{Message}
+use Rattle.rules.specs.Messages.Parameters.{parameterHead, longestValue}
 use Rattle.rules.specs.State.{Host, fresh, withHost}
 use Rattle.rules.specs.Characteristics.{reported, report}
 use Rattle.rules.specs.Calls.{framed, sentBytes, carriesQuestions}
@@ -11,7 +12,7 @@ use Rattle.parameters.specs.Lists.{parametersFrom}
 
 -- the bytes of the longest answer to one question: SELECTOR, CHARACTER, MASK and ATTRIBUTES
 abbrev pub longestAnswer : ℕ
-longestAnswer = 5
+longestAnswer = parameterHead + longestValue
 
 -- a message of each type, by its list
 abbrev pub settingsIn : List ℕ → Message ℕ

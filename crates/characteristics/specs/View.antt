@@ -1,18 +1,11 @@
--- What the host has set, as the rules have it; and what a line keeps of the struct: its arrays' lengths, which their types say,
--- and the set's count within its array.
-use Prim.Native.Nat.{ℕ, _≤_}
+-- What the host has set, as the rules have it; and what a line keeps of the struct: its arrays' lengths, which their types say.
 use mathlib.Core.Path.{_≡_}
-use mathlib.Core.List.{List}
-use lib.ListN.{length, take}
+use lib.ListN.{length}
 use Rattle.rules.specs.Numbers.{codeCount}
-use Rattle.rules.specs.Messages.Codec.{setSize}
 use Rattle.rules.specs.State as rules
+use Rattle.sets.specs.View.{setOf, CountedSet}
 use Rattle.characteristics.specs.declared.Switches.{Switches}
-use Rattle.characteristics.specs.declared.Set.{Set}
 use Rattle.characteristics.specs.declared.Host.{Host}
-
-unfoldable pub setOf : Set → List ℕ
-setOf s = take (s .len) (s .bytes)
 
 abbrev pub switchesOf : Switches → rules.Switches
 switchesOf s =
@@ -21,10 +14,6 @@ switchesOf s =
 abbrev pub hostView : Host → rules.Host
 hostView h =
     record { initiated = h .initiated; switches = switchesOf (h .switches); attributes = h .attributes; lastSet = setOf (h .«last_set») }
-
-pub record CountedSet (s : Set) : Type 0 where
-  pub size : length (s .bytes) ≡ setSize
-  pub within : s .len ≤ setSize
 
 pub record CountedHost (h : Host) : Type 0 where
   pub table : length (h .attributes) ≡ codeCount

@@ -8,7 +8,7 @@ use crate::out_of_band;
 use rules::bits;
 
 // The used bits of an attribute.
-pub(crate) const WHOLE_MASK: u8 = bits::SEVEN - 1;
+pub(crate) const WHOLE_MASK: u8 = bits::SEVEN_BITS - 1;
 
 impl Host {
     // What a character's attribute is.
@@ -29,11 +29,11 @@ fn masked(mask: u8, old: u8, new: u8) -> u8
 
 // CHARACTER, MASK and ATTRIBUTES act on one place of the table.
 pub(crate) fn with_attribute(
-    table: [u8; rules::CODES],
+    table: [u8; rules::CODE_COUNT],
     character: u8,
     mask: u8,
     attributes: u8,
-) -> [u8; rules::CODES]
+) -> [u8; rules::CODE_COUNT]
     ensures { λ r. ⌜ r ≡ set table character (rules.masked rules.attributeBits mask (getD table character 0) attributes) ⌝ }
 {
     let at = character as usize;

@@ -1,8 +1,9 @@
-// What the host sets: characteristics, character attributes and termination sets.
+// What the host sets: characteristics and character attributes; and the last termination set that it gave.
+use sets::Set;
+
 mod attributes;
 pub mod out_of_band;
 mod reports;
-mod sets;
 mod settings;
 
 // The four characteristics that are switches.
@@ -13,18 +14,12 @@ pub struct Switches {
     pub prompting: bool,
 }
 
-// A termination set: its first bytes.
-pub struct Set {
-    pub bytes: [u8; rules::SET],
-    pub len: u8,
-}
-
 // What the host has set.
 pub struct Host {
     // Initiate was accepted
     pub initiated: bool,
     pub switches: Switches,
-    pub attributes: [u8; rules::CODES],
+    pub attributes: [u8; rules::CODE_COUNT],
     // the last set given with ZZ 1
     pub last_set: Set,
 }

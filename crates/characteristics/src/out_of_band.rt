@@ -1,7 +1,7 @@
 // The out-of-band field of an attribute: how many values it has, and what they say; 0 is none.
 use rules::bits;
 
-pub const VALUES: u8 = bits::TWO;
+pub const VALUES: u8 = bits::TWO_BITS;
 
 pub const IMMEDIATE_CLEAR: u8 = 1;
 

@@ -19,10 +19,11 @@ use crate::Switches;
 use crate::attributes::WHOLE_MASK;
 use crate::settings::all_carried;
 use crate::settings::chosen;
+use fields::Span;
 use message::Message;
-use message::Span;
 use parameters::Parameter;
 use parameters::selectors;
+use rules::forms;
 
 // Bytes of an answer for character attributes, and of a switch.
 const ATTRIBUTE_ANSWER: usize = parameters::HEAD + parameters::LONGEST_VALUE;
@@ -35,7 +36,7 @@ const SWITCH_VALUE: usize = 1;
 const NO_BYTE: u8 = 0;
 
 // Bytes in front of the answers: the message's length, MSGTYPE and FLAGS.
-const FRONT: usize = 4;
+const FRAMED_HEADER: usize = forms::WORD_BYTES as usize + forms::BARE_HEADER as usize;
 
 // How many bytes the answer to one question takes.
 fn size_of_one(n: u16) -> usize
@@ -48,10 +49,10 @@ fn size_of_one(n: u16) -> usize
 }
 
 // How many bytes the answer takes with its length; one more than the area has where it does not fit.
-fn answer_size(list: &[u8]) -> usize
+fn report_size(list: &[u8]) -> usize
     ensures { λ r. ⌜ ((h : rules.Host) → r ≡ min (messageArea + 1) (length (answerTo (now (list .entry)) h))) ⌝ }
 {
-    let mut size = FRONT;
+    let mut size = FRAMED_HEADER;
     let mut at = 0;
     while at < list.len() {
         let p = parameters::parameter_at(rules::READ_CHARACTERISTICS, list, at);
@@ -87,7 +88,7 @@ impl Host {
         if !all_carried(rules::READ_CHARACTERISTICS, list) {
             return false;
         }
-        answer_size(list) <= rules::MESSAGE_AREA
+        report_size(list) <= rules::MESSAGE_AREA
     }
 
     // The answer to one question: CHARACTER, a MASK of the seven used bits and ATTRIBUTES, or a switch.
@@ -135,10 +136,10 @@ impl Host {
         if !self.carries_questions(list) {
             return at;
         }
-        let size = answer_size(list);
+        let size = report_size(list);
         let parameters = Span {
             start: 0,
-            len: (size - FRONT) as u16,
+            len: (size - FRAMED_HEADER) as u16,
         };
         let next = writing::put_framed(Message::Characteristics { parameters }, list, area, at);
         self.put_answers(list, area, next)

@@ -10,8 +10,8 @@ use Rattle.rules.specs.StartRead.{universal}
 use Rattle.rules.specs.State.{fresh, freshHost, freshSwitches}
 use Rattle.rules.specs.Bounds as bounds
 use Rattle.rules.proofs.Bounds.Calls.{fresh-bounded}
-use Rattle.characteristics.specs.declared.Set.{Set}
-use Rattle.characteristics.specs.View.{setOf, CountedSet}
+use Rattle.sets.specs.declared.Set.{Set}
+use Rattle.sets.specs.View.{setOf, CountedSet}
 use Rattle.line.specs.declared.Terms.{Terms}
 use Rattle.line.specs.declared.Flow.{Flow}
 use Rattle.line.specs.declared.Line.{Line}
@@ -57,7 +57,7 @@ module _ (keys text : List ℕ) (set : Set) (terms : Terms) (flow : Flow) where
               text = x;
               set = universal-set .1;
               lastSet = universal-set .1;
-              shown = omega arith;
+              prompt = omega arith;
               flow = f .counted;
             };
           };

@@ -3,7 +3,6 @@ ghost use mathlib.Core.Path.{_≡_};
 ghost use Rattle.line.specs.View.{view};
 ghost use Rattle.line.specs.Bounded.{IsFresh};
 ghost use Rattle.console.specs.FreshFlow.{IsFreshFlow};
-use characteristics::Set;
 use characteristics::Switches;
 use line::Flow;
 use line::Line;
@@ -12,6 +11,7 @@ use line::Terminal;
 use line::Terms;
 use line::Typed;
 use screen::Screen;
+use sets::Set;
 
 // The terms of a line that has no read pending.
 fn no_terms() -> Terms
@@ -52,7 +52,7 @@ fn fresh_flow() -> Flow
     };
     let typed = Typed {
         keys_len: 0,
-        token: [0u8; rules::TOKEN],
+        token: [0u8; rules::TOKEN_SIZE],
         token_len: 0,
     };
     let reading = Reading {
@@ -83,9 +83,9 @@ pub fn fresh() -> Line
     let terms = no_terms();
     let flow = fresh_flow();
     Line {
-        attributes: [0u8; rules::CODES],
-        keys: [0u16; rules::TYPE_AHEAD],
-        text: [0u8; rules::INPUT],
+        attributes: [0u8; rules::CODE_COUNT],
+        keys: [0u16; rules::TYPE_AHEAD_SIZE],
+        text: [0u8; rules::INPUT_SIZE],
         set,
         last_set: set,
         initiated: false,

@@ -5,7 +5,8 @@ ghost use Rattle.rules.specs.Messages.Layout.{byte, numberOf, writeGroups};
 ghost use Rattle.rules.specs.Messages.Forms.{revisionSize, writeWidths};
 ghost use lib.ListN.{replicate};
 ghost use Rattle.message.specs.declared.Message.the-variants as variants;
-ghost use Rattle.message.specs.Found.{heldIn, spanOf};
+ghost use Rattle.fields.specs.Spans.{spanOf};
+ghost use Rattle.message.specs.Found.{heldIn};
 ghost use Rattle.areas.specs.Puts.{Puts};
 ghost use Rattle.fronts.specs.Front.{frontBytes, writeFlags};
 use crate::put::put_span;
@@ -15,28 +16,28 @@ use areas::put_byte;
 use areas::put_number;
 use areas::put_pair;
 use areas::put_word;
+use fields::Span;
 use message::InitiateFields;
 use message::ReadDataFields;
-use message::Span;
 use message::WriteFields;
 use rules::bits;
-use rules::layout;
+use rules::forms;
 
 // Bytes of Initiate's REVISION.
-const REVISION_SIZE: usize = layout::REVISION_SIZE as usize;
+const REVISION_SIZE: usize = forms::REVISION_SIZE as usize;
 
 // Fields of FLAGS, by how many values they have.
-const FOUR_BITS: u32 = bits::FOUR as u32;
+const FOUR_BITS: u32 = bits::FOUR_BITS as u32;
 
-const ONE_BIT: u16 = bits::ONE as u16;
+const ONE_BIT: u16 = bits::ONE_BIT as u16;
 
-const TWO_BITS: u16 = bits::TWO as u16;
+const TWO_BITS: u16 = bits::TWO_BITS as u16;
 
-// Eight bytes of a span; 0 for those that it does not have.
-fn put_eight(s: &[u8], p: Span, area: &mut [u8], at: usize) -> usize
+// REVISION out of a span; 0 for each byte that it does not have.
+fn put_revision(s: &[u8], p: Span, area: &mut [u8], at: usize) -> usize
     ensures { λ r. ⌜ Puts (writeGroups (replicate revisionSize byte) (spanOf (now (s .entry)) p)) (now (area .entry)) at r (now (area .exit)) ⌝ }
 {
-    let t = message::span_of(s, p);
+    let t = fields::span_of(s, p);
     let mut next = at;
     let mut i = 0;
     while i < REVISION_SIZE {
@@ -50,10 +51,10 @@ pub(crate) fn put_initiate(f: InitiateFields, s: &[u8], area: &mut [u8], at: usi
     ensures { λ r. ⌜ Puts (frontBytes (heldIn (now (s .entry)) (variants.Initiate f))) (now (area .entry)) at r (now (area .exit)) ⌝ }
 {
     let revision = f.revision;
-    let next = put_pair(rules::INITIATE, layout::NO_FLAGS, area, at);
+    let next = put_pair(rules::INITIATE, forms::NO_FLAGS, area, at);
     let next = put_pair(f.version, f.eco, area, next);
-    let next = put_number(layout::BYTE, f.modification as u32, area, next);
-    put_eight(s, revision, area, next)
+    let next = put_number(forms::BYTE, f.modification as u32, area, next);
+    put_revision(s, revision, area, next)
 }
 
 pub(crate) fn put_read_data(f: ReadDataFields, s: &[u8], area: &mut [u8], at: usize) -> usize
@@ -62,7 +63,7 @@ pub(crate) fn put_read_data(f: ReadDataFields, s: &[u8], area: &mut [u8], at: us
     let text = f.text;
     let flags = f.code as u32 + FOUR_BITS * (f.more as u32);
     let next = put_byte(rules::READ_DATA, area, at);
-    let next = put_number(layout::BYTE, flags, area, next);
+    let next = put_number(forms::FLAG_BYTES, flags, area, next);
     let next = put_word(f.low_water, area, next);
     let next = put_pair(f.vertical, f.horizontal, area, next);
     let next = put_word(f.terminator, area, next);
@@ -111,7 +112,7 @@ pub(crate) fn put_write(f: WriteFields, s: &[u8], area: &mut [u8], at: usize) ->
     let text = f.text;
     let flags = write_flags(f);
     let next = put_byte(rules::WRITE, area, at);
-    let next = put_number(layout::WRITE_FLAGS, flags, area, next);
+    let next = put_number(forms::WRITE_FLAG_BYTES, flags, area, next);
     let next = put_pair(f.prefix_value, f.postfix_value, area, next);
     put_span(s, text, area, next)
 }
@@ -137,6 +138,6 @@ pub(crate) fn put_write_completion(
 pub(crate) fn put_input_count(count: u16, s: &[u8], area: &mut [u8], at: usize) -> usize
     ensures { λ r. ⌜ Puts (frontBytes (heldIn (now (s .entry)) (variants.InputCount count))) (now (area .entry)) at r (now (area .exit)) ⌝ }
 {
-    let next = put_pair(rules::INPUT_COUNT, layout::NO_FLAGS, area, at);
+    let next = put_pair(rules::INPUT_COUNT, forms::NO_FLAGS, area, at);
     put_word(count, area, next)
 }

@@ -11,7 +11,7 @@ use crate::heads::put_write_completion;
 use crate::start_read::put_start_read;
 use areas::put_pair;
 use message::Message;
-use rules::layout;
+use rules::forms;
 
 mod heads;
 mod put;
@@ -33,7 +33,7 @@ pub fn put_message(m: Message, s: &[u8], area: &mut [u8], at: usize) -> usize
             at,
         ),
         Message::Unread { condition } => put_pair(rules::UNREAD, condition, area, at),
-        Message::ClearInput => put_pair(rules::CLEAR_INPUT, layout::NO_FLAGS, area, at),
+        Message::ClearInput => put_pair(rules::CLEAR_INPUT, forms::NO_FLAGS, area, at),
         Message::Write(f) => put_write(f, s, area, at),
         Message::WriteCompletion {
             lost,
@@ -43,17 +43,17 @@ pub fn put_message(m: Message, s: &[u8], area: &mut [u8], at: usize) -> usize
         Message::DiscardState { kept } => put_pair(rules::DISCARD_STATE, kept, area, at),
         Message::ReadCharacteristics { parameters: _ } => put_pair(
             rules::READ_CHARACTERISTICS,
-            layout::NO_FLAGS,
+            forms::NO_FLAGS,
             area,
             at,
         ),
         Message::Characteristics { parameters: _ } => put_pair(
             rules::CHARACTERISTICS,
-            layout::NO_FLAGS,
+            forms::NO_FLAGS,
             area,
             at,
         ),
-        Message::CheckInput => put_pair(rules::CHECK_INPUT, layout::NO_FLAGS, area, at),
+        Message::CheckInput => put_pair(rules::CHECK_INPUT, forms::NO_FLAGS, area, at),
         Message::InputCount { count } => put_input_count(count, s, area, at),
         Message::InputState { nonzero } => put_pair(rules::INPUT_STATE, nonzero, area, at),
         Message::Other { kind: _, body: _ } => at,

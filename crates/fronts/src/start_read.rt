@@ -13,17 +13,17 @@ use areas::put_number;
 use areas::put_word;
 use message::StartReadFields;
 use rules::bits;
-use rules::layout;
+use rules::forms;
 
 // Fields of FLAGS, by how many values they have.
-const ONE_BIT: u16 = bits::ONE as u16;
+const ONE_BIT: u16 = bits::ONE_BIT as u16;
 
-const TWO_BITS: u16 = bits::TWO as u16;
+const TWO_BITS: u16 = bits::TWO_BITS as u16;
 
-const THREE_BITS: u16 = bits::THREE as u16;
+const THREE_BITS: u16 = bits::THREE_BITS as u16;
 
 // How many values a byte has.
-const BYTE_VALUES: usize = layout::BYTE_VALUES as usize;
+const BYTE_VALUES: usize = forms::BYTE_VALUES as usize;
 
 // How many values the first four fields have together, and the four behind them.
 pub(crate) const LOW_FLAGS: u32 = 32;
@@ -78,10 +78,10 @@ pub(crate) fn put_start_read(f: StartReadFields, s: &[u8], area: &mut [u8], at: 
     let set = f.set;
     let text = f.text;
     let flags = start_read_flags(f);
-    let bytes = message::span_of(s, set);
+    let bytes = fields::span_of(s, set);
     let count = (bytes.len() % BYTE_VALUES) as u8;
     let next = put_byte(rules::START_READ, area, at);
-    let next = put_number(layout::START_READ_FLAGS, flags, area, next);
+    let next = put_number(forms::START_READ_FLAG_BYTES, flags, area, next);
     let next = put_words(f, area, next);
     let next = put_byte(count, area, next);
     let next = put_span(s, set, area, next);

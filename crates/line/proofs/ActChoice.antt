@@ -17,7 +17,7 @@ use Rattle.line.specs.declared.events.HostMessage.{HostMessage}
 use Rattle.line.specs.declared.events.Event.{Event}
 use Rattle.line.specs.declared.events.Event.the-variants.{Key, Tick, Step, Host}
 use Rattle.line.specs.declared.events.Lookup.{Lookup}
-use Rattle.line.specs.Events.{Sees, isActOf, eventRule}
+use Rattle.line.specs.Events.{LookedUp, isActOf, eventRule}
 use Rattle.line.specs.Answers.{Answers}
 use Rattle.line.specs.Bounded.{Counted, Bounded}
 use Rattle.line.proofs.EventRules.{eventOf, AcceptedEvent, event-answers, event-bytes}
@@ -87,8 +87,8 @@ module _ {rule : Rule ℕ} {s : List ℕ} {w r : Progress} {a : Act} {t t′ m m
 
 -- An event, by its case.
 module _ (s : List ℕ) (l : Line) (lookup : Lookup) {a : Act} {e f : Event} where
-  pub event-meets : e ≡ f → Sees s l lookup e → (Sees s l lookup f → Meets (eventRule s f) s l a) → Meets (eventRule s e) s l a
-  event-meets h b k = subst (λ x. Meets (eventRule s x) s l a) (sym h) (k (subst (Sees s l lookup) h b))
+  pub event-meets : e ≡ f → LookedUp s l lookup e → (LookedUp s l lookup f → Meets (eventRule s f) s l a) → Meets (eventRule s e) s l a
+  event-meets h b k = subst (λ x. Meets (eventRule s x) s l a) (sym h) (k (subst (LookedUp s l lookup) h b))
 
 pub kind-as : (a : Act) {e f : Event} → e ≡ f → isActOf f a ≡ true → isActOf e a ≡ true
 kind-as a h k = ap (λ x. isActOf x a) h ∙ k

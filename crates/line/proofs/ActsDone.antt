@@ -14,7 +14,7 @@ use Rattle.rules.specs.Messages.Codec as codec
 use Rattle.rules.specs.Messages.Codec.{read, soundLength}
 use Rattle.rules.specs.Calls as rules
 use Rattle.rules.specs.Calls.{areRoomy, refusals, received, messageBytes}
-use Rattle.rules.proofs.Tests.{row-applies}
+use Rattle.rules.proofs.Choice.{row-applies}
 use Rattle.rules.proofs.Outcomes.{refused-sound}
 use Rattle.line.specs.declared.Line.{Line}
 use Rattle.line.specs.declared.Terms.{Terms}
@@ -160,7 +160,7 @@ done-counted l a text r c size f =
       text = size;
       set = c .set;
       lastSet = c .lastSet;
-      shown = c .shown;
+      prompt = c .prompt;
       flow = f;
     }
 

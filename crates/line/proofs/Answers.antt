@@ -14,8 +14,8 @@ use Rattle.rules.specs.Calls as rules
 use Rattle.rules.specs.Calls.{Event, Call, areRoomy, answer, answers, does, refuses, messageBytes, areaAfter}
 use Rattle.rules.specs.Bounds as bounds
 use Rattle.rules.specs.Bounds.{isByteEvent, Within}
-use Rattle.rules.proofs.Tests.{none-left, row-applies, row-passed, halves}
-use Rattle.rules.proofs.Areas.{puts-front}
+use Rattle.rules.proofs.Choice.{none-left, row-applies, row-passed, halves}
+use Rattle.rules.proofs.Area.{puts-front}
 use Rattle.rules.proofs.Bounds.Calls.{call-within}
 use borrow.Author.Tests.{leb-true}
 use Rattle.line.specs.declared.Line.{Line}

@@ -106,8 +106,8 @@ module _ (f : Option (state.Reading ℕ) → Rule ℕ) {pending : Bool} (r : sta
   pub idle-does : pending ≡ false → Does (f none) w t m v t′ m′ → Does (f (pendingOf pending r)) w t m v t′ m′
   idle-does e h = rw e h
 
-pub passes-is : (pending : Bool) (r : state.Reading ℕ) → rules.passesControls (pendingOf pending r) ≡ pending && eqb (r .terms .disables) 3
-unfolding rules.passesControls
+pub passes-is : (pending : Bool) (r : state.Reading ℕ) → rules.areControlsOff (pendingOf pending r) ≡ pending && eqb (r .terms .disables) 3
+unfolding rules.areControlsOff
 passes-is true r = refl
 passes-is false r = refl
 

@@ -14,7 +14,7 @@ use Rattle.rules.specs.Messages.Forms.{Message, forms, formOf, readData}
 use Rattle.rules.specs.Messages.Codec.{tailBytes, bytesAs}
 use Rattle.rules.specs.Calls.{framed, mapText, sentBytes}
 use Rattle.rules.specs.TwoRuns.{blanked}
-use Rattle.rules.proofs.Tests.{pick-true, pick-false, pick-case}
+use Rattle.rules.proofs.Choice.{pick-true, pick-false, pick-case}
 use Rattle.rules.proofs.Fields.{length-writeGroups}
 use Rattle.rules.proofs.Bounds.Sent.{areaOf, area-append, area-one, mapText-same}
 use Rattle.line.specs.Chains.{hiddenBytes, outsideData}

@@ -13,8 +13,8 @@ use Rattle.rules.specs.State.{codes}
 use Rattle.rules.specs.Calls.{Call, answer, areaAfter, messageBytes, runFrom, run}
 use Rattle.rules.specs.Bench.{Exchange, answersAs, runsAs, holds}
 use Rattle.rules.specs.TwoRuns.{Supposition, supposed, inBand, unacted, seen, LooksTheSame}
-use Rattle.rules.proofs.Tests.{halves, quarters, same-equal}
-use Rattle.rules.proofs.Sizes.{area-word}
+use Rattle.rules.proofs.Choice.{halves, quarters, same-equal}
+use Rattle.rules.proofs.Numbers.{area-word}
 use Rattle.rules.proofs.Bench.{row-holds}
 use Rattle.rules.proofs.Bounds.Calls.{call-within}
 use Rattle.rules.proofs.TwoRuns.Claim.{demand3, demand3-weak}

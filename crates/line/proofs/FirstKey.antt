@@ -8,8 +8,8 @@ use Rattle.rules.specs.State.{codes}
 use Rattle.rules.specs.StartRead.{inSet}
 use Rattle.rules.specs.Turns.{Rule, _then_}
 use Rattle.rules.specs.Token.{isPartial}
-use Rattle.rules.specs.Steps.{beginsToken, editsBy, addsToToken, takesData, takesPlain, raisedBy, takes}
-use Rattle.characteristics.specs.View.{setOf}
+use Rattle.rules.specs.Steps.{isTokenStart, isEditKey, addsToToken, takesData, takesPlain, raisedBy, takes}
+use Rattle.sets.specs.View.{setOf}
 use Rattle.line.specs.declared.Line.{Line}
 use Rattle.line.specs.declared.acts.Taken.{Taken}
 use Rattle.line.specs.declared.acts.Taken.the-variants.{Token, Terminator, Edit, Data}
@@ -32,11 +32,11 @@ module _ (s : List ℕ) (l : Line) where
       plain-ends ends = behind-first _ _ _ refl ends (met can)
 
       module _ (not-ends : inSet (setOf (l .set)) c ≡ false) where
-        pub plain-edits : editsBy c (idleAtZero l) ≡ true → Behind (takesPlain codes c (idleAtZero l)) (Edit c)
+        pub plain-edits : isEditKey c (idleAtZero l) ≡ true → Behind (takesPlain codes c (idleAtZero l)) (Edit c)
         unfolding takesPlain
         plain-edits edits = behind-second _ _ _ refl not-ends (behind-first _ _ _ refl edits (met can))
 
-        pub plain-data : editsBy c (idleAtZero l) ≡ false → Behind (takesPlain codes c (idleAtZero l)) (Data c)
+        pub plain-data : isEditKey c (idleAtZero l) ≡ false → Behind (takesPlain codes c (idleAtZero l)) (Data c)
         unfolding takesPlain
         plain-data edits = behind-second _ _ _ refl not-ends (behind-second _ _ _ refl edits (met can))
 
@@ -56,21 +56,21 @@ module _ (s : List ℕ) (l : Line) where
             (meets-behind _ _ (ap (λ n. takesData codes n (idleAtZero l) (keyTaken l (view l))) (sym code)) (met can)))
 
         module _ (not-quoted : k .quoted ≡ false) where
-          pub first-begins : beginsToken c (idleAtZero l) ≡ true → Behind (takes codes k (idleAtZero l)) (Token c)
+          pub first-begins : isTokenStart c (idleAtZero l) ≡ true → Behind (takes codes k (idleAtZero l)) (Token c)
           unfolding takes
           first-begins begins =
               behind-second _ _ _ refl no-token
               (behind-second _ _ _ refl not-quoted
-              (behind-first _ _ _ refl (ap (λ n. beginsToken n (idleAtZero l)) (sym code) ∙ begins)
+              (behind-first _ _ _ refl (ap (λ n. isTokenStart n (idleAtZero l)) (sym code) ∙ begins)
               (meets-behind _ _ (ap (λ n. addsToToken codes n (idleAtZero l) (keyTaken l (view l))) (sym code)) (met can))))
 
-          pub first-plain : {n : ℕ} {x : Taken} → beginsToken c (idleAtZero l) ≡ false → n ≡ raisedBy codes (idleAtZero l) c →
+          pub first-plain : {n : ℕ} {x : Taken} → isTokenStart c (idleAtZero l) ≡ false → n ≡ raisedBy codes (idleAtZero l) c →
               Behind (takesPlain codes n (idleAtZero l)) x → Behind (takes codes k (idleAtZero l)) x
           unfolding takes
           first-plain begins raised plain =
               behind-second _ _ _ refl no-token
               (behind-second _ _ _ refl not-quoted
-              (behind-second _ _ _ refl (ap (λ n. beginsToken n (idleAtZero l)) (sym code) ∙ begins)
+              (behind-second _ _ _ refl (ap (λ n. isTokenStart n (idleAtZero l)) (sym code) ∙ begins)
               (meets-behind _ _
               (ap (λ n. takesPlain codes n (idleAtZero l) (keyTaken l (view l))) (ap (raisedBy codes (idleAtZero l)) (sym code) ∙ sym raised))
               plain)))

@@ -14,11 +14,12 @@ use Rattle.rules.specs.State.{codes, withTyped, withToken, withRead, withDispla
 use Rattle.rules.specs.Screen.{shownAll, change}
 use Rattle.rules.specs.Turns.{Rule, still, writes, changes, behind, _then_, only}
 use Rattle.rules.specs.Token.{isWhole}
-use Rattle.rules.specs.ReadData.{endsRead, moreData, answerOf, completes}
+use Rattle.rules.specs.ReadData.{endsRead, moreData, readDataOf, completes}
 use Rattle.rules.specs.Calls.{messageBytes}
 use Rattle.rules.specs.Messages.Codec as codec
 use Rattle.rules.specs.Messages.Forms as forms
-use Rattle.message.specs.Found.{heldIn, spanOf}
+use Rattle.fields.specs.Spans.{spanOf}
+use Rattle.message.specs.Found.{heldIn}
 use Rattle.message.specs.declared.Message.the-variants.{ReadData}
 use Rattle.line.specs.declared.Work.{Work}
 use Rattle.line.specs.declared.Line.{Line}
@@ -32,7 +33,7 @@ use Rattle.line.specs.With.{goesOn, onRead, onTyped, offRead, onFlow, le
 use Rattle.line.specs.ReadChanges.{idling, shownAt}
 use Rattle.line.specs.TokenChanges.{codesOf, untokened, tokened}
 use Rattle.line.specs.Promise.{Progress, on, Does}
-use Rattle.rules.proofs.Tests.{pick-true, pick-false}
+use Rattle.rules.proofs.Choice.{pick-true, pick-false}
 use Rattle.line.proofs.Turns.{changes-does, still-does}
 use Rattle.line.proofs.InputAppended.{input-length}
 use Rattle.line.proofs.TokenBytes.{tokened-token}
@@ -190,7 +191,7 @@ idle-count r e h = rw e h
 
 -- the answer of a read, as the program sends it
 module _ (f : Flow) (t : Terms) (r : Reading) (code ending : ℕ) {more vertical horizontal : ℕ} where
-  pub answer-held : (text : List ℕ) (k l : Line) → CountedReading r text →
+  pub read-data-held : (text : List ℕ) (k l : Line) → CountedReading r text →
       more ≡ bit (not (isEmpty (keysOf (f .typed .«keys_len») (k .keys))) || isWhole (codesOf (f .typed))) →
       vertical ≡ change (f .terminal .screen .line) (t .line) →
       horizontal ≡ change (f .terminal .screen .column) (t .column) →
@@ -204,9 +205,9 @@ module _ (f : Flow) (t : Terms) (r : Reading) (code ending : ℕ) {more vertical
         terminator = r .«input_len» - ending;
         text = record { start = 0; len = r .«input_len» };
       }))
-      ≡ codec.message (answerOf codes code ending (readingOf (lent t text l) r) (view (onFlow f k)))
-  unfolding heldIn spanOf answerOf moreData inputOf
-  answer-held text k l c m v h =
+      ≡ codec.message (readDataOf codes code ending (readingOf (lent t text l) r) (view (onFlow f k)))
+  unfolding heldIn spanOf readDataOf moreData inputOf
+  read-data-held text k l c m v h =
       let n : r .«input_len» - ending ≡ length (inputOf (r .«input_len») text) - ending =
       ap (λ j. j - ending) (sym (input-length (r .«input_len») text (omega arith))) in λ i.
       codec.message (record {

@@ -14,12 +14,13 @@ use Rattle.rules.specs.Calls.{isCarriedBy, carriesQuestions}
 use Rattle.rules.proofs.Bounds.Sent.{Fit, read-sent}
 use Rattle.rules.proofs.Bounds.Received as received
 use Rattle.rules.proofs.Bounds.Calls.{received-sound}
-use Rattle.message.specs.declared.Span.{Span}
+use Rattle.fields.specs.declared.Span.{Span}
 use Rattle.message.specs.declared.Message.{Message}
 use Rattle.message.specs.declared.Message.the-variants as message
 use Rattle.message.proofs.Message.{the-type}
 use Rattle.message.specs.declared.StartReadFields.{StartReadFields}
-use Rattle.message.specs.Found.{spanOf, startReadIn, heldIn}
+use Rattle.fields.specs.Spans.{spanOf}
+use Rattle.message.specs.Found.{startReadIn, heldIn}
 use Rattle.characteristics.specs.Lists.{questionsIn}
 use Rattle.characteristics.proofs.Held.{held-questions}
 use Rattle.line.specs.declared.Line.{Line}
@@ -158,13 +159,13 @@ abbrev unreported : List ℕ
 unreported = 0 ∷ 1 ∷ 2 ∷ 3 ∷ 4 ∷ 6 ∷ 7 ∷ []
 
 pub nothing-reported : (s : List ℕ) (l : Line) (m : HostMessage) (a : List ℕ) → OneOf unreported (tagOf host-type m) → Reported s m l a 0 a
-nothing-reported s l (Initiate f) a h = record { front = refl; area = refl }
-nothing-reported s l (StartRead f) a h = record { front = refl; area = refl }
-nothing-reported s l (Unread condition) a h = record { front = refl; area = refl }
-nothing-reported s l ClearInput a h = record { front = refl; area = refl }
-nothing-reported s l (Write f) a h = record { front = refl; area = refl }
-nothing-reported s l (Characteristics p) a h = record { front = refl; area = refl }
-nothing-reported s l CheckInput a h = record { front = refl; area = refl }
+nothing-reported s l (Initiate f) a h = record { nothing = refl; area = refl }
+nothing-reported s l (StartRead f) a h = record { nothing = refl; area = refl }
+nothing-reported s l (Unread condition) a h = record { nothing = refl; area = refl }
+nothing-reported s l ClearInput a h = record { nothing = refl; area = refl }
+nothing-reported s l (Write f) a h = record { nothing = refl; area = refl }
+nothing-reported s l (Characteristics p) a h = record { nothing = refl; area = refl }
+nothing-reported s l CheckInput a h = record { nothing = refl; area = refl }
 nothing-reported s l (ReadCharacteristics p) a h = absurd (miss unreported 5 tt h)
 
 -- what is set, or reported, by what the message is found to be

@@ -21,13 +21,14 @@ use Rattle.rules.specs.Messages.Layout.{byteAt}
 use Rattle.rules.proofs.Outcomes.{refused-sound, readable}
 use borrow.Author.Tests.{not-false}
 use Rattle.rules.proofs.Bounds.Calls.{received-sound}
-use Rattle.rules.proofs.Tests.{pick-true, pick-false, row-behind}
-use Rattle.message.specs.declared.Span.{Span}
+use Rattle.rules.proofs.Choice.{pick-true, pick-false, row-behind}
+use Rattle.fields.specs.declared.Span.{Span}
 use Rattle.message.specs.declared.StartReadFields.{StartReadFields}
-use Rattle.message.specs.Found.{spanOf, startReadIn, heldIn}
+use Rattle.fields.specs.Spans.{spanOf}
+use Rattle.message.specs.Found.{startReadIn, heldIn}
 use Rattle.areas.specs.Puts.{Puts}
 use Rattle.areas.proofs.Putting.{equals}
-use Rattle.characteristics.specs.declared.Set.{Set}
+use Rattle.sets.specs.declared.Set.{Set}
 use Rattle.line.specs.declared.Terms.{Terms}
 use Rattle.characteristics.specs.Lists.{answerTo, reportBytes, questionsIn, settingsIn}
 use Rattle.characteristics.proofs.Held.{held-questions, held-settings, report-carried}
@@ -91,17 +92,17 @@ held-kind (codec.other kind body) = kind
 
 -- what a message sets keeps the counts
 pub set-counted : (s : List ℕ) (l next : Line) (m : HostMessage) → Counted l → SetBy s m l next → Counted next
-set-counted s l next (Initiate f) c e = subst Counted (sym e) (record { table = c .table; keys = c .keys; text = c .text; set = c .set; lastSet = c .lastSet; shown = c .shown; flow = c .flow })
+set-counted s l next (Initiate f) c e = subst Counted (sym e) (record { table = c .table; keys = c .keys; text = c .text; set = c .set; lastSet = c .lastSet; prompt = c .prompt; flow = c .flow })
 set-counted s l next (StartRead f) c o =
     subst Counted (sym (o .same))
-    (record { table = c .table; keys = c .keys; text = o .size; set = o .set; lastSet = o .lastSet; shown = o .shown; flow = c .flow })
+    (record { table = c .table; keys = c .keys; text = o .size; set = o .set; lastSet = o .lastSet; prompt = o .prompt; flow = c .flow })
 set-counted s l next (Unread condition) c e = subst Counted (sym e) c
 set-counted s l next ClearInput c e = subst Counted (sym e) c
 set-counted s l next (Write f) c e = subst Counted (sym e) c
 set-counted s l next (ReadCharacteristics p) c e = subst Counted (sym e) c
 set-counted s l next (Characteristics p) c e =
     subst Counted (sym (e .same))
-    (record { table = e .counted .table; keys = c .keys; text = c .text; set = c .set; lastSet = e .counted .set; shown = c .shown; flow = c .flow })
+    (record { table = e .counted .table; keys = c .keys; text = c .text; set = c .set; lastSet = e .counted .set; prompt = c .prompt; flow = c .flow })
 set-counted s l next CheckInput c e = subst Counted (sym e) c
 
 -- A Start Read comes with no read pending.
@@ -185,7 +186,7 @@ begun-as : {p : Rule ℕ} {r : Progress} {t t′ m′ before mid : List ℕ} (l 
     Does p (on next (begunWork next place)) t mid r t′ m′ → Does p (begun l) t before r t′ m′
 begun-as {p} {r} {t} {t′} {m′} {before} {mid} l next place e i d =
     subst (λ z. Does p (begun z) t before r t′ m′) e
-    (subst (λ n. Does p (record { line = next; at = 0; sent = n }) t before r t′ m′) (i .front)
+    (subst (λ n. Does p (record { line = next; at = 0; sent = n }) t before r t′ m′) (i .nothing)
     (subst (λ b. Does p (on next (begunWork next place)) t b r t′ m′) (i .area) d))
 
 -- By the message's type.
@@ -264,4 +265,4 @@ module _ (s t before mid t′ m′ text′ : List ℕ) (l next : Line) (place : 
       let works : Works m next = λ k. subst (λ x. Done s x (next .terms) k (begunWork next place) (next .text) t mid r text′ t′ m′) e (d k) in
       answered (calls.message s) l t before b (obeysHeld (heldIn s (messageOf m))) (event-answers l s (Host m) a) (event-bytes l s (Host m) a) room
       (on (lent (next .terms) text′ next) r) t′ m′ (host-does m a (b .counted .keys) (c .keys) set said works)
-      (record { table = c .table; keys = c .keys; text = size; set = c .set; lastSet = c .lastSet; shown = c .shown; flow = f })
+      (record { table = c .table; keys = c .keys; text = size; set = c .set; lastSet = c .lastSet; prompt = c .prompt; flow = f })

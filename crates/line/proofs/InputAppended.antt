@@ -15,7 +15,7 @@ use Rattle.rules.specs.State as rules
 use Rattle.rules.specs.State.{codes, withInput}
 use Rattle.rules.specs.Editing.{endOf, hiddenCount, displayed}
 use Rattle.rules.specs.Steps.{appended}
-use Rattle.rules.proofs.Tests.{pick-true, pick-false, halves}
+use Rattle.rules.proofs.Choice.{pick-true, pick-false, halves}
 use Rattle.line.specs.declared.Reading.{Reading}
 use Rattle.line.specs.declared.Terms.{Terms}
 use Rattle.line.specs.declared.Line.{Line}

@@ -12,7 +12,8 @@ use Rattle.rules.specs.Calls.{framed, sentBytes}
 use Rattle.rules.specs.Host.{ourInitiate}
 use Rattle.message.specs.declared.Message.{Message}
 use Rattle.message.specs.declared.Message.the-variants.{Initiate}
-use Rattle.message.specs.Found.{spanOf, heldIn}
+use Rattle.fields.specs.Spans.{spanOf}
+use Rattle.message.specs.Found.{heldIn}
 use Rattle.writing.specs.Spans.{spansOf, spannedSize}
 use Rattle.fronts.specs.Front.{frontTail, frontBytes}
 

@@ -38,7 +38,7 @@ pending-room l b e =
     let counted = b .counted in
     let full : CountedReading r (l .text) = record { within = counted .flow .within; full = counted .text } in
     let end = end-is (l .terms) (l .text) l r full in
-    let prompt = prompt-length (l .terms .«prompt_len») (l .text) (counted .shown) (counted .text) in
+    let prompt = prompt-length (l .terms .«prompt_len») (l .text) (counted .prompt) (counted .text) in
     let largest = read .terms .largest in
     let room = read .room in
     let shown = read .terms .prompt in

@@ -13,7 +13,7 @@ use Rattle.rules.specs.Messages.Codec.{Outcome, refused, sound, soundLength, de
 use Rattle.rules.specs.State.{Reading, State, codes}
 use Rattle.rules.specs.Calls as rules
 use Rattle.rules.specs.Calls.{Answer, areRoomy, isPending, isServers, isHosts, isRefused, isCarriedBy, carries, refusals, received, refuses, answersMessage, answers, answer}
-use Rattle.rules.proofs.Tests.{none-left, row-applies, row-passed, halves}
+use Rattle.rules.proofs.Choice.{none-left, row-applies, row-passed, halves}
 use borrow.Author.Tests.{not-true}
 use Rattle.rules.specs.Messages.Layout.{byteAt}
 use Rattle.rules.proofs.Outcomes.{refused-sound, sound-same, refused-same, readable, read-refused}

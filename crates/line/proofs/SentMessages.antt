@@ -4,7 +4,7 @@ use Prim.Native.Nat.{ℕ, _+_, _≤_}
 use native.Mathlib.Omega.{arith}
 use lib.Dec.{leb·zero}
 use borrow.Author.Tests.{le-leb}
-use Rattle.rules.proofs.Tests.{both}
+use Rattle.rules.proofs.Choice.{both}
 use Rattle.rules.proofs.Bounds.Sent.{mapText-same}
 use mathlib.Core.Bool.{true}
 use mathlib.Core.List.{List, [], _∷_, append-nil}

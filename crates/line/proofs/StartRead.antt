@@ -15,9 +15,10 @@ use Rattle.rules.specs.StartRead.Acceptance as rules
 use Rattle.rules.specs.StartRead.Acceptance.{hidesLF}
 use Rattle.rules.specs.StartRead.{chosenSet}
 use Rattle.message.specs.declared.StartReadFields.{StartReadFields}
-use Rattle.message.specs.Found.{spanOf, startReadIn}
-use Rattle.characteristics.specs.declared.Set.{Set}
-use Rattle.characteristics.specs.View.{setOf, CountedSet}
+use Rattle.fields.specs.Spans.{spanOf}
+use Rattle.message.specs.Found.{startReadIn}
+use Rattle.sets.specs.declared.Set.{Set}
+use Rattle.sets.specs.View.{setOf, CountedSet}
 use Rattle.line.specs.declared.Terms.{Terms}
 use Rattle.line.specs.declared.Line.{Line}
 use Rattle.line.specs.View.{view, termsOf, inputOf, promptOf}
@@ -169,7 +170,7 @@ module _ {s : List ℕ} {f : StartReadFields} (k : Startable s f) where
           prompting = ap (λ x. x .«auto_prompt») t;
           last = z .0;
           size = placed-size (l .text) typed shown full room;
-          shown = omega arith;
+          prompt = omega arith;
           set = c .1;
           lastSet = z .1;
         }

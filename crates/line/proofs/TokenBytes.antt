@@ -13,7 +13,7 @@ use Rattle.rules.specs.Choice.{isEmpty, bit}
 use Rattle.rules.specs.Numbers.{tokenSize}
 use Rattle.rules.specs.State as rules
 use Rattle.rules.specs.Token.{isWhole, isPartial}
-use Rattle.rules.proofs.Tests.{pick-true, pick-false}
+use Rattle.rules.proofs.Choice.{pick-true, pick-false}
 use Rattle.rules.proofs.Bounds.Steps.{whole-room}
 use Rattle.line.specs.declared.Typed.{Typed}
 use Rattle.line.specs.View.{keysOf, tokenOf}

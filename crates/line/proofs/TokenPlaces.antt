@@ -11,7 +11,7 @@ use lib.Seq.{drop-cons}
 use borrow.Author.Tests.{le-leb, lt-leb, ne-eqb}
 use Rattle.rules.specs.Numbers.{tokenSize}
 use Rattle.rules.specs.Token.{Place, empty, invalid, next, placeFrom, isFinished, isValid, standing}
-use Rattle.rules.proofs.Tests.{pick-true, pick-false}
+use Rattle.rules.proofs.Choice.{pick-true, pick-false}
 use Rattle.line.specs.TokenChanges.{placeOf}
 
 pub finished-number : (n : ℕ) → isFinished (placeOf n) ≡ leb 5 n

@@ -4,14 +4,14 @@ use Prim.Native.Nat.{ℕ}
 use mathlib.Core.List.{List, [], _∷_, _++_, map-append, append-assoc}
 use mathlib.Core.Bool.{Bool, true, false}
 use Rattle.rules.specs.Choice.{pick, joined}
-use Rattle.rules.proofs.Tests.{pick-true, pick-false}
+use Rattle.rules.proofs.Choice.{pick-true, pick-false}
 use Rattle.rules.specs.State.{State, codes, withTerminal, withScreen}
 use Rattle.rules.specs.Turns.{Fate, Turn, Rule, still, writes, tells, changes, behind, _then_, only}
 use Rattle.rules.specs.Calls.{messageBytes}
 use Rattle.rules.specs.Area.{puts, spot}
 use Rattle.screen.specs.declared.Shown.{Shown}
 use Rattle.screen.specs.View.{Writes}
-use Rattle.rules.proofs.Areas.{puts-append}
+use Rattle.rules.proofs.Area.{puts-append}
 use Rattle.line.specs.declared.Line.{Line}
 use Rattle.line.specs.declared.Work.{Work}
 use Rattle.line.specs.View.{view, terminalOf}

@@ -7,12 +7,12 @@ use mathlib.Core.List.{List, [], _∷_, reverse, reverse-append, map-id}
 use lib.ListN.{length, getD, take, drop, take-append-drop, length-drop, length-reverse}
 use lib.Seq.{take-suc, take-take, drop-at, length-take-le}
 use Rattle.rules.specs.Choice.{pick}
-use Rattle.rules.specs.Editing.{isWord, leading, leftBy23}
-use Rattle.rules.proofs.Tests.{pick-true, pick-false, pick-case}
+use Rattle.rules.specs.Editing.{isWord, leading, leftByDeleteWord}
+use Rattle.rules.proofs.Choice.{pick-true, pick-false, pick-case}
 use Rattle.line.specs.declared.Reading.{Reading}
 use Rattle.line.specs.View.{inputOf}
 use Rattle.line.specs.Bounded.{CountedReading}
-use Rattle.line.specs.ReadChanges.{ofClass, LeftBy23}
+use Rattle.line.specs.ReadChanges.{ofClass, LeftByDeleteWord}
 
 -- where the characters that pass a test at the end begin
 abbrev pub before : (ℕ → Bool) → ℕ → List ℕ → ℕ
@@ -54,8 +54,8 @@ drop-reverse ns k h =
 
 -- first back over what is of no word, then over a word
 left-by : (text : List ℕ) (end spaces left : ℕ) → end ≤ length text → spaces ≡ before (ofClass false) end text →
-    left ≡ before (ofClass true) spaces text → left ≡ leftBy23 (take end text)
-unfolding leftBy23 ofClass pick
+    left ≡ before (ofClass true) spaces text → left ≡ leftByDeleteWord (take end text)
+unfolding leftByDeleteWord ofClass pick
 left-by text end spaces left h e f =
     let ns = take end text in
     let long : length ns ≡ end = length-take-le end text h in
@@ -68,10 +68,10 @@ left-by text end spaces left h e f =
     omega arith
 
 pub leaves-23 : (r : Reading) (text : List ℕ) (spaces left : ℕ) → CountedReading r text → spaces ≡ before (ofClass false) (r .«input_len») text →
-    left ≡ before (ofClass true) spaces text → LeftBy23 text r left
+    left ≡ before (ofClass true) spaces text → LeftByDeleteWord text r left
 unfolding inputOf
 leaves-23 r text spaces left c e f =
     record {
-      left-by = λ t l. left-by text (r .«input_len») spaces left (omega arith) e f ∙ ap leftBy23 (sym (map-id (take (r .«input_len») text)));
+      left-by = λ t l. left-by text (r .«input_len») spaces left (omega arith) e f ∙ ap leftByDeleteWord (sym (map-id (take (r .«input_len») text)));
       within = omega arith;
     }

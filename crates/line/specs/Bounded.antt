@@ -6,7 +6,7 @@ use lib.ListN.{length}
 use Rattle.rules.specs.Numbers.{codeCount, inputSize, typeAheadSize, tokenSize}
 use Rattle.rules.specs.Bounds as rules
 use Rattle.rules.specs.State as state
-use Rattle.characteristics.specs.View.{CountedSet}
+use Rattle.sets.specs.View.{CountedSet}
 use Rattle.line.specs.declared.Typed.{Typed}
 use Rattle.line.specs.declared.Reading.{Reading}
 use Rattle.line.specs.declared.Flow.{Flow}
@@ -34,7 +34,7 @@ pub record Counted (l : Line) : Type 0 where
   pub text : length (l .text) ≡ inputSize
   pub set : CountedSet (l .set)
   pub lastSet : CountedSet (l .«last_set»)
-  pub shown : l .terms .«prompt_len» ≤ inputSize
+  pub prompt : l .terms .«prompt_len» ≤ inputSize
   pub flow : CountedFlow (l .flow)
 
 pub record Bounded (l : Line) : Type 0 where

@@ -58,13 +58,20 @@ callsOf ks = map callOf ks
 unfoldable pub hiddenBytes : ℕ → ℕ → ℕ
 hiddenBytes kind size = pick (eqb kind readData) (size - readDataHeader) 0
 
+-- behind the low byte of a message's length: the high byte, and the message's type
+abbrev pub highIn : List ℕ → ℕ
+highIn rest = byteAt rest 0
+
+abbrev pub kindIn : List ℕ → ℕ
+kindIn rest = byteAt rest 1
+
 -- The bytes of a message area with those of DATA blanked, by a walk that shows so many bytes, then hides so many, and then stands at the
 -- two bytes of the next message's length, which with its type say how it goes on.
 unfoldable pub outsideData : ℕ → ℕ → List ℕ → List ℕ
 outsideData show hide [] = []
 outsideData zero zero (low ∷ rest) =
-    let size = low + byteValues * byteAt rest 0 in
-    let hidden = hiddenBytes (byteAt rest 1) size in
+    let size = low + byteValues * highIn rest in
+    let hidden = hiddenBytes (kindIn rest) size in
     low ∷ outsideData (1 + size - hidden) hidden rest
 outsideData zero (suc hide) (b ∷ bs) = blank ∷ outsideData zero hide bs
 outsideData (suc show) hide (b ∷ bs) = b ∷ outsideData show hide bs

@@ -21,17 +21,17 @@ use Rattle.line.specs.Bounded.{Bounded}
 use Rattle.line.specs.Host.{messageOf, Accepted, obeysHeld}
 
 -- what a step looks at
-pub record SeesStep (s : List ℕ) (l : Line) (lookup : Lookup) : Type 0 where
+pub record LookedUpForStep (s : List ℕ) (l : Line) (lookup : Lookup) : Type 0 where
   pub bounded : Bounded l
   pub held : lookup .held ≡ isWhole (codesOf (l .flow .typed))
   pub taken : TakesFirst s l (lookup .taken)
 
 -- what was looked up of the line is so
-abbrev pub Sees : List ℕ → Line → Lookup → Event → Type 0
-Sees s l lookup (Key c) = (lookup .initiated ≡ l .initiated) × (lookup .attribute ≡ getD (l .attributes) c 0)
-Sees s l lookup Tick = lookup .held ≡ isWhole (codesOf (l .flow .typed))
-Sees s l lookup Step = SeesStep s l lookup
-Sees s l lookup (Host m) = Accepted l s m
+abbrev pub LookedUp : List ℕ → Line → Lookup → Event → Type 0
+LookedUp s l lookup (Key c) = (lookup .initiated ≡ l .initiated) × (lookup .attribute ≡ getD (l .attributes) c 0)
+LookedUp s l lookup Tick = lookup .held ≡ isWhole (codesOf (l .flow .typed))
+LookedUp s l lookup Step = LookedUpForStep s l lookup
+LookedUp s l lookup (Host m) = Accepted l s m
 
 -- an event may meet this act
 abbrev pub isActOf : Event → Act → Bool

@@ -22,7 +22,8 @@ use Rattle.characteristics.specs.View.{CountedHost, hostView}
 use Rattle.characteristics.specs.declared.Host.{Host}
 use Rattle.message.specs.declared.Message.{Message}
 use Rattle.message.specs.declared.Message.the-variants as message
-use Rattle.message.specs.Found.{spanOf, startReadIn, writeIn, heldIn}
+use Rattle.fields.specs.Spans.{spanOf}
+use Rattle.message.specs.Found.{startReadIn, writeIn, heldIn}
 use Rattle.line.specs.declared.events.Sender.{Sender}
 use Rattle.line.specs.declared.events.Sender.the-variants as sender
 use Rattle.line.specs.declared.events.HostMessage.{HostMessage}
@@ -155,7 +156,7 @@ SetBy s CheckInput l next = next ≡ l
 
 -- A report goes into the message area, up to a place; any other message leaves it alone.
 pub record NoReport (before : List ℕ) (place : ℕ) (after : List ℕ) : Type 0 where
-  pub front : place ≡ 0
+  pub nothing : place ≡ 0
   pub area : after ≡ before
 
 abbrev pub Reported : List ℕ → HostMessage → Line → List ℕ → ℕ → List ℕ → Type 0
@@ -170,6 +171,6 @@ Reported s (Characteristics p) l before place after = NoReport before place afte
 Reported s CheckInput l before place after = NoReport before place after
 
 -- what the host has set, as the characteristics look at it
-abbrev pub hostStruct : Line → Host
-hostStruct l =
+abbrev pub hostIn : Line → Host
+hostIn l =
     record { initiated = l .initiated; switches = l .switches; attributes = l .attributes; «last_set» = l .«last_set» }

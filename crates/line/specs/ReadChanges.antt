@@ -7,7 +7,7 @@ use lib.ListN.{length, take, drop}
 use Rattle.rules.specs.Numbers.{inputSize}
 use Rattle.rules.specs.Choice.{pick}
 use Rattle.rules.specs.State as rules
-use Rattle.rules.specs.Editing.{isWord, leftBy23, inputCodes, displayed, shortened}
+use Rattle.rules.specs.Editing.{isWord, leftByDeleteWord, inputCodes, displayed, shortened}
 use Rattle.rules.specs.Steps.{appended}
 use Rattle.line.specs.declared.Terms.{Terms}
 use Rattle.line.specs.declared.Reading.{Reading}
@@ -39,8 +39,8 @@ pub record ShownFrom (r : Reading) (start : ℕ) : Type 0 where
   pub within : start ≤ r .«input_len»
 
 -- what 23 leaves of it
-pub record LeftBy23 (text : List ℕ) (r : Reading) (left : ℕ) : Type 0 where
-  pub left-by : (t : Terms) (l : Line) → left ≡ leftBy23 (inputCodes rules.codes (readingOf (lent t text l) r))
+pub record LeftByDeleteWord (text : List ℕ) (r : Reading) (left : ℕ) : Type 0 where
+  pub left-by : (t : Terms) (l : Line) → left ≡ leftByDeleteWord (inputCodes rules.codes (readingOf (lent t text l) r))
   pub within : left ≤ r .«input_len»
 
 -- a word's characters, or those between words

@@ -13,11 +13,12 @@ use Rattle.rules.specs.State.{codes}
 use Rattle.rules.specs.StartRead.Acceptance as rules
 use Rattle.rules.specs.StartRead.Acceptance.{dataBehind, hidesInput}
 use Rattle.message.specs.declared.StartReadFields.{StartReadFields}
-use Rattle.message.specs.Found.{spanOf, startReadIn}
+use Rattle.fields.specs.Spans.{spanOf}
+use Rattle.message.specs.Found.{startReadIn}
 use Rattle.screen.specs.declared.Screen.{Screen}
-use Rattle.characteristics.specs.declared.Set.{Set}
+use Rattle.sets.specs.declared.Set.{Set}
 use Rattle.characteristics.specs.declared.Switches.{Switches}
-use Rattle.characteristics.specs.View.{setOf, CountedSet}
+use Rattle.sets.specs.View.{setOf, CountedSet}
 use Rattle.line.specs.declared.Terms.{Terms}
 use Rattle.line.specs.declared.Reading.{Reading}
 use Rattle.line.specs.declared.Line.{Line}
@@ -84,6 +85,6 @@ pub record Opens (s : List ℕ) (f : StartReadFields) (l next : Line) : Type 0 w
   pub prompting : next .terms .«auto_prompt» ≡ l .switches .prompting
   pub last : setOf (next .«last_set») ≡ pick (eqb (f .«set_choice») choosesThis) (spanOf s (f .set)) (setOf (l .«last_set»))
   pub size : length (next .text) ≡ inputSize
-  pub shown : next .terms .«prompt_len» ≤ inputSize
+  pub prompt : next .terms .«prompt_len» ≤ inputSize
   pub set : CountedSet (next .set)
   pub lastSet : CountedSet (next .«last_set»)

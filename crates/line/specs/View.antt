@@ -9,7 +9,8 @@ use lib.ListN.{take, drop}
 use Rattle.rules.specs.Numbers.{codeCount, inputSize}
 use Rattle.rules.specs.State as rules
 use Rattle.screen.specs.View as screen
-use Rattle.characteristics.specs.View.{setOf, switchesOf}
+use Rattle.sets.specs.View.{setOf}
+use Rattle.characteristics.specs.View.{switchesOf}
 use Rattle.line.specs.declared.Terminal.{Terminal}
 use Rattle.line.specs.declared.Typed.{Typed}
 use Rattle.line.specs.declared.Terms.{Terms}

@@ -93,7 +93,7 @@ impl Work {
     {
         let flow = self.flow;
         let typed = flow.typed;
-        if (typed.keys_len as usize) < rules::TYPE_AHEAD {
+        if (typed.keys_len as usize) < rules::TYPE_AHEAD_SIZE {
             return self.keeps();
         }
         self.drops(terminal)
@@ -153,7 +153,7 @@ impl Work {
     }
 
     // A pending read's input goes, without rubbing out.
-    fn clears_unseen(self, pending: bool, r: Reading, t: Terms) -> Work
+    fn clears_without_rubbing(self, pending: bool, r: Reading, t: Terms) -> Work
         requires { ⌜ CountedFlow (self .flow) ⌝ }
         requires { ⌜ r .«input_len» ≤ inputSize ⌝ }
         ensures counted { λ w. ⌜ CountedFlow (w .flow) ⌝ }
@@ -162,13 +162,13 @@ impl Work {
             DoesOn (λ k. rules.clearsInput codes rules.withoutRubbing (pendingOf pending (readingOf k r))) (lent t text l) self a m w a m) ⌝ }
     {
         if pending {
-            return self.deletes_unseen(0, r, t);
+            return self.deletes_without_rubbing(0, r, t);
         }
         self
     }
 
     // It goes, rubbed out.
-    fn clears_seen(
+    fn clears_rubbing_out(
         self,
         terminal: &mut [u8],
         pending: bool,
@@ -202,7 +202,7 @@ impl Work {
         let next = self.empties_typed();
         let flow = next.flow;
         let reading = flow.reading;
-        next.clears_seen(terminal, flow.pending, reading, text, t)
+        next.clears_rubbing_out(terminal, flow.pending, reading, text, t)
     }
 
     // Rule 2, hello.
@@ -238,7 +238,7 @@ impl Work {
             (now (messages .exit))) ⌝ }
     {
         if pending {
-            return self.completes(messages, read_data::OUT_OF_BAND, NO_ENDING, r, text, t);
+            return self.completes(messages, read_data::BY_OUT_OF_BAND, NO_ENDING, r, text, t);
         }
         self
     }
@@ -254,7 +254,7 @@ impl Work {
         let emptied = said.empties_typed();
         let flow = emptied.flow;
         let reading = flow.reading;
-        let cleared = emptied.clears_unseen(flow.pending, reading, t);
+        let cleared = emptied.clears_without_rubbing(flow.pending, reading, t);
         let last = cleared.flow;
         let left = last.reading;
         cleared.ends_out_of_band(messages, last.pending, left, text, t)

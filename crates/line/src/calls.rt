@@ -23,7 +23,7 @@ use crate::refusals::early_row;
 use crate::refusals::row_of;
 use message::Found;
 
-// For an event that does not look.
+// What is looked up for an event that needs nothing.
 const NO_KEY: Taken = Taken::Data(0);
 
 const NO_LOOKUP: Lookup = Lookup {
@@ -87,7 +87,7 @@ impl Line {
             initiated: false,
             attribute: 0,
             held: typed.is_held(),
-            taken: flow.takes(first, ends, terms),
+            taken: flow.taken_as(first, ends, terms),
         };
         let act = flow.act_if(roomy, Event::Step, lookup, terms);
         move_keys(&mut next.keys, typed.keys_len as usize, act);
@@ -186,7 +186,7 @@ impl Line {
         }
         let f = message::decode(s);
         let Found::Message(m) = f else {
-            let number = message::number_of(f);
+            let number = message::found_number(f);
             return self.refuse(number);
         };
         let sender = sender_of(m);

@@ -3,7 +3,7 @@ ghost use mathlib.Core.Path.{_≡_};
 ghost use mathlib.Core.List.{List};
 ghost use Prim.Native.Nat.{ℕ};
 ghost use Rattle.rules.specs.State as rules;
-ghost use Rattle.rules.specs.Steps.{editsBy, beginsToken, raisedBy};
+ghost use Rattle.rules.specs.Steps.{isEditKey, isTokenStart, raisedBy};
 ghost use Rattle.line.specs.declared.Line.{Line};
 ghost use Rattle.line.specs.declared.Reading.{Reading};
 ghost use Rattle.line.specs.View.{readingOf};
@@ -35,16 +35,16 @@ fn raised(c: u8) -> u8
 
 impl Terms {
     // DDD: from 1 on 21 and 18 do not edit, from 2 on nothing does.
-    pub(crate) fn edits_by(self, c: u8) -> bool
-        ensures { λ b. ⌜ ((text : List ℕ) (l : Line) (r : Reading) → b ≡ editsBy c (readingOf (lent self text l) r)) ⌝ }
+    pub(crate) fn is_edit_key(self, c: u8) -> bool
+        ensures { λ b. ⌜ ((text : List ℕ) (l : Line) (r : Reading) → b ≡ isEditKey c (readingOf (lent self text l) r)) ⌝ }
     {
         let disables = self.disables;
         ((c == DELETE_KEY) | (c == DELETE_WORD_KEY)) & (disables <= DISABLES_LINES)
             | ((c == DELETE_LINE_KEY) | (c == REDISPLAY_KEY)) & (disables == DISABLES_NOTHING)
     }
 
-    pub(crate) fn begins_token(self, c: u8) -> bool
-        ensures { λ b. ⌜ ((text : List ℕ) (l : Line) (r : Reading) → b ≡ beginsToken c (readingOf (lent self text l) r)) ⌝ }
+    pub(crate) fn is_token_start(self, c: u8) -> bool
+        ensures { λ b. ⌜ ((text : List ℕ) (l : Line) (r : Reading) → b ≡ isTokenStart c (readingOf (lent self text l) r)) ⌝ }
     {
         ((c == characters::ESC) | (c == characters::CSI)) & self.recognises
     }

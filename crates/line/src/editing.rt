@@ -20,12 +20,12 @@ const NEW_LINE: [u8; 2] = [characters::CR, characters::LF];
 
 impl Work {
     // Deletes all but the first characters, without rubbing out.
-    pub(crate) fn deletes_unseen(self, left: u16, r: Reading, t: Terms) -> Work
+    pub(crate) fn deletes_without_rubbing(self, left: u16, r: Reading, t: Terms) -> Work
         requires { ⌜ CountedFlow (self .flow) ⌝ }
         requires { ⌜ r .«input_len» ≤ inputSize ⌝ }
         requires { ⌜ left ≤ r .«input_len» ⌝ }
         ensures counted { λ w. ⌜ CountedFlow (w .flow) ⌝ }
-        ensures rule { λ w. ⌜ ((fate : ℕ → Fate ℕ) (text : List ℕ) (l : Line) (a m : List ℕ) → DoesOn (λ k. rules.deletesUnseen fate left (readingOf k r)) (lent t text l) self a m w a m) ⌝ }
+        ensures rule { λ w. ⌜ ((fate : ℕ → Fate ℕ) (text : List ℕ) (l : Line) (a m : List ℕ) → DoesOn (λ k. rules.deletesWithoutRubbing fate left (readingOf k r)) (lent t text l) self a m w a m) ⌝ }
     {
         let next = r.shortened(left, t);
         self.with_read(next)
@@ -51,9 +51,9 @@ impl Work {
         if t.echoes {
             let marks = r.marks(left, text);
             let rubbed = self.rub_out(terminal, marks);
-            return rubbed.deletes_unseen(left, r, t);
+            return rubbed.deletes_without_rubbing(left, r, t);
         }
-        self.deletes_unseen(left, r, t)
+        self.deletes_without_rubbing(left, r, t)
     }
 
     // What follows the prompt, from where the cursor stands.
@@ -88,7 +88,7 @@ impl Work {
             ⌜ ((l : Line) (m : List ℕ) →
             DoesOn (λ k. rules.displays codes (readingOf k r)) (lent t (now (text .entry)) l) self (now (terminal .entry)) m w (now (terminal .exit)) m) ⌝ }
     {
-        let start = rules::INPUT - t.prompt_len as usize;
+        let start = rules::INPUT_SIZE - t.prompt_len as usize;
         let prompted = self.write(terminal, &text[start..]);
         prompted.displays_data(terminal, r, text, t)
     }

@@ -7,7 +7,7 @@ ghost use Rattle.line.specs.declared.Line.{Line};
 ghost use Rattle.line.specs.Bounded.{CountedTyped};
 ghost use Rattle.line.specs.With.{onFlow, lent};
 ghost use Rattle.line.specs.Host.{senderOf};
-ghost use Rattle.line.specs.Events.{Sees, isActOf, eventRule};
+ghost use Rattle.line.specs.Events.{LookedUp, isActOf, eventRule};
 ghost use Rattle.line.specs.Acts.{Meets};
 ghost use Rattle.line.specs.declared.acts.Act.the-variants.{Nothing, Obeys};
 ghost use Rattle.line.specs.declared.events.Event.the-variants.{Host};
@@ -16,9 +16,9 @@ use crate::Flow;
 use crate::Terms;
 use crate::acts::Act;
 use crate::acts::Taken;
+use fields::Span;
 use message::InitiateFields;
 use message::Message;
-use message::Span;
 use message::StartReadFields;
 use message::WriteFields;
 
@@ -79,7 +79,7 @@ impl Flow {
     // The act that an event meets; a host message is its own.
     pub(crate) fn act_of(self, e: Event, lookup: Lookup, t: Terms) -> Act
         requires { ⌜ CountedTyped (self .typed) ⌝ }
-        ensures rule { λ a. ⌜ ((s : List ℕ) (l : Line) → Sees s (onFlow self (lent t (l .text) l)) lookup e → Meets (eventRule s e) s (onFlow self (lent t (l .text) l)) a) ⌝ }
+        ensures rule { λ a. ⌜ ((s : List ℕ) (l : Line) → LookedUp s (onFlow self (lent t (l .text) l)) lookup e → Meets (eventRule s e) s (onFlow self (lent t (l .text) l)) a) ⌝ }
         ensures kind { λ a. ⌜ isActOf e a ≡ true ⌝ }
         ensures obeys { λ a. ⌜ ((m : hosts.HostMessage) → e ≡ Host m → a ≡ Obeys m) ⌝ }
     {
@@ -95,7 +95,7 @@ impl Flow {
     // In areas that are too small it meets none.
     pub(crate) fn act_if(self, roomy: bool, e: Event, lookup: Lookup, t: Terms) -> Act
         requires { ⌜ CountedTyped (self .typed) ⌝ }
-        ensures rule { λ a. ⌜ ((s : List ℕ) (l : Line) → roomy ≡ true → Sees s (onFlow self (lent t (l .text) l)) lookup e → Meets (eventRule s e) s (onFlow self (lent t (l .text) l)) a) ⌝ }
+        ensures rule { λ a. ⌜ ((s : List ℕ) (l : Line) → roomy ≡ true → LookedUp s (onFlow self (lent t (l .text) l)) lookup e → Meets (eventRule s e) s (onFlow self (lent t (l .text) l)) a) ⌝ }
         ensures none { λ a. ⌜ (roomy ≡ false → a ≡ Nothing) ⌝ }
         ensures kind { λ a. ⌜ isActOf e a ≡ true ⌝ }
     {

@@ -53,7 +53,7 @@ impl Work {
         let r = flow.reading;
         let nothing = (typed.keys_len == 0) & (typed.token_len == 0) & (r.input_len == 0);
         if (condition == ALWAYS) | nothing {
-            return self.completes(messages, read_data::UNREAD, NO_ENDING, r, text, t);
+            return self.completes(messages, read_data::BY_UNREAD, NO_ENDING, r, text, t);
         }
         self
     }

@@ -10,11 +10,11 @@ ghost use Rattle.line.specs.declared.Line.{Line};
 ghost use Rattle.line.specs.Bounded.{CountedFlow};
 ghost use Rattle.line.specs.Promise.{on, Does};
 use crate::Work;
+use fields::Span;
 use message::InitiateFields;
 use message::Message;
-use message::Span;
 use rules::characters;
-use rules::layout;
+use rules::forms;
 
 // VERSION, ECO and MOD.
 const VERSION: u8 = 1;
@@ -23,17 +23,17 @@ const ECO: u8 = 0;
 
 const MODIFICATION: u8 = 0;
 
-const REVISION_SIZE: usize = layout::REVISION_SIZE as usize;
+const REVISION_SIZE: usize = forms::REVISION_SIZE as usize;
 
 // How many values a byte has.
-const BYTE_VALUES: usize = layout::BYTE_VALUES as usize;
+const BYTE_VALUES: usize = forms::BYTE_VALUES as usize;
 
-// The parameters: their types, each with its count 2 in one word; the bytes of a value, and one that it does not have; the bytes of all three.
-const MESSAGE_SIZE: u16 = 0x0201;
+// Each parameter's PARMTYPE and its count 2, as one word; VALUE: bytes of a value; NO_BYTE: what stands for a third; PARAMETERS: bytes of all three.
+const MESSAGE_PARAMETER: u16 = 0x0201;
 
-const INPUT_SIZE: u16 = 0x0202;
+const INPUT_PARAMETER: u16 = 0x0202;
 
-const SUPPORTED: u16 = 0x0203;
+const SUPPORTED_PARAMETER: u16 = 0x0203;
 
 const VALUE: usize = 2;
 
@@ -60,10 +60,10 @@ fn put_initiate(area: &mut [u8], at: usize) -> usize
     let spaces = [characters::SP; REVISION_SIZE];
     let revision = Span {
         start: 0,
-        len: layout::REVISION_SIZE,
+        len: forms::REVISION_SIZE,
     };
     let parameters = Span {
-        start: layout::REVISION_SIZE,
+        start: forms::REVISION_SIZE,
         len: PARAMETERS,
     };
     let head = Message::Initiate(InitiateFields {
@@ -74,9 +74,9 @@ fn put_initiate(area: &mut [u8], at: usize) -> usize
         parameters,
     });
     let next = writing::put_framed(head, &spaces, area, at);
-    let next = put_parameter(MESSAGE_SIZE, rules::MESSAGE, area, next);
-    let next = put_parameter(INPUT_SIZE, rules::INPUT, area, next);
-    put_parameter(SUPPORTED, MESSAGES_1_TO_14, area, next)
+    let next = put_parameter(MESSAGE_PARAMETER, rules::MESSAGE_SIZE, area, next);
+    let next = put_parameter(INPUT_PARAMETER, rules::INPUT_SIZE, area, next);
+    put_parameter(SUPPORTED_PARAMETER, MESSAGES_1_TO_14, area, next)
 }
 
 impl Work {

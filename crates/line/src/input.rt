@@ -13,7 +13,7 @@ ghost use Rattle.line.specs.declared.Line.{Line};
 ghost use Rattle.line.specs.View.{readingOf};
 ghost use Rattle.line.specs.With.{lent};
 ghost use Rattle.line.specs.Bounded.{CountedReading};
-ghost use Rattle.line.specs.ReadChanges.{Shortened, Appends, ShownFrom, LeftBy23, ofClass, idling, shownAt};
+ghost use Rattle.line.specs.ReadChanges.{Shortened, Appends, ShownFrom, LeftByDeleteWord, ofClass, idling, shownAt};
 use crate::Reading;
 use crate::Terms;
 
@@ -72,7 +72,7 @@ impl Reading {
     }
 
     // One character more.
-    pub(crate) fn push(self, text: &mut [u8; rules::INPUT], c: u8) -> Reading
+    pub(crate) fn push(self, text: &mut [u8; rules::INPUT_SIZE], c: u8) -> Reading
         requires { ⌜ CountedReading self (now text) ⌝ }
         requires { ⌜ self .«input_len» < inputSize ⌝ }
         ensures { λ r. ⌜ Appends (c ∷ []) self (now (text .entry)) r (now (text .exit)) ⌝ }
@@ -85,7 +85,7 @@ impl Reading {
     }
 
     // More characters.
-    pub(crate) fn push_all(self, text: &mut [u8; rules::INPUT], cs: &[u8]) -> Reading
+    pub(crate) fn push_all(self, text: &mut [u8; rules::INPUT_SIZE], cs: &[u8]) -> Reading
         requires { ⌜ CountedReading self (now text) ⌝ }
         requires { ⌜ self .«input_len» + length (now cs) ≤ inputSize ⌝ }
         ensures { λ r. ⌜ Appends (now (cs .entry)) self (now (text .entry)) r (now (text .exit)) ⌝ }
@@ -156,7 +156,7 @@ impl Reading {
     }
 
     // How many characters 127 leaves.
-    pub(crate) fn left_by_127(self) -> u16
+    pub(crate) fn left_by_delete(self) -> u16
         ensures { λ r. ⌜ r ≡ self .«input_len» - 1 ⌝ }
     {
         if 0 < self.input_len {
@@ -166,9 +166,9 @@ impl Reading {
     }
 
     // How many characters 23 leaves.
-    pub(crate) fn left_by_23(self, text: &[u8]) -> u16
+    pub(crate) fn left_by_delete_word(self, text: &[u8]) -> u16
         requires { ⌜ CountedReading self (now text) ⌝ }
-        ensures { λ r. ⌜ LeftBy23 (now (text .entry)) self r ⌝ }
+        ensures { λ r. ⌜ LeftByDeleteWord (now (text .entry)) self r ⌝ }
     {
         let end = self.input_len as usize;
         let spaces = end_before(text, end, false);

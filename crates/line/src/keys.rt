@@ -8,7 +8,7 @@ ghost use Rattle.line.specs.KeyArray.{shift, keysAfter};
 use crate::acts::Act;
 
 // What a quoted key has besides its code.
-pub(crate) const QUOTED: u16 = rules::CODES as u16;
+pub(crate) const QUOTED: u16 = rules::CODE_COUNT as u16;
 
 pub(crate) fn code_of(key: u16) -> u8
     ensures { λ r. ⌜ r ≡ keyOf key .char ⌝ }
@@ -23,17 +23,17 @@ pub(crate) fn is_quoted(key: u16) -> bool
 }
 
 // A key goes behind those that wait, where there is room.
-fn store(keys: &mut [u16; rules::TYPE_AHEAD], waiting: usize, key: u16)
+fn store(keys: &mut [u16; rules::TYPE_AHEAD_SIZE], waiting: usize, key: u16)
     requires { ⌜ length (now keys) ≡ typeAheadSize ⌝ }
     ensures { λ r. ⌜ now (keys .exit) ≡ set (now (keys .entry)) waiting key ⌝ }
 {
-    if waiting < rules::TYPE_AHEAD {
+    if waiting < rules::TYPE_AHEAD_SIZE {
         keys[waiting] = key;
     }
 }
 
 // The first key goes, the others each a place further down.
-fn drop_first(keys: &mut [u16; rules::TYPE_AHEAD], waiting: usize)
+fn drop_first(keys: &mut [u16; rules::TYPE_AHEAD_SIZE], waiting: usize)
     requires { ⌜ length (now keys) ≡ typeAheadSize ⌝ }
     requires { ⌜ waiting ≤ typeAheadSize ⌝ }
     ensures { λ r. ⌜ now (keys .exit) ≡ shift (waiting - 1) (now (keys .entry)) ⌝ }
@@ -47,7 +47,7 @@ fn drop_first(keys: &mut [u16; rules::TYPE_AHEAD], waiting: usize)
 }
 
 // What an act does to the keys.
-pub(crate) fn move_keys(keys: &mut [u16; rules::TYPE_AHEAD], waiting: usize, act: Act)
+pub(crate) fn move_keys(keys: &mut [u16; rules::TYPE_AHEAD_SIZE], waiting: usize, act: Act)
     requires { ⌜ length (now keys) ≡ typeAheadSize ⌝ }
     requires { ⌜ waiting ≤ typeAheadSize ⌝ }
     ensures { λ r. ⌜ now (keys .exit) ≡ keysAfter act waiting (now (keys .entry)) ⌝ }

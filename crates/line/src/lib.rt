@@ -1,7 +1,7 @@
 // One line of the console end: its state by value, and the four calls on it.
-use characteristics::Set;
 use characteristics::Switches;
 use screen::Screen;
+use sets::Set;
 
 mod acts;
 mod arrival;
@@ -37,7 +37,7 @@ pub struct Terminal {
 // Typed and not yet in a read: how many keys wait, and a partial or held token.
 pub struct Typed {
     pub keys_len: u16,
-    pub token: [u8; rules::TOKEN],
+    pub token: [u8; rules::TOKEN_SIZE],
     pub token_len: u16,
 }
 
@@ -85,11 +85,11 @@ pub struct Flow {
 
 // The line between calls. What lies behind a count is left over.
 pub struct Line {
-    pub attributes: [u8; rules::CODES],
+    pub attributes: [u8; rules::CODE_COUNT],
     // keys that wait, each its code, and QUOTED more if it is quoted
-    pub keys: [u16; rules::TYPE_AHEAD],
+    pub keys: [u16; rules::TYPE_AHEAD_SIZE],
     // what stands after the read's prompt, from the front; the prompt as it is displayed, at the end
-    pub text: [u8; rules::INPUT],
+    pub text: [u8; rules::INPUT_SIZE],
     // the read's termination set, and the last given with ZZ 1
     pub set: Set,
     pub last_set: Set,

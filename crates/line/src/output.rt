@@ -92,7 +92,7 @@ impl Work {
         let flow = self.flow;
         let known = flow.terminal;
         let before = known.screen;
-        let text = message::span_of(s, f.text);
+        let text = fields::span_of(s, f.text);
         let some = text.len() != 0;
         let kept = self.stops_discarding(f.keeps_output);
         let written = kept.writes_unless_discarding(terminal, text);

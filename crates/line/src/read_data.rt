@@ -17,28 +17,28 @@ ghost use Rattle.line.specs.Promise.{on, Does};
 use crate::Reading;
 use crate::Terms;
 use crate::Work;
+use fields::Span;
 use message::Message;
 use message::ReadDataFields;
-use message::Span;
 
 // Completion codes (000, 4.16.4).
-pub(crate) const TERMINATOR: u8 = 0;
+pub(crate) const BY_TERMINATOR: u8 = 0;
 
-pub(crate) const VALID_TOKEN: u8 = 1;
+pub(crate) const BY_VALID_TOKEN: u8 = 1;
 
-pub(crate) const INVALID_TOKEN: u8 = 2;
+pub(crate) const BY_INVALID_TOKEN: u8 = 2;
 
-pub(crate) const OUT_OF_BAND: u8 = 3;
+pub(crate) const BY_OUT_OF_BAND: u8 = 3;
 
-pub(crate) const BUFFER_FULL: u8 = 4;
+pub(crate) const BY_FULL_BUFFER: u8 = 4;
 
-pub(crate) const TIMEOUT: u8 = 5;
+pub(crate) const BY_TIMEOUT: u8 = 5;
 
-pub(crate) const UNREAD: u8 = 6;
+pub(crate) const BY_UNREAD: u8 = 6;
 
-pub(crate) const UNDERFLOW: u8 = 7;
+pub(crate) const BY_UNDERFLOW: u8 = 7;
 
-pub(crate) const ABSENTEE: u8 = 8;
+pub(crate) const BY_ABSENTEE: u8 = 8;
 
 // How many characters at the end of a read are a terminator or an underflow code; a token's are as many as it has.
 pub(crate) const NO_ENDING: u16 = 0;
@@ -61,20 +61,20 @@ impl Work {
         self
     }
 
-    // The read's answer; its data stands in front of the text.
-    fn answer(self, code: u8, ending: u16, r: Reading, t: Terms) -> Message
+    // The Read Data of a read; its data stands in front of the text.
+    fn read_data_of(self, code: u8, ending: u16, r: Reading, t: Terms) -> Message
         requires { ⌜ CountedFlow (self .flow) ⌝ }
         requires { ⌜ ending ≤ r .«input_len» ⌝ }
         ensures { λ m.
             ⌜ ((text : List ℕ) (k l : Line) → CountedReading r text →
-            (heldIn text m ≡ codec.message (rules.answerOf codes code ending (readingOf (lent t text l) r) (view (onFlow (self .flow) k)))) ×
+            (heldIn text m ≡ codec.message (rules.readDataOf codes code ending (readingOf (lent t text l) r) (view (onFlow (self .flow) k)))) ×
             (inside (length text) (spansOf m) ≡ true)) ⌝ }
     {
         let flow = self.flow;
         let typed = flow.typed;
         let terminal = flow.terminal;
         let cursor = terminal.screen;
-        let more = typed.remains();
+        let more = typed.more_data();
         let vertical = screen::columns::change(cursor.line as u16, t.line as u16);
         let horizontal = screen::columns::change(cursor.column, t.column);
         let text = Span {
@@ -111,7 +111,7 @@ impl Work {
             Does (rules.sendsReadData codes code ending (readingOf (lent t (now (text .entry)) l) r)) (on k self) a (now (messages .entry)) (on k w) a
             (now (messages .exit))) ⌝ }
     {
-        let message = self.answer(code, ending, r, t);
+        let message = self.read_data_of(code, ending, r, t);
         self.send(messages, message, text)
     }
 

@@ -44,7 +44,7 @@ pub(crate) fn row_of(roomy: bool) -> u8
 fn is_sound_length(size: usize) -> bool
     ensures { λ r. ⌜ r ≡ soundLength size ⌝ }
 {
-    (1 <= size) & (size <= rules::MESSAGE)
+    (rules::SHORTEST_MESSAGE <= size) & (size <= rules::MESSAGE_SIZE)
 }
 
 // A type that a host sends.
@@ -119,7 +119,7 @@ pub(crate) fn early_row(
 {
     let roomy = are_roomy(terminal, messages);
     let sized = is_sound_length(s.len());
-    let kind = fields::byte_at(s, rules::layout::MSGTYPE);
+    let kind = fields::byte_at(s, rules::forms::MSGTYPE);
     let hosts = is_hosts(kind);
     let timely = is_timely(kind, initiated, pending);
     first_row(roomy, sized, hosts, timely)
@@ -147,13 +147,13 @@ impl Line {
             HostMessage::StartRead(f) => carries_start_read(f),
             HostMessage::Write(f) => carries_write(f),
             HostMessage::ReadCharacteristics(parameters) => {
-                let host = self.characteristics();
-                let list = message::span_of(s, parameters);
+                let host = self.host_in();
+                let list = fields::span_of(s, parameters);
                 host.carries_questions(list)
             }
             HostMessage::Characteristics(parameters) => {
-                let host = self.characteristics();
-                let list = message::span_of(s, parameters);
+                let host = self.host_in();
+                let list = fields::span_of(s, parameters);
                 host.carries_settings(list)
             }
             _ => true,

@@ -1,17 +1,17 @@
 // What an accepted host message sets of the line, and the report of what is set.
 ghost use mathlib.Core.Path.{_≡_};
-ghost use Rattle.message.specs.Found.{spanOf};
+ghost use Rattle.fields.specs.Spans.{spanOf};
 ghost use Rattle.line.specs.Bounded.{Counted};
-ghost use Rattle.line.specs.Host.{StartableMessage, onInitiated, onHost, Sets, SetBy, Reported, hostStruct};
+ghost use Rattle.line.specs.Host.{StartableMessage, onInitiated, onHost, Sets, SetBy, Reported, hostIn};
 use crate::Line;
 use crate::events::HostMessage;
 use characteristics::Host;
-use message::Span;
+use fields::Span;
 
 impl Line {
     // What the host has set, as the characteristics look at it.
-    pub(crate) fn characteristics(self) -> Host
-        ensures { λ r. ⌜ r ≡ hostStruct self ⌝ }
+    pub(crate) fn host_in(self) -> Host
+        ensures { λ r. ⌜ r ≡ hostIn self ⌝ }
     {
         let switches = self.switches;
         let attributes = self.attributes;
@@ -52,8 +52,8 @@ impl Line {
         requires { ⌜ Counted self ⌝ }
         ensures { λ r. ⌜ Sets (spanOf (now (s .entry)) parameters) self r ⌝ }
     {
-        let host = self.characteristics();
-        let list = message::span_of(s, parameters);
+        let host = self.host_in();
+        let list = fields::span_of(s, parameters);
         let set = host.with_settings(list);
         self.with_host(set)
     }
@@ -78,8 +78,8 @@ impl Line {
     {
         match m {
             HostMessage::ReadCharacteristics(parameters) => {
-                let host = self.characteristics();
-                let list = message::span_of(s, parameters);
+                let host = self.host_in();
+                let list = fields::span_of(s, parameters);
                 host.put_report(list, messages, 0)
             }
             _ => 0,

@@ -9,8 +9,9 @@ ghost use Rattle.rules.specs.Numbers.{inputSize};
 ghost use Rattle.rules.specs.Messages.Codec.{setSize};
 ghost use Rattle.rules.specs.StartRead as fields;
 ghost use Rattle.rules.specs.StartRead.Acceptance as rules;
-ghost use Rattle.message.specs.Found.{spanOf, startReadIn};
-ghost use Rattle.characteristics.specs.View.{setOf, CountedSet};
+ghost use Rattle.fields.specs.Spans.{spanOf};
+ghost use Rattle.message.specs.Found.{startReadIn};
+ghost use Rattle.sets.specs.View.{setOf, CountedSet};
 ghost use Rattle.line.specs.Bounded.{Counted, CountedFlow, CountedReading};
 ghost use Rattle.line.specs.StartRead.{Startable, readingAt, termsFor, Opens};
 ghost use mathlib.Core.List.{List, [], _∷_};
@@ -28,11 +29,11 @@ use crate::Terms;
 use crate::Work;
 use crate::read_data;
 use crate::read_data::NO_ENDING;
-use characteristics::Set;
 use characteristics::Switches;
 use message::StartReadFields;
 use rules::characters;
 use screen::Screen;
+use sets::Set;
 
 // What auto prompt writes before the prompt.
 const AUTO_PROMPT: u8 = characters::SOH;
@@ -62,7 +63,7 @@ fn set_of(given: &[u8]) -> Set
     requires { ⌜ length (now given) ≤ setSize ⌝ }
     ensures { λ r. ⌜ (setOf r ≡ now (given .entry)) × CountedSet r ⌝ }
 {
-    let mut held = [0u8; rules::SET];
+    let mut held = [0u8; rules::SET_SIZE];
     let len = bytes::copy(given, &mut held) as u8;
     Set { bytes: held, len }
 }
@@ -79,7 +80,7 @@ fn chosen_set(last: Set, f: StartReadFields, s: &[u8]) -> Set
     }
     if choice == CHOOSES_THIS {
         let span = f.set;
-        let given = message::span_of(s, span);
+        let given = fields::span_of(s, span);
         return set_of(given);
     }
     Set::universal()
@@ -93,7 +94,7 @@ fn last_set(last: Set, f: StartReadFields, s: &[u8]) -> Set
 {
     if f.set_choice == CHOOSES_THIS {
         let span = f.set;
-        let given = message::span_of(s, span);
+        let given = fields::span_of(s, span);
         return set_of(given);
     }
     last
@@ -104,7 +105,7 @@ fn hides_lf(f: StartReadFields, s: &[u8]) -> bool
     ensures { λ r. ⌜ r ≡ rules.hidesLF (startReadIn (now (s .entry)) f) ⌝ }
 {
     let span = f.text;
-    let text = message::span_of(s, span);
+    let text = fields::span_of(s, span);
     let first = fields::byte_at(text, 0);
     (f.formats == fields::ON) & (first == characters::LF)
 }
@@ -127,7 +128,7 @@ fn prompt_of(f: StartReadFields, s: &[u8]) -> &[u8]
 {
     let hidden = hides_lf(f, s);
     let span = f.text;
-    let text = message::span_of(s, span);
+    let text = fields::span_of(s, span);
     front_of(text, f.end_of_prompt as usize, hidden)
 }
 
@@ -137,13 +138,13 @@ fn data_of(f: StartReadFields, s: &[u8]) -> &[u8]
     ensures { λ r. ⌜ now r ≡ rules.dataBehind (startReadIn (now (s .entry)) f) ⌝ }
 {
     let span = f.text;
-    let text = message::span_of(s, span);
+    let text = fields::span_of(s, span);
     let start = f.end_of_prompt as usize;
     &text[start..]
 }
 
 // A piece of a read's text, put at its place.
-fn put_text(text: &mut [u8; rules::INPUT], at: usize, piece: &[u8])
+fn put_text(text: &mut [u8; rules::INPUT_SIZE], at: usize, piece: &[u8])
     requires { ⌜ length (now text) ≡ inputSize ⌝ }
     requires { ⌜ at + length (now piece) ≤ inputSize ⌝ }
     ensures { λ r. ⌜ now (text .exit) ≡ sets (now (text .entry)) at (now (piece .entry)) ⌝ }
@@ -213,7 +214,7 @@ impl Line {
         next.last_set = last_set(last, f, s);
         next.terms = terms;
         put_text(&mut next.text, 0, data);
-        put_text(&mut next.text, rules::INPUT - size, prompt);
+        put_text(&mut next.text, rules::INPUT_SIZE - size, prompt);
         next
     }
 }
@@ -259,7 +260,7 @@ impl Work {
             (now (messages .exit))) ⌝ }
     {
         if full {
-            return self.completes(messages, read_data::BUFFER_FULL, NO_ENDING, r, text, t);
+            return self.completes(messages, read_data::BY_FULL_BUFFER, NO_ENDING, r, text, t);
         }
         self
     }

@@ -40,7 +40,7 @@ impl Work {
         self,
         messages: &mut [u8],
         r: Reading,
-        text: &mut [u8; rules::INPUT],
+        text: &mut [u8; rules::INPUT_SIZE],
         t: Terms,
     ) -> Work
         requires { ⌜ CountedFlow (self .flow) ⌝ }
@@ -69,7 +69,7 @@ impl Work {
         self,
         messages: &mut [u8],
         r: Reading,
-        text: &mut [u8; rules::INPUT],
+        text: &mut [u8; rules::INPUT_SIZE],
         t: Terms,
     ) -> Work
         requires { ⌜ CountedFlow (self .flow) ⌝ }
@@ -87,7 +87,7 @@ impl Work {
         if r.end(t) + typed.token_len as u32 <= t.max_length as u32 {
             return self.ends_by_token(messages, r, text, t);
         }
-        self.completes(messages, read_data::ABSENTEE, NO_ENDING, r, text, t)
+        self.completes(messages, read_data::BY_ABSENTEE, NO_ENDING, r, text, t)
     }
 
     // Rules 1 and 3.
@@ -96,7 +96,7 @@ impl Work {
         messages: &mut [u8],
         c: u8,
         r: Reading,
-        text: &mut [u8; rules::INPUT],
+        text: &mut [u8; rules::INPUT_SIZE],
         t: Terms,
     ) -> Work
         requires { ⌜ CountedFlow (self .flow) ⌝ }
@@ -148,7 +148,7 @@ impl Work {
         messages: &mut [u8],
         c: u8,
         r: Reading,
-        text: &mut [u8; rules::INPUT],
+        text: &mut [u8; rules::INPUT_SIZE],
         t: Terms,
     ) -> Work
         requires { ⌜ CountedFlow (self .flow) ⌝ }
@@ -165,7 +165,14 @@ impl Work {
         let ready = self.with_read(next);
         let shown = ready.echoes_if(terminal, t.echoes, c);
         if r.end(t) + 1 == t.max_length as u32 {
-            return shown.completes(messages, read_data::BUFFER_FULL, NO_ENDING, next, text, t);
+            return shown.completes(
+                messages,
+                read_data::BY_FULL_BUFFER,
+                NO_ENDING,
+                next,
+                text,
+                t,
+            );
         }
         shown
     }
@@ -177,7 +184,7 @@ impl Work {
         messages: &mut [u8],
         c: u8,
         r: Reading,
-        text: &mut [u8; rules::INPUT],
+        text: &mut [u8; rules::INPUT_SIZE],
         t: Terms,
     ) -> Work
         requires { ⌜ CountedFlow (self .flow) ⌝ }
@@ -192,7 +199,14 @@ impl Work {
     {
         let next = r.push(text, c);
         let shown = self.echoes_terminator_if(terminal, t.terminator_echo & t.echoes, c);
-        shown.completes(messages, read_data::TERMINATOR, ONE_ENDING, next, text, t)
+        shown.completes(
+            messages,
+            read_data::BY_TERMINATOR,
+            ONE_ENDING,
+            next,
+            text,
+            t,
+        )
     }
 
     // 127 or 23 with nothing to delete.
@@ -202,7 +216,7 @@ impl Work {
         messages: &mut [u8],
         c: u8,
         r: Reading,
-        text: &mut [u8; rules::INPUT],
+        text: &mut [u8; rules::INPUT_SIZE],
         t: Terms,
     ) -> Work
         requires { ⌜ CountedFlow (self .flow) ⌝ }
@@ -218,7 +232,7 @@ impl Work {
         let underflow = t.underflow;
         if underflow == UNDERFLOW_COMPLETES {
             let next = r.push(text, c);
-            return self.completes(messages, read_data::UNDERFLOW, ONE_ENDING, next, text, t);
+            return self.completes(messages, read_data::BY_UNDERFLOW, ONE_ENDING, next, text, t);
         }
         if underflow == UNDERFLOW_RINGS {
             return self.put(terminal, characters::BEL);
@@ -234,7 +248,7 @@ impl Work {
         left: u16,
         c: u8,
         r: Reading,
-        text: &mut [u8; rules::INPUT],
+        text: &mut [u8; rules::INPUT_SIZE],
         t: Terms,
     ) -> Work
         requires { ⌜ CountedFlow (self .flow) ⌝ }
@@ -262,7 +276,7 @@ impl Work {
         messages: &mut [u8],
         c: u8,
         r: Reading,
-        text: &mut [u8; rules::INPUT],
+        text: &mut [u8; rules::INPUT_SIZE],
         t: Terms,
     ) -> Work
         requires { ⌜ CountedFlow (self .flow) ⌝ }
@@ -276,11 +290,11 @@ impl Work {
             (lent t (now (text .exit)) l) w (now (terminal .exit)) (now (messages .exit))) ⌝ }
     {
         if c == DELETE_KEY {
-            let left = r.left_by_127();
+            let left = r.left_by_delete();
             return self.erases(terminal, messages, left, c, r, text, t);
         }
         if c == DELETE_WORD_KEY {
-            let left = r.left_by_23(text);
+            let left = r.left_by_delete_word(text);
             return self.erases(terminal, messages, left, c, r, text, t);
         }
         if c == DELETE_LINE_KEY {

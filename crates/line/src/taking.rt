@@ -10,7 +10,7 @@ ghost use Rattle.rules.specs.StartRead.{inSet};
 ghost use Rattle.rules.specs.Turns.{_then_};
 ghost use Rattle.rules.specs.Steps as rules;
 ghost use Rattle.rules.specs.Token.{isWhole};
-ghost use Rattle.characteristics.specs.View.{setOf};
+ghost use Rattle.sets.specs.View.{setOf};
 ghost use Rattle.line.specs.declared.Line.{Line};
 ghost use Rattle.line.specs.declared.acts.Act.the-variants.{Takes};
 ghost use Rattle.line.specs.View.{keyOf, readingOf};
@@ -38,7 +38,7 @@ impl Terms {
         if ends {
             return Taken::Terminator(c);
         }
-        if self.edits_by(c) {
+        if self.is_edit_key(c) {
             return Taken::Edit(c);
         }
         Taken::Data(c)
@@ -58,7 +58,7 @@ impl Terms {
 
 impl Flow {
     // The rules in order.
-    pub(crate) fn takes(self, key: u16, ends: bool, t: Terms) -> Taken
+    pub(crate) fn taken_as(self, key: u16, ends: bool, t: Terms) -> Taken
         requires { ⌜ CountedTyped (self .typed) ⌝ }
         ensures { λ k.
             ⌜ ((s : List ℕ) (l : Line) → CanTakeKey self t →
@@ -74,7 +74,7 @@ impl Flow {
         if is_quoted(key) {
             return Taken::Data(c);
         }
-        if t.begins_token(c) {
+        if t.is_token_start(c) {
             return Taken::Token(c);
         }
         let raised = t.raised_by(c);
@@ -163,7 +163,7 @@ impl Work {
         k: Taken,
         terminal: &mut [u8],
         messages: &mut [u8],
-        text: &mut [u8; rules::INPUT],
+        text: &mut [u8; rules::INPUT_SIZE],
         t: Terms,
     ) -> Work
         requires { ⌜ CountedFlow (self .flow) ⌝ }

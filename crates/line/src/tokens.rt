@@ -102,7 +102,7 @@ fn after_parameter(n: u8) -> u8
 }
 
 // How far the bytes go.
-fn place_of(token: &[u8]) -> u8
+fn place_from(token: &[u8]) -> u8
     ensures { λ r. ⌜ placeOf r ≡ rules.placeFrom rules.empty (now (token .entry)) ⌝ }
 {
     let mut place = EMPTY;
@@ -118,8 +118,8 @@ fn place_of(token: &[u8]) -> u8
 fn standing(token: &[u8]) -> u8
     ensures { λ r. ⌜ placeOf r ≡ rules.standing (now (token .entry)) ⌝ }
 {
-    let place = place_of(token);
-    if (rules::TOKEN <= token.len()) & (place < VALID) {
+    let place = place_from(token);
+    if (rules::TOKEN_SIZE <= token.len()) & (place < VALID) {
         return INVALID;
     }
     place

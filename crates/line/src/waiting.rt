@@ -44,13 +44,13 @@ impl Typed {
         let token = self.token;
         let size = self.token_len as usize;
         if is_valid(&token[..size]) {
-            return read_data::VALID_TOKEN;
+            return read_data::BY_VALID_TOKEN;
         }
-        read_data::INVALID_TOKEN
+        read_data::BY_INVALID_TOKEN
     }
 
     // Type-ahead or a held token remains.
-    pub(crate) fn remains(self) -> u8
+    pub(crate) fn more_data(self) -> u8
         requires { ⌜ CountedTyped self ⌝ }
         ensures { λ r. ⌜ ((keys : List ℕ) → r ≡ bit (not (isEmpty (keysOf (self .«keys_len») keys)) || rules.isWhole (codesOf self))) ⌝ }
     {

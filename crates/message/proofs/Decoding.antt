@@ -12,11 +12,12 @@ use Rattle.rules.specs.Messages.Layout.{byteAt, sizeOf}
 use Rattle.rules.specs.Messages.Parameters.{Shape, cleaned, cut}
 use Rattle.rules.specs.Messages.Forms.{Message, Tail, nothing, text, list, formOf, startRead, readData, write}
 use Rattle.rules.specs.Messages.Codec.{Outcome, Held, message, sound, refused, definedFields, soundAs, fieldsAs, wholeTail, behindHead, setIn, parametersIn, textIn}
-use Rattle.rules.proofs.Tests.{both, thirds, pick-true, pick-false}
-use Rattle.message.specs.declared.Span.{Span}
+use Rattle.rules.proofs.Choice.{both, thirds, pick-true, pick-false}
+use Rattle.fields.specs.declared.Span.{Span}
 use Rattle.message.specs.declared.Message as declared
 use Rattle.message.specs.declared.Found.the-variants as found
-use Rattle.message.specs.Found.{RestFrom, FieldsIn, Finds, spanOf, parametersOf, plainMessage, textMessage, listMessage, heldIn, placesOf, lies}
+use Rattle.fields.specs.Spans.{spanOf}
+use Rattle.message.specs.Found.{RestFrom, FieldsIn, Finds, parametersOf, plainMessage, textMessage, listMessage, heldIn, spanListOf, lies}
 use Rattle.message.specs.Found.{asHeld, foundIn, foundInside, decodedAs}
 use Rattle.message.proofs.Heads.{Head}
 
@@ -137,7 +138,7 @@ module _ (kind : ℕ) (s : List ℕ) where
 
       -- a message whose one span is its list
       pub list-sound : (shape : Shape) → formOf kind .tail ≡ list shape → isFree kind ≡ true → {m : declared.Message} →
-          heldIn s m ≡ listMessage kind vs (parametersOf shape s p) → placesOf m ≡ p ∷ [] → head ≤ length s → whole ≡ true →
+          heldIn s m ≡ listMessage kind vs (parametersOf shape s p) → spanListOf m ≡ p ∷ [] → head ≤ length s → whole ≡ true →
           Finds s (decodedAs kind s) (found.Message m)
       unfolding allAre
       list-sound shape is free held place n w =
@@ -164,7 +165,7 @@ module _ (kind : ℕ) (s : List ℕ) where
             tail-unsound (nothing-behind ∙ some-not-empty rest (omega arith))
 
     pub fixed-sound : byteAt s 0 ≡ kind → isFree kind ≡ true → length s ≡ head →
-        {vs : List ℕ} → Head (formOf kind .head) 1 s vs → {m : declared.Message} → heldIn s m ≡ plainMessage kind vs → placesOf m ≡ [] →
+        {vs : List ℕ} → Head (formOf kind .head) 1 s vs → {m : declared.Message} → heldIn s m ≡ plainMessage kind vs → spanListOf m ≡ [] →
         Finds s (decodedAs kind s) (found.Message m)
     unfolding behindHead isEmpty setIn parametersIn textIn allAre
     fixed-sound k e h {vs} v held none =

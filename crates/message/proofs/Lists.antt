@@ -4,8 +4,9 @@ use Prim.Native.Nat.{ℕ, zero}
 use mathlib.Core.List.{List, map}
 use Rattle.rules.specs.Messages.Parameters.{Shape, cleaned, cut}
 use Rattle.parameters.specs.Lists.{shapeOf, parametersFrom}
-use Rattle.message.specs.declared.Span.{Span}
-use Rattle.message.specs.Found.{spanOf, parametersOf}
+use Rattle.fields.specs.declared.Span.{Span}
+use Rattle.fields.specs.Spans.{spanOf}
+use Rattle.message.specs.Found.{parametersOf}
 
 pub list-from : {shape : Shape} (kind : ℕ) → shapeOf kind ≡ shape → (s : List ℕ) (p : Span) →
     parametersOf shape s p ≡ parametersFrom kind 0 (spanOf s p)

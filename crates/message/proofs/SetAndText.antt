@@ -12,10 +12,11 @@ use Rattle.rules.specs.Choice.{allAre}
 use Rattle.rules.specs.Messages.Layout.{word, byteAt, sizeOf, numberAt}
 use Rattle.rules.specs.Messages.Forms.{setAndText, forms, formOf, startReadWidths}
 use Rattle.rules.specs.Messages.Codec.{message, behindHead, wholeTail, definedFields, soundAs, fieldsAs, setIn, parametersIn, textIn}
-use Rattle.rules.proofs.Tests.{both, halves, thirds}
-use Rattle.message.specs.declared.Span.{Span}
+use Rattle.rules.proofs.Choice.{both, halves, thirds}
+use Rattle.fields.specs.declared.Span.{Span}
 use Rattle.message.specs.declared.StartReadFields.{StartReadFields}
-use Rattle.message.specs.Found.{RestFrom, FlagsAre, StartReadIs, spanOf, startReadIn, heldIn, placesOf, lies}
+use Rattle.fields.specs.Spans.{spanOf}
+use Rattle.message.specs.Found.{RestFrom, FlagsAre, StartReadIs, startReadIn, heldIn, spanListOf, lies}
 use Rattle.fields.proofs.Numbers.{byte-behind}
 use Rattle.message.proofs.Heads.{Head, flags-first}
 use Rattle.message.proofs.Decoding.{fields-are}
@@ -79,7 +80,7 @@ module _ (s : List ℕ) {count : ℕ} (counted : count ≡ byteAt s 16) where
         {max end time prompt display low : ℕ} →
         Head (word ∷ word ∷ word ∷ word ∷ word ∷ word ∷ []) 4 s (max ∷ end ∷ time ∷ prompt ∷ display ∷ low ∷ []) →
         StartReadIs s (withNumbers max end time prompt display low f)
-    unfolding heldIn placesOf startReadIn spanOf formOf forms sizeOf behindHead setIn parametersIn textIn
+    unfolding heldIn spanListOf startReadIn spanOf formOf forms sizeOf behindHead setIn parametersIn textIn
     start-read-is k {f} are {max} {end} {time} {prompt} {display} {low} words =
         let flags = flags-first 3 startReadWidths (numberAt 3 1 s) refl words in
         let set = ap (spanOf s) (are .set-kept) ∙ set-behind in

@@ -12,7 +12,7 @@ use Rattle.rules.specs.Numbers.{messageSize, wrongLength, wrongType, unsound}
 use Rattle.rules.specs.Messages.Layout.{byteAt}
 use Rattle.rules.specs.Messages.Forms.{formOf}
 use Rattle.rules.specs.Messages.Codec.{sound, refused, definedKind, soundAs, fieldsAs, soundLength, readRefusals, read}
-use Rattle.rules.proofs.Tests.{pick-true, pick-false, halves}
+use Rattle.rules.proofs.Choice.{pick-true, pick-false, halves}
 use Rattle.message.specs.Found.{IsType, asHeld, decodedAs}
 
 -- none of the numbers from 1 up to a last one, as a `match` leaves it

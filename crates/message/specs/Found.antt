@@ -14,7 +14,8 @@ use Rattle.rules.specs.Messages.Forms as forms
 use Rattle.rules.specs.Messages.Forms.{formOf, plain}
 use Rattle.rules.specs.Messages.Codec as codec
 use Rattle.rules.specs.Messages.Codec.{Outcome, Held, soundAs, fieldsAs}
-use Rattle.message.specs.declared.Span.{Span}
+use Rattle.fields.specs.declared.Span.{Span}
+use Rattle.fields.specs.Spans.{spanOf}
 use Rattle.message.specs.declared.StartReadFields.{StartReadFields}
 use Rattle.message.specs.declared.WriteFields.{WriteFields}
 use Rattle.message.specs.declared.Message.{Message}
@@ -23,10 +24,6 @@ use Rattle.message.specs.declared.Message.the-variants.{WriteCompletion,
 use Rattle.message.specs.declared.Message.the-variants.{CheckInput, InputCount, InputState, Other}
 use Rattle.message.specs.declared.Found.{Found}
 use Rattle.message.specs.declared.Found.the-variants as found
-
--- the bytes of a span
-unfoldable pub spanOf : List ℕ → Span → List ℕ
-spanOf s p = take (p .len) (drop (p .start) s)
 
 -- the parameters in a span
 unfoldable pub parametersOf : Shape → List ℕ → Span → List (List ℕ)
@@ -96,29 +93,29 @@ heldIn s (InputState nonzero) = plainMessage forms.inputState (nonzero ∷ [])
 heldIn s (Other kind body) = codec.other kind (spanOf s body)
 
 -- the spans of each case
-unfoldable pub placesOf : Message → List Span
-placesOf (Initiate f) = f .revision ∷ f .parameters ∷ []
-placesOf (StartRead f) = f .set ∷ f .text ∷ []
-placesOf (ReadData f) = f .text ∷ []
-placesOf (OutOfBand discard character) = []
-placesOf (Unread condition) = []
-placesOf ClearInput = []
-placesOf (Write f) = f .text ∷ []
-placesOf (WriteCompletion lost horizontal vertical) = []
-placesOf (DiscardState kept) = []
-placesOf (ReadCharacteristics p) = p ∷ []
-placesOf (Characteristics p) = p ∷ []
-placesOf CheckInput = []
-placesOf (InputCount count) = []
-placesOf (InputState nonzero) = []
-placesOf (Other kind body) = body ∷ []
+unfoldable pub spanListOf : Message → List Span
+spanListOf (Initiate f) = f .revision ∷ f .parameters ∷ []
+spanListOf (StartRead f) = f .set ∷ f .text ∷ []
+spanListOf (ReadData f) = f .text ∷ []
+spanListOf (OutOfBand discard character) = []
+spanListOf (Unread condition) = []
+spanListOf ClearInput = []
+spanListOf (Write f) = f .text ∷ []
+spanListOf (WriteCompletion lost horizontal vertical) = []
+spanListOf (DiscardState kept) = []
+spanListOf (ReadCharacteristics p) = p ∷ []
+spanListOf (Characteristics p) = p ∷ []
+spanListOf CheckInput = []
+spanListOf (InputCount count) = []
+spanListOf (InputState nonzero) = []
+spanListOf (Other kind body) = body ∷ []
 
 -- a span, and every span of a message, lies in a slice of this length
 abbrev pub lies : ℕ → Span → Bool
 lies size p = leb (p .start + p .len) size
 
 abbrev pub allLie : ℕ → Message → Bool
-allLie size m = allAre (lies size) (placesOf m)
+allLie size m = allAre (lies size) (spanListOf m)
 
 -- what reading gives, as what can be held
 unfoldable pub asHeld : Outcome (forms.Message ℕ) → Outcome Held

@@ -7,7 +7,7 @@ use crate::sizes;
 use fields::byte_at;
 use fields::word_at;
 use rules::bits;
-use rules::layout::FLAGS;
+use rules::forms::FLAGS;
 
 // Out-of-Band's CHARACTER, Write Completion's HORIZONTAL-POS and VERTICAL-POS, and Input Count's COUNT.
 const CHARACTER: usize = 2;
@@ -28,7 +28,7 @@ pub(crate) fn decode_out_of_band(s: &[u8]) -> Found
     let flags = byte_at(s, FLAGS);
     let character = byte_at(s, CHARACTER);
     Found::Message(Message::OutOfBand {
-        discard: flags % bits::ONE,
+        discard: flags % bits::ONE_BIT,
         character,
     })
 }
@@ -42,7 +42,7 @@ pub(crate) fn decode_unread(s: &[u8]) -> Found
     }
     let flags = byte_at(s, FLAGS);
     Found::Message(Message::Unread {
-        condition: flags % bits::ONE,
+        condition: flags % bits::ONE_BIT,
     })
 }
 
@@ -67,7 +67,7 @@ pub(crate) fn decode_write_completion(s: &[u8]) -> Found
     let horizontal = word_at(s, HORIZONTAL);
     let vertical = word_at(s, VERTICAL);
     Found::Message(Message::WriteCompletion {
-        lost: flags % bits::ONE,
+        lost: flags % bits::ONE_BIT,
         horizontal,
         vertical,
     })
@@ -82,7 +82,7 @@ pub(crate) fn decode_discard_state(s: &[u8]) -> Found
     }
     let flags = byte_at(s, FLAGS);
     Found::Message(Message::DiscardState {
-        kept: flags % bits::ONE,
+        kept: flags % bits::ONE_BIT,
     })
 }
 
@@ -116,6 +116,6 @@ pub(crate) fn decode_input_state(s: &[u8]) -> Found
     }
     let flags = byte_at(s, FLAGS);
     Found::Message(Message::InputState {
-        nonzero: flags % bits::ONE,
+        nonzero: flags % bits::ONE_BIT,
     })
 }

@@ -2,6 +2,7 @@
 ghost use mathlib.Core.Path.{_≡_};
 ghost use Rattle.rules.specs.Messages.Codec as codec;
 ghost use Rattle.message.specs.Found.{Finds, asHeld, foundNumber};
+use fields::Span;
 
 mod fixed;
 mod listed;
@@ -10,19 +11,12 @@ mod spans;
 mod start_read;
 mod texts;
 
-pub use crate::spans::span_of;
-pub use crate::start_read::start_read_test;
+pub use crate::start_read::is_sound_start_read;
 
 // The last completion code that 000 defines, and the last value of a Write's PP and QQ.
-pub const LAST_CODE: u8 = 13;
+pub const LAST_COMPLETION_CODE: u8 = 13;
 
 pub const LAST_FIX: u8 = 2;
-
-// A span of the lent slice: where it starts, and how long it is.
-pub struct Span {
-    pub start: u16,
-    pub len: u16,
-}
 
 pub struct InitiateFields {
     pub version: u8,
@@ -138,11 +132,11 @@ pub fn decode(s: &[u8]) -> Found
     ensures { λ r. ⌜ Finds (now (s .entry)) (asHeld (codec.read (now (s .entry)))) r ⌝ }
 {
     let size = s.len();
-    let fits = (1 <= size) & (size <= rules::MESSAGE);
-    if !fits {
+    let sized = (rules::SHORTEST_MESSAGE <= size) & (size <= rules::MESSAGE_SIZE);
+    if !sized {
         return Found::Refused(rules::WRONG_LENGTH);
     }
-    let kind = fields::byte_at(s, rules::layout::MSGTYPE);
+    let kind = fields::byte_at(s, rules::forms::MSGTYPE);
     match kind {
         rules::INITIATE => listed::decode_initiate(s),
         rules::START_READ => start_read::decode_start_read(s),
@@ -163,7 +157,7 @@ pub fn decode(s: &[u8]) -> Found
 }
 
 // The number of what was found; of a message it is 0.
-pub fn number_of(f: Found) -> u8
+pub fn found_number(f: Found) -> u8
     ensures { λ r. ⌜ r ≡ foundNumber f ⌝ }
 {
     match f {

@@ -7,12 +7,12 @@ ghost use Rattle.message.specs.Found.{IsType, FieldsIn, Finds, decodedAs
 use crate::Found;
 use crate::InitiateFields;
 use crate::Message;
-use crate::Span;
 use crate::sizes;
 use crate::spans::rest_from;
+use fields::Span;
 use fields::byte_at;
-use parameters::whole_list;
-use rules::layout;
+use parameters::is_sound_list;
+use rules::forms;
 
 // Initiate's version, in three bytes, and REVISION.
 const VERSION: usize = 2;
@@ -30,14 +30,14 @@ fn initiate_fields(s: &[u8]) -> InitiateFields
     let version = byte_at(s, VERSION);
     let eco = byte_at(s, ECO);
     let modification = byte_at(s, MODIFICATION);
-    let parameters = rest_from(s, layout::INITIATE_HEADER);
+    let parameters = rest_from(s, forms::INITIATE_HEADER);
     InitiateFields {
         version,
         eco,
         modification,
         revision: Span {
             start: REVISION,
-            len: layout::REVISION_SIZE,
+            len: forms::REVISION_SIZE,
         },
         parameters,
     }
@@ -50,7 +50,7 @@ pub(crate) fn decode_initiate(s: &[u8]) -> Found
     if s.len() < sizes::INITIATE_HEADER {
         return Found::Refused(rules::UNSOUND);
     }
-    if !whole_list(rules::INITIATE, s, sizes::INITIATE_HEADER) {
+    if !is_sound_list(rules::INITIATE, s, sizes::INITIATE_HEADER) {
         return Found::Refused(rules::UNSOUND);
     }
     let f = initiate_fields(s);
@@ -64,10 +64,10 @@ pub(crate) fn decode_read_characteristics(s: &[u8]) -> Found
     if s.len() < sizes::BARE_HEADER {
         return Found::Refused(rules::UNSOUND);
     }
-    if !whole_list(rules::READ_CHARACTERISTICS, s, sizes::BARE_HEADER) {
+    if !is_sound_list(rules::READ_CHARACTERISTICS, s, sizes::BARE_HEADER) {
         return Found::Refused(rules::UNSOUND);
     }
-    let parameters = rest_from(s, layout::BARE_HEADER);
+    let parameters = rest_from(s, forms::BARE_HEADER);
     Found::Message(Message::ReadCharacteristics { parameters })
 }
 
@@ -78,9 +78,9 @@ pub(crate) fn decode_characteristics(s: &[u8]) -> Found
     if s.len() < sizes::BARE_HEADER {
         return Found::Refused(rules::UNSOUND);
     }
-    if !whole_list(rules::CHARACTERISTICS, s, sizes::BARE_HEADER) {
+    if !is_sound_list(rules::CHARACTERISTICS, s, sizes::BARE_HEADER) {
         return Found::Refused(rules::UNSOUND);
     }
-    let parameters = rest_from(s, layout::BARE_HEADER);
+    let parameters = rest_from(s, forms::BARE_HEADER);
     Found::Message(Message::Characteristics { parameters })
 }

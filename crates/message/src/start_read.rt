@@ -6,24 +6,25 @@ ghost use lib.ListN.{length};
 ghost use Rattle.rules.specs.Numbers.{inputSize};
 ghost use Rattle.rules.specs.StartRead.{soundStartRead};
 ghost use Rattle.rules.specs.Messages.Forms as forms;
-ghost use Rattle.message.specs.Found.{IsType, FlagsAre, StartReadIs, spanOf, startReadIn, Finds, decodedAs};
+ghost use Rattle.fields.specs.Spans.{spanOf};
+ghost use Rattle.message.specs.Found.{IsType, FlagsAre, StartReadIs, startReadIn, Finds, decodedAs};
 use crate::Found;
 use crate::Message;
-use crate::Span;
 use crate::StartReadFields;
 use crate::spans::rest_from;
+use fields::Span;
 use fields::byte_at;
 use fields::three_at;
 use fields::word_at;
 use rules::bits;
-use rules::layout;
+use rules::forms;
 
 // Fields of FLAGS, by how many values they have.
-const ONE_BIT: u32 = bits::ONE as u32;
+const ONE_BIT: u32 = bits::ONE_BIT as u32;
 
-const TWO_BITS: u32 = bits::TWO as u32;
+const TWO_BITS: u32 = bits::TWO_BITS as u32;
 
-const THREE_BITS: u32 = bits::THREE as u32;
+const THREE_BITS: u32 = bits::THREE_BITS as u32;
 
 // Where the fields behind FLAGS stand; behind SET_COUNT begins the termination set.
 const MAX_LENGTH: usize = 4;
@@ -53,7 +54,7 @@ const LAST_DISABLE: u8 = 3;
 fn start_read_flags(s: &[u8], set: Span, text: Span) -> StartReadFields
     ensures { λ r. ⌜ FlagsAre (now (s .entry)) set text r ⌝ }
 {
-    let flags = three_at(s, layout::FLAGS);
+    let flags = three_at(s, forms::FLAGS);
     let clears_type_ahead = flags / TWO_BITS;
     let formats = clears_type_ahead / ONE_BIT;
     let vertical = formats / ONE_BIT;
@@ -95,10 +96,10 @@ fn start_read_fields(s: &[u8]) -> StartReadFields
 {
     let count = byte_at(s, SET_COUNT) as u16;
     let set = Span {
-        start: layout::START_READ_HEADER,
+        start: forms::START_READ_HEADER,
         len: count,
     };
-    let text = rest_from(s, layout::START_READ_HEADER + count);
+    let text = rest_from(s, forms::START_READ_HEADER + count);
     let mut f = start_read_flags(s, set, text);
     f.max_length = word_at(s, MAX_LENGTH);
     f.end_of_data = word_at(s, END_OF_DATA);
@@ -116,7 +117,7 @@ fn less(a: u16, b: u16) -> u16
     if b <= a { a - b } else { 0 }
 }
 
-pub fn start_read_test(f: StartReadFields) -> bool
+pub fn is_sound_start_read(f: StartReadFields) -> bool
     ensures { λ r. ⌜ ((s : List ℕ) → length (spanOf s (f .text)) ≡ f .text .len → r ≡ soundStartRead inputSize (startReadIn s f)) ⌝ }
 {
     let text = f.text;
@@ -131,7 +132,7 @@ pub fn start_read_test(f: StartReadFields) -> bool
         & (f.low_water <= f.end_of_data)
         & (f.start_of_display <= f.end_of_data)
         & (f.end_of_data <= f.max_length)
-        & (largest <= rules::INPUT)
+        & (largest <= rules::INPUT_SIZE)
         & (text.len == shown)
 }
 
@@ -144,12 +145,12 @@ pub(crate) fn decode_start_read(s: &[u8]) -> Found
     }
     let behind = s.len() - SET_COUNT;
     let count = byte_at(s, SET_COUNT) as usize;
-    let whole = (count < behind) & (count <= rules::SET);
+    let whole = (count < behind) & (count <= rules::SET_SIZE);
     if !whole {
         return Found::Refused(rules::UNSOUND);
     }
     let f = start_read_fields(s);
-    if start_read_test(f) {
+    if is_sound_start_read(f) {
         return Found::Message(Message::StartRead(f));
     }
     Found::Refused(rules::UNSOUND)

@@ -12,8 +12,8 @@ use Rattle.rules.specs.Choice.{pick, within, allAre}
 use Rattle.rules.specs.Messages.Layout.{byteAt, numberAt}
 use Rattle.rules.specs.Messages.Parameters.{Shape, initiation, question, setting, selector, inputCountState, definedSelector, definedValue}
 use Rattle.rules.specs.Messages.Parameters.{valueLimits, limitsOf, parameterSize, soundParameter, cleaned, cut}
-use Rattle.rules.proofs.Tests.{pick-true, pick-false, pick-case, all-at}
-use Rattle.rules.proofs.ParameterLists.{Cleanable, positive, initiation-cleanable, question-cleanable, setting-cleanable}
+use Rattle.rules.proofs.Choice.{pick-true, pick-false, pick-case, all-at}
+use Rattle.rules.proofs.Parameters.{Cleanable, positive, initiation-cleanable, question-cleanable, setting-cleanable}
 use Rattle.parameters.specs.declared.limits.Limits.{Limits}
 use Rattle.parameters.specs.Lists.{LimitsAre, ParameterIs, shapeOf, parameterAt, soundFrom, parametersFrom, usedAt, nextFrom}
 use Rattle.fields.proofs.Numbers.{byte-behind, number-two}

@@ -11,7 +11,7 @@ use lib.Seq.{getD-take, getD-drop, drop-cons, drop-drop, length-take-le}
 use borrow.Author.Tests.{eq-eqb, ne-eqb, ltb-true, ltb-false}
 use Rattle.rules.specs.Messages.Layout.{byteAt}
 use Rattle.rules.specs.Messages.Parameters.{Shape, selector, limitsOf, parameterSize, soundParameter, cleaned, cut}
-use Rattle.rules.proofs.ParameterLists.{cut-cons}
+use Rattle.rules.proofs.Parameters.{cut-cons}
 use Rattle.fields.proofs.Numbers.{byte-behind}
 
 -- a byte under its limit; 1 where there is no limit

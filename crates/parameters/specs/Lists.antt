@@ -1,13 +1,13 @@
 -- Parameter lists in a slice. `kind` is the type of the message that the list stands in.
 use mathlib.Core.Path.{_≡_}
-use Prim.Native.Nat.{ℕ, zero, _+_, _<_}
+use Prim.Native.Nat.{ℕ, zero, _+_, _-_, _<_}
 use mathlib.Core.Bool.{Bool}
 use mathlib.Core.List.{List, [], _∷_, _++_, map}
 use lib.Dec.{ltb, eqb}
 use lib.ListN.{length, getD, take, drop}
 use Rattle.rules.specs.Choice.{pick, allAre}
-use Rattle.rules.specs.Messages.Layout.{wordBytes, byteAt, bytesOf}
-use Rattle.rules.specs.Messages.Parameters.{Shape, initiation, question, setting, firstValueAt, secondValueAt, thirdValueAt, selector, parameterSize, soundParameter, cleaned, cut}
+use Rattle.rules.specs.Messages.Layout.{wordBytes, byteValues, byteAt, bytesOf}
+use Rattle.rules.specs.Messages.Parameters.{Shape, initiation, question, setting, parameterHead, firstValueAt, secondValueAt, thirdValueAt, selector, parameterSize, soundParameter, cleaned, cut}
 use Rattle.rules.specs.Messages.Forms as forms
 use Rattle.parameters.specs.declared.Parameter.{Parameter}
 use Rattle.parameters.specs.declared.limits.Limits.{Limits}
@@ -30,7 +30,7 @@ parametersFrom kind at s = map (cleaned (shapeOf kind)) (cut (shapeOf kind) zero
 
 -- the bytes of the longest parameter: its head, and as many as one byte can count
 abbrev pub longestParameter : ℕ
-longestParameter = 257
+longestParameter = parameterHead + (byteValues - 1)
 
 -- a limit under which only 0 is: none of a byte's bits are used
 abbrev pub noBits : ℕ

@@ -9,7 +9,7 @@ use crate::limits::defined_selector;
 use crate::limits::limits_at;
 use fields::byte_at;
 use fields::word_at;
-use rules::layout;
+use rules::forms;
 
 mod limits;
 mod put;
@@ -30,7 +30,7 @@ const SECOND: usize = HEAD + 1;
 const THIRD: usize = HEAD + 2;
 
 // How many values a byte has.
-const BYTE_VALUES: u16 = layout::BYTE_VALUES as u16;
+const BYTE_VALUES: u16 = forms::BYTE_VALUES as u16;
 
 // The values of INPUT-COUNT-STATE.
 const FIRST_COUNT_STATE: u16 = 1;
@@ -88,7 +88,7 @@ fn sound_at(kind: u8, s: &[u8], at: usize) -> bool
 }
 
 // Every parameter from a place on is whole and defined.
-pub fn whole_list(kind: u8, s: &[u8], from: usize) -> bool
+pub fn is_sound_list(kind: u8, s: &[u8], from: usize) -> bool
     ensures { λ r. ⌜ r ≡ soundFrom kind from (now (s .entry)) ⌝ }
 {
     let mut at = from;
@@ -102,7 +102,7 @@ pub fn whole_list(kind: u8, s: &[u8], from: usize) -> bool
 }
 
 // A byte, cut by its limit.
-fn used_at(s: &[u8], at: usize, limit: u16) -> u8
+fn used_byte(s: &[u8], at: usize, limit: u16) -> u8
     requires { ⌜ 0 < limit ⌝ }
     ensures { λ r. ⌜ r ≡ byteAt (now (s .entry)) at % limit ⌝ }
 {
@@ -126,9 +126,9 @@ pub fn parameter_at(kind: u8, s: &[u8], at: usize) -> Parameter
     let l = limits_at(kind, s, at);
     let low = s[at] as u16;
     let high = byte_at(s, at + 1) as u16;
-    let first = used_at(s, at + FIRST, l.1);
-    let second = used_at(s, at + SECOND, l.2);
-    let third = used_at(s, at + THIRD, l.3);
+    let first = used_byte(s, at + FIRST, l.1);
+    let second = used_byte(s, at + SECOND, l.2);
+    let third = used_byte(s, at + THIRD, l.3);
     Parameter {
         selector: low + BYTE_VALUES * high,
         first,

@@ -8,18 +8,23 @@ use crate::selectors;
 use fields::byte_at;
 use fields::word_at;
 use rules::bits;
-use rules::layout;
+use rules::forms;
 
 // Limits of a byte, by how many of its bits are used.
-const ALL_BITS: u16 = layout::BYTE_VALUES as u16;
+const ALL_BITS: u16 = forms::BYTE_VALUES as u16;
 
-const SEVEN_BITS: u16 = bits::SEVEN as u16;
+const SEVEN_BITS: u16 = bits::SEVEN_BITS as u16;
 
-const FOUR_BITS: u16 = bits::FOUR as u16;
+const FOUR_BITS: u16 = bits::FOUR_BITS as u16;
 
-const ONE_BIT: u16 = bits::ONE as u16;
+const ONE_BIT: u16 = bits::ONE_BIT as u16;
 
 const NO_BITS: u16 = 1;
+
+// Bytes of the value of character attributes, and of a parameter that has none.
+const ATTRIBUTES_VALUE: u8 = crate::LONGEST_VALUE as u8;
+
+const NO_VALUE: u8 = 0;
 
 // How many bytes a parameter has behind its first two, and a limit for each of the first three of them: a byte is taken modulo its
 // limit. A byte that the parameter does not have gets NO_BITS, by which it is 0.
@@ -54,27 +59,27 @@ fn question_limits(n: u16) -> Limits
     ensures { λ r. ⌜ LimitsAre (questionLimits n) r ⌝ }
 {
     if n == selectors::CHARACTER_ATTRIBUTES {
-        return Limits(1, ALL_BITS, NO_BITS, NO_BITS);
+        return Limits(forms::BYTE, ALL_BITS, NO_BITS, NO_BITS);
     }
-    Limits(0, NO_BITS, NO_BITS, NO_BITS)
+    Limits(NO_VALUE, NO_BITS, NO_BITS, NO_BITS)
 }
 
 fn setting_limits(n: u16) -> Limits
     ensures { λ r. ⌜ LimitsAre (valueLimits n) r ⌝ }
 {
     if n == selectors::CHARACTER_ATTRIBUTES {
-        return Limits(3, ALL_BITS, ALL_BITS, SEVEN_BITS);
+        return Limits(ATTRIBUTES_VALUE, ALL_BITS, ALL_BITS, SEVEN_BITS);
     }
     if n == selectors::INPUT_COUNT_STATE {
-        return Limits(2, ALL_BITS, ALL_BITS, NO_BITS);
+        return Limits(forms::WORD_BYTES, ALL_BITS, ALL_BITS, NO_BITS);
     }
     if n == selectors::ERROR_PROCESSING {
-        return Limits(1, FOUR_BITS, NO_BITS, NO_BITS);
+        return Limits(forms::BYTE, FOUR_BITS, NO_BITS, NO_BITS);
     }
     if defined_selector(n) {
-        return Limits(1, ONE_BIT, NO_BITS, NO_BITS);
+        return Limits(forms::BYTE, ONE_BIT, NO_BITS, NO_BITS);
     }
-    Limits(0, NO_BITS, NO_BITS, NO_BITS)
+    Limits(NO_VALUE, NO_BITS, NO_BITS, NO_BITS)
 }
 
 // The limits of the parameter that begins at a place.

@@ -20,7 +20,7 @@ mod script;
 mod text;
 
 // Of a longer message one byte more than the longest is kept: it is refused all the same.
-const KEPT: usize = rules::MESSAGE + 1;
+const KEPT: usize = rules::MESSAGE_SIZE + 1;
 
 // The longest area.
 const AREA: usize = 65_535;

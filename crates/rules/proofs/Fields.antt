@@ -15,7 +15,7 @@ use borrow.Author.Tests.{ltb-true, leb-true, lt-ltb}
 use Rattle.rules.specs.Choice.{allAre}
 use Rattle.rules.specs.Messages.Layout.{fieldsIn, numberOf, fits, Group, sizeOf, widthsOf, numberAt, bytesOf, readGroups, writeGroups}
 use Rattle.rules.specs.Messages.Unused.{bitsOf, zeroGroups}
-use Rattle.rules.proofs.Tests.{both, halves, all-cons}
+use Rattle.rules.proofs.Choice.{both, halves, all-cons}
 
 -- A field under its width, and what stands above it.
 low-field : (w : ℕ) {v : ℕ} (n : ℕ) → v < 2 ^ w → (v + 2 ^ w * n) % 2 ^ w ≡ v

@@ -8,9 +8,9 @@ use Rattle.rules.specs.Choice.{allAre}
 use Rattle.rules.specs.Messages.Parameters.{Shape}
 use Rattle.rules.specs.Messages.Forms.{Tail, nothing, text, setAndText, list, Form, forms, noForm, formOf}
 use Rattle.rules.specs.Messages.Unused.{bitsOf}
-use Rattle.rules.proofs.Tests.{all-at}
+use Rattle.rules.proofs.Choice.{all-at}
 use Rattle.rules.proofs.Fields.{roomy}
-use Rattle.rules.proofs.ParameterLists.{Cleanable, initiation-cleanable, question-cleanable, setting-cleanable}
+use Rattle.rules.proofs.Parameters.{Cleanable, initiation-cleanable, question-cleanable, setting-cleanable}
 
 -- one test over the table
 pub form-roomy : (kind : ℕ) → roomy (formOf kind .head) ≡ true

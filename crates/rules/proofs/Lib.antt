@@ -1,14 +1,14 @@
 -- Laws of the rules, and what is proved of them.
-pub mod Tests
+pub mod Choice
 pub mod Fields
-pub mod ParameterLists
+pub mod Parameters
 mod FormTable
 mod Tails
 pub mod Outcomes
 pub mod RoundTrip
 pub mod Bench
-pub mod Sizes
+pub mod Numbers
 pub mod Bounds
 mod Erasure
 pub mod TwoRuns
-pub mod Areas
+pub mod Area

@@ -12,7 +12,7 @@ use Rattle.rules.specs.Messages.Layout.{byteAt}
 use Rattle.rules.specs.Messages.Forms.{Message, formOf}
 use Rattle.rules.specs.Messages.Codec.{Outcome, refused, sound, definedKind, soundLength, soundAs, fieldsAs, readRefusals, read}
 use Rattle.rules.specs.Messages.Codec.{Held, kindOf, heldBytes, fitsHeld, writeRefusals, written}
-use Rattle.rules.proofs.Tests.{pick-true, pick-false, pick-first, pick-second}
+use Rattle.rules.proofs.Choice.{pick-true, pick-false, pick-first, pick-second}
 
 module _ {A : Type 0} where
   pub refused-sound : {k : ℕ} {x : A} → refused k ≡ sound x → ⊥

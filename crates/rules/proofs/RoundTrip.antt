@@ -15,7 +15,7 @@ use Rattle.rules.specs.Messages.Codec.{sound, definedFields, soundLength
 use Rattle.rules.specs.Messages.Codec.{wholeTail, allBytes, tailBytes, bytesAs, fitsTail, fitsAs}
 use Rattle.rules.specs.Messages.Codec.{Held, message, other, kindOf, heldBytes, fitsHeld, written}
 use Rattle.rules.specs.Messages.Unused.{zeroAs, unusedZero}
-use Rattle.rules.proofs.Tests.{both, thirds, within-bounds, within-true, all-split}
+use Rattle.rules.proofs.Choice.{both, thirds, within-bounds, within-true, all-split}
 use Rattle.rules.proofs.Fields.{roomy, length-writeGroups, readGroups-fit, groups-back, groups-zero}
 use Rattle.rules.proofs.FormTable.{form-roomy, form-cleanable, shapesIn, EachCleanable}
 use Rattle.rules.proofs.Outcomes.{readable, read-sound, Writable, writable, written-sound}

@@ -13,8 +13,8 @@ use Rattle.rules.specs.Messages.Parameters.{soundParameter, fitsParamete
 use Rattle.rules.specs.Messages.Forms.{Message, Tail, nothing, text, setAndText, list}
 use Rattle.rules.specs.Messages.Codec.{wholeTail, setIn, parametersIn, textIn, allBytes, tailBytes, fitsTail, setSize}
 use Rattle.rules.specs.Messages.Unused.{zeroTail}
-use Rattle.rules.proofs.Tests.{both, halves, thirds, quarters, isEmpty-nil, all-split}
-use Rattle.rules.proofs.ParameterLists.{cut-joined, map-cleaned, cut-cleaned-fits, cut-cleaned-sound, cut-cleaned-length}
+use Rattle.rules.proofs.Choice.{both, halves, thirds, quarters, isEmpty-nil, all-split}
+use Rattle.rules.proofs.Parameters.{cut-joined, map-cleaned, cut-cleaned-fits, cut-cleaned-sound, cut-cleaned-length}
 use Rattle.rules.proofs.FormTable.{shapesIn, EachCleanable}
 
 -- What reading finds in these bytes of a tail, if they are the bytes of a message's own.

@@ -16,7 +16,7 @@ use Rattle.rules.specs.State.{withTerminal, withTyped, withRead, withIdl
 use Rattle.rules.specs.Turns.{Rule, quote, clear, discard, outOfBand, arrived, control, crowdedOut, cleared}
 use Rattle.rules.specs.Turns.{still, writes, sends, tells, changes, here, _then_}
 use Rattle.rules.specs.ReadData.{noEnding, byOutOfBand, completes}
-use Rattle.rules.specs.Editing.{deletes, deletesUnseen}
+use Rattle.rules.specs.Editing.{deletes, deletesWithoutRubbing}
 use Rattle.rules.specs.Characteristics.{outOfBandField, immediateClear, hello}
 
 -- keys of rule 3
@@ -85,9 +85,9 @@ module _ {C : Type 0} where
       sendsDiscardState
 
   -- a pending read has DDD 3
-  unfoldable pub passesControls : Option (Reading C) → Bool
-  passesControls none = false
-  passesControls (some r) = eqb (r .terms .disables) disablesControls
+  unfoldable pub areControlsOff : Option (Reading C) → Bool
+  areControlsOff none = false
+  areControlsOff (some r) = eqb (r .terms .disables) disablesControls
 
   unfoldable pub emptiesTyped : Rule C
   emptiesTyped =
@@ -100,7 +100,7 @@ module _ {C : Type 0} (chars : Characters C) where
   unfoldable pub clearsInput : Rubbing → Option (Reading C) → Rule C
   clearsInput rubbing none = still
   clearsInput rubbingOut (some r) = deletes chars cleared 0 r
-  clearsInput withoutRubbing (some r) = deletesUnseen cleared 0 r
+  clearsInput withoutRubbing (some r) = deletesWithoutRubbing cleared 0 r
 
   -- The clear rule: empty type-ahead, drop held and partial tokens, delete the pending read's input as 21 does.
   unfoldable pub clearRule : Rubbing → Rule C
@@ -142,7 +142,7 @@ module _ {C : Type 0} (chars : Characters C) where
       pick (s .terminal .quoting) (storesQuoted c)
       (pick (isHello (attributeOf c s)) (sendsOutOfBand c)
       (pick (isImmediateClear (attributeOf c s)) (clearsAtOnce c)
-      (pick (passesControls (s .read)) (stores typeAheadSize false c)
+      (pick (areControlsOff (s .read)) (stores typeAheadSize false c)
       (controlled c)))))
 
   -- before Initiate only rule 4 applies

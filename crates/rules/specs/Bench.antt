@@ -1,15 +1,19 @@
 -- Page 01, "Bench cases": the starred ones as one table, and what it is for a case to hold.
-use Prim.Native.Nat.{ℕ, suc}
+use Prim.Native.Nat.{ℕ, suc, _-_}
 use mathlib.Core.Bool.{Bool, true, false, _&&_}
 use mathlib.Core.List.{List, [], _∷_, _++_}
 use lib.Dec.{eqb}
-use lib.ListN.{take, replicate}
+use lib.ListN.{length, take, replicate}
 use Rattle.rules.specs.Choice.{pick, joined, same}
 use Rattle.rules.specs.Numbers.{terminalArea, messageArea, typeAheadSize, accepted, wrongTime, unsound}
-use Rattle.rules.specs.Messages.Forms.{Message, startRead}
+use Rattle.rules.specs.Messages.Forms.{Message, revisionSize, startRead}
 use Rattle.rules.specs.Messages.Codec as codec
 use Rattle.rules.specs.Messages.Codec.{Outcome, refused, sound, read, written}
+use Rattle.rules.specs.Screen.{HT, SP, DEL}
 use Rattle.rules.specs.State.{State, fresh, codes}
+use Rattle.rules.specs.Token.{ESC, BRACKET}
+use Rattle.rules.specs.Editing.{redisplayKey}
+use Rattle.rules.specs.Arrival.{quoteKey}
 use Rattle.rules.specs.Calls.{Event, key, step, tick, message, Call, Answer, answer, messageBytes}
 
 -- a call and what it is to answer: number, terminal bytes, the message area's bytes, and the dropped count after it
@@ -104,9 +108,9 @@ told bytes number terminal messages = says (message bytes) number terminal messa
 -- Initiate and ours, which every line begins with
 abbrev pub initiated : Exchange
 initiated =
-    told (0x01 ∷ 0x00 ∷ 0x01 ∷ 0x00 ∷ 0x00 ∷ replicate 8 0x20) accepted []
+    told (0x01 ∷ 0x00 ∷ 0x01 ∷ 0x00 ∷ 0x00 ∷ replicate revisionSize SP) accepted []
     (0x19 ∷ 0x00 ∷ 0x01 ∷ 0x00 ∷ 0x01 ∷ 0x00 ∷ 0x00 ∷
-    (replicate 8 0x20 ++
+    (replicate revisionSize SP ++
     (0x01 ∷ 0x02 ∷ 0x00 ∷ 0x01 ∷ 0x02 ∷ 0x02 ∷ 0x84 ∷ 0x00 ∷ 0x03 ∷ 0x02 ∷ 0xFE ∷ 0x7F ∷ [])))
 
 -- case A's bytes, and its acceptance, which writes the prompt
@@ -183,12 +187,12 @@ starred =
     runs
     (initiated ∷ startedA ∷
     (typed 0x34 (0x34 ∷ []) [] ++
-    typed 0x7F (0x08 ∷ 0x20 ∷ 0x08 ∷ []) [] ++
+    typed DEL (0x08 ∷ 0x20 ∷ 0x08 ∷ []) [] ++
     typed 0x33 (0x33 ∷ []) [] ++
     typed 0x35 (0x35 ∷ []) [] ++
     typed 0x0D (0x0D ∷ 0x0A ∷ []) (0x0B ∷ 0x00 ∷ 0x03 ∷ 0x00 ∷ 0x02 ∷ 0x00 ∷ 0x01 ∷ 0x00 ∷ 0x02 ∷ 0x00 ∷ 0x33 ∷ 0x35 ∷ 0x0D ∷ []))) ∷
     -- C: A without its last byte
-    runs (initiated ∷ told (take 18 startA) unsound [] [] ∷ []) ∷
+    runs (initiated ∷ told (take (length startA - 1) startA) unsound [] [] ∷ []) ∷
     -- D: END-OF-DATA 132 of 132 completes at once; MAX-LENGTH 133 is 5
     runs
     (initiated ∷
@@ -198,25 +202,25 @@ starred =
     -- E: MAX-LENGTH 0, buffer full, no data
     runs (initiated ∷ told (0x02 ∷ 0x00 ∷ 0x00 ∷ 0x00 ∷ 0x00 ∷ 0x00 ∷ 0x00 ∷ 0x00 ∷ 0x00 ∷ 0x00 ∷ 0x00 ∷ 0x00 ∷ 0x00 ∷ 0x00 ∷ 0x00 ∷ 0x00 ∷ 0x00 ∷ []) accepted [] (0x08 ∷ 0x00 ∷ 0x03 ∷ 0x04 ∷ 0x00 ∷ 0x00 ∷ 0x00 ∷ 0x00 ∷ 0x00 ∷ 0x00 ∷ []) ∷ []) ∷
     -- F: DEL at once
-    runs (initiated ∷ startedA ∷ typed 0x7F (0x07 ∷ []) []) ∷
+    runs (initiated ∷ startedA ∷ typed DEL (0x07 ∷ []) []) ∷
     -- G: 22, then 13 as data, which is returned with the 13 that ends the read
     runs
-    (initiated ∷ startedA ∷ stored 22 ∷
+    (initiated ∷ startedA ∷ stored quoteKey ∷
     (typed 0x0D (0x5E ∷ 0x4D ∷ []) [] ++
     typed 0x0D (0x0D ∷ 0x0A ∷ []) (0x0A ∷ 0x00 ∷ 0x03 ∷ 0x00 ∷ 0x02 ∷ 0x00 ∷ 0x01 ∷ 0x00 ∷ 0x01 ∷ 0x00 ∷ 0x0D ∷ 0x0D ∷ []))) ∷
     -- H: recognition on; a valid and an invalid token
     runs
     (initiated ∷ recognising ∷ startedA ∷
-    (typed 27 [] [] ++ typed 91 [] [] ++
+    (typed ESC [] [] ++ typed BRACKET [] [] ++
     typed 65 [] (0x0B ∷ 0x00 ∷ 0x03 ∷ 0x01 ∷ 0x02 ∷ 0x00 ∷ 0x00 ∷ 0x02 ∷ 0x00 ∷ 0x00 ∷ 0x1B ∷ 0x5B ∷ 0x41 ∷ []))) ∷
     runs
     (initiated ∷ recognising ∷ startedA ∷
-    (typed 27 [] [] ++ typed 91 [] [] ++
+    (typed ESC [] [] ++ typed BRACKET [] [] ++
     typed 7 [] (0x0B ∷ 0x00 ∷ 0x03 ∷ 0x02 ∷ 0x02 ∷ 0x00 ∷ 0x00 ∷ 0x02 ∷ 0x00 ∷ 0x00 ∷ 0x1B ∷ 0x5B ∷ 0x07 ∷ []))) ∷
     -- I: room for 2, token of 3
     runs
     (initiated ∷ recognising ∷ told (0x02 ∷ 0x00 ∷ 0x80 ∷ 0x00 ∷ 0x02 ∷ 0x00 ∷ 0x00 ∷ 0x00 ∷ 0x00 ∷ 0x00 ∷ 0x00 ∷ 0x00 ∷ 0x00 ∷ 0x00 ∷ 0x00 ∷ 0x00 ∷ 0x00 ∷ []) accepted [] [] ∷
-    (typed 27 [] [] ++ typed 91 [] [] ++ typed 65 [] (0x08 ∷ 0x00 ∷ 0x03 ∷ 0x18 ∷ 0x00 ∷ 0x00 ∷ 0x00 ∷ 0x00 ∷ 0x00 ∷ 0x00 ∷ []))) ∷
+    (typed ESC [] [] ++ typed BRACKET [] [] ++ typed 65 [] (0x08 ∷ 0x00 ∷ 0x03 ∷ 0x18 ∷ 0x00 ∷ 0x00 ∷ 0x00 ∷ 0x00 ∷ 0x00 ∷ 0x00 ∷ []))) ∷
     -- J: the 65th waiting key
     runs
     (initiated ∷
@@ -237,11 +241,11 @@ warned =
     typed 0x61 [] (0x09 ∷ 0x00 ∷ 0x03 ∷ 0x00 ∷ 0x00 ∷ 0x00 ∷ 0x00 ∷ 0x00 ∷ 0x00 ∷ 0x00 ∷ 0x41 ∷ [])) ∷
     -- quoting after out-of-band: a quoted hello character is data
     runs
-    (initiated ∷ told (0x0B ∷ 0x00 ∷ 0x02 ∷ 0x02 ∷ 0x03 ∷ 0xFF ∷ 0x03 ∷ []) accepted [] [] ∷ startedA ∷ stored 22 ∷ typed 3 (0x5E ∷ 0x43 ∷ []) []) ∷
+    (initiated ∷ told (0x0B ∷ 0x00 ∷ 0x02 ∷ 0x02 ∷ 0x03 ∷ 0xFF ∷ 0x03 ∷ []) accepted [] [] ∷ startedA ∷ stored quoteKey ∷ typed 3 (0x5E ∷ 0x43 ∷ []) []) ∷
     -- rubbing out a tab as one column: from column 2 it is six
     runs
     (initiated ∷ startedA ∷
-    (typed 9 (replicate 6 0x20) [] ++ typed 127 (joined (replicate 6 (0x08 ∷ 0x20 ∷ 0x08 ∷ []))) [])) ∷
+    (typed HT (replicate 6 0x20) [] ++ typed DEL (joined (replicate 6 (0x08 ∷ 0x20 ∷ 0x08 ∷ []))) [])) ∷
     -- echoing with a changed characteristic in mid read
     runs (initiated ∷ startedA ∷ told (0x0B ∷ 0x00 ∷ 0x05 ∷ 0x02 ∷ 0x00 ∷ []) accepted [] [] ∷ typed 0x31 (0x31 ∷ []) []) ∷
     -- a refused message leaves the read and what was typed as they were
@@ -255,16 +259,16 @@ warned =
     stored 0x31 ∷ says tick accepted [] [] ∷ stepped (0x31 ∷ []) [] ∷
     says tick accepted [] (0x09 ∷ 0x00 ∷ 0x03 ∷ 0x05 ∷ 0x00 ∷ 0x00 ∷ 0x00 ∷ 0x01 ∷ 0x01 ∷ 0x00 ∷ 0x31 ∷ []) ∷ []) ∷
     -- redisplay: a new line, the prompt and what was typed
-    runs (initiated ∷ startedA ∷ (typed 0x31 (0x31 ∷ []) [] ++ typed 0x12 (0x0D ∷ 0x0A ∷ 0x3F ∷ 0x20 ∷ 0x31 ∷ []) [])) ∷
+    runs (initiated ∷ startedA ∷ (typed 0x31 (0x31 ∷ []) [] ++ typed redisplayKey (0x0D ∷ 0x0A ∷ 0x3F ∷ 0x20 ∷ 0x31 ∷ []) [])) ∷
     -- 127 as data, and rubbed out again: two marks
-    runs (initiated ∷ startedA ∷ stored 22 ∷ (typed 127 (0x5E ∷ 0x3F ∷ []) [] ++ typed 127 (joined (replicate 2 (0x08 ∷ 0x20 ∷ 0x08 ∷ []))) [])) ∷
+    runs (initiated ∷ startedA ∷ stored quoteKey ∷ (typed DEL (0x5E ∷ 0x3F ∷ []) [] ++ typed DEL (joined (replicate 2 (0x08 ∷ 0x20 ∷ 0x08 ∷ []))) [])) ∷
     -- an attribute changes where the mask has 1, a switch alone
     runs
     (initiated ∷ told (0x0B ∷ 0x00 ∷ 0x02 ∷ 0x02 ∷ 0x41 ∷ 0x0C ∷ 0x0F ∷ 0x05 ∷ 0x02 ∷ 0x00 ∷ []) accepted [] [] ∷
     told (0x0A ∷ 0x00 ∷ 0x02 ∷ 0x02 ∷ 0x41 ∷ 0x04 ∷ 0x02 ∷ 0x05 ∷ 0x02 ∷ 0x06 ∷ 0x02 ∷ 0x09 ∷ 0x02 ∷ []) accepted []
     (0x13 ∷ 0x00 ∷ 0x0B ∷ 0x00 ∷ 0x02 ∷ 0x02 ∷ 0x41 ∷ 0x7F ∷ 0x0C ∷ 0x04 ∷ 0x02 ∷ 0x00 ∷ 0x05 ∷ 0x02 ∷ 0x00 ∷ 0x06 ∷ 0x02 ∷ 0x00 ∷ 0x09 ∷ 0x02 ∷ 0x00 ∷ []) ∷ []) ∷
     -- Check Input counts the keys that wait and the bytes of a token
-    runs (initiated ∷ recognising ∷ startedA ∷ (typed 27 [] [] ++ (stored 0x31 ∷ stored 0x32 ∷ told (0x0C ∷ 0x00 ∷ []) accepted [] (0x04 ∷ 0x00 ∷ 0x0D ∷ 0x00 ∷ 0x03 ∷ 0x00 ∷ []) ∷ []))) ∷
+    runs (initiated ∷ recognising ∷ startedA ∷ (typed ESC [] [] ++ (stored 0x31 ∷ stored 0x32 ∷ told (0x0C ∷ 0x00 ∷ []) accepted [] (0x04 ∷ 0x00 ∷ 0x0D ∷ 0x00 ∷ 0x03 ∷ 0x00 ∷ []) ∷ []))) ∷
     -- a termination set of 33 bytes
     runs (initiated ∷ told (0x02 ∷ 0x00 ∷ 0x50 ∷ 0x00 ∷ 0x50 ∷ 0x00 ∷ 0x00 ∷ 0x00 ∷ 0x00 ∷ 0x00 ∷ 0x00 ∷ 0x00 ∷ 0x00 ∷ 0x00 ∷ 0x00 ∷ 0x00 ∷ 0x21 ∷ replicate 33 0) unsound [] [] ∷ []) ∷
     -- fields that the line ignores are kept, and unused bits are written 0

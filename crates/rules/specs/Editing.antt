@@ -20,11 +20,24 @@ deleteLineKey = 21
 abbrev pub redisplayKey : ℕ
 redisplayKey = 18
 
+-- the digits and the capital letters
+abbrev pub firstDigit : ℕ
+firstDigit = 48
+
+abbrev pub lastDigit : ℕ
+lastDigit = 57
+
 abbrev pub isDigit : ℕ → Bool
-isDigit n = within 48 57 n
+isDigit n = within firstDigit lastDigit n
+
+abbrev pub firstCapital : ℕ
+firstCapital = 65
+
+abbrev pub lastCapital : ℕ
+lastCapital = 90
 
 abbrev pub isCapital : ℕ → Bool
-isCapital n = within 65 90 n
+isCapital n = within firstCapital lastCapital n
 
 -- word class: ASCII letter or digit, or neither
 unfoldable pub isWord : ℕ → Bool
@@ -36,8 +49,8 @@ leading test [] = 0
 leading test (n ∷ ns) = pick (test n) (1 + leading test ns) 0
 
 -- how many characters 23 leaves: it deletes trailing non-word characters, then word characters
-unfoldable pub leftBy23 : List ℕ → ℕ
-leftBy23 ns =
+unfoldable pub leftByDeleteWord : List ℕ → ℕ
+leftByDeleteWord ns =
     let last = reverse ns in
     let spaces = leading (λ n. not (isWord n)) last in
     length ns - (spaces + leading isWord (drop spaces last))
@@ -64,8 +77,8 @@ module _ {C : Type 0} where
       }
 
   -- delete all but the first characters, without rubbing out; every one deleted meets a fate
-  unfoldable pub deletesUnseen : (C → Fate C) → ℕ → Reading C → Rule C
-  deletesUnseen fate left r = tells (map fate (drop left (r .input))) then changes (withRead (some (shortened left r)))
+  unfoldable pub deletesWithoutRubbing : (C → Fate C) → ℕ → Reading C → Rule C
+  deletesWithoutRubbing fate left r = tells (map fate (drop left (r .input))) then changes (withRead (some (shortened left r)))
 
 module _ {C : Type 0} (chars : Characters C) where
   abbrev pub inputCodes : Reading C → List ℕ
@@ -79,7 +92,7 @@ module _ {C : Type 0} (chars : Characters C) where
   rubOutBytes left r = pick (r .terms .echoes) (rubOut (marksBehind (left - hiddenCount r) (r .displayColumn) (displayed r))) []
 
   unfoldable pub deletes : (C → Fate C) → ℕ → Reading C → Rule C
-  deletes fate left r = writes (rubOutBytes left r) then deletesUnseen fate left r
+  deletes fate left r = writes (rubOutBytes left r) then deletesWithoutRubbing fate left r
 
   -- if the read echoes, the echo of what follows the prompt; its display begins here
   unfoldable pub displaysData : Reading C → Rule C

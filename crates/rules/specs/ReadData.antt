@@ -67,9 +67,9 @@ module _ {C : Type 0} (chars : Characters C) where
   unfoldable pub moreData : State C → Bool
   moreData s = not (isEmpty (s .typed .typeAhead)) || isWhole (tokenCodes s)
 
-  -- the read's answer: its code, and how many characters end it
-  unfoldable pub answerOf : ℕ → ℕ → Reading C → State C → Message C
-  answerOf code ending r s =
+  -- the Read Data of a read: its code, and how many characters end it
+  unfoldable pub readDataOf : ℕ → ℕ → Reading C → State C → Message C
+  readDataOf code ending r s =
       record {
         kind = readData;
         numbers =
@@ -92,7 +92,7 @@ module _ {C : Type 0} (chars : Characters C) where
       only (isPartial (tokenCodes s)) (tells (map lost (s .typed .token)) then changes (withToken [])))
 
   unfoldable pub sendsReadData : ℕ → ℕ → Reading C → Rule C
-  sendsReadData code ending r = here (λ s. sends (answerOf code ending r s))
+  sendsReadData code ending r = here (λ s. sends (readDataOf code ending r s))
 
   unfoldable pub completes : ℕ → ℕ → Reading C → Rule C
   completes code ending r = losesPartial then sendsReadData code ending r then endsRead

@@ -17,8 +17,14 @@ pub record Characters (C : Type 0) : Type 0 where
   pub given : ℕ → C
 
 -- the small letters, and what lies between one and its capital
+abbrev pub firstSmall : ℕ
+firstSmall = 97
+
+abbrev pub lastSmall : ℕ
+lastSmall = 122
+
 abbrev pub isSmall : ℕ → Bool
-isSmall n = within 97 122 n
+isSmall n = within firstSmall lastSmall n
 
 abbrev pub smallShift : ℕ
 smallShift = 32

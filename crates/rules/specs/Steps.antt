@@ -13,7 +13,7 @@ use Rattle.rules.specs.Token.{ESC, CSI, standing, isValid, isWhole, isPa
 use Rattle.rules.specs.Turns.{Rule, edit, control, taken, tokened, edited, still, writes, tells, changes, here, _then_, only}
 use Rattle.rules.specs.ReadData.{noEnding, oneEnding, byTerminator, byValidToken, byInvalidToken, byFullBuffer, byTimeout, byUnderflow, byAbsentee}
 use Rattle.rules.specs.ReadData.{tokenCodes, completes}
-use Rattle.rules.specs.Editing.{deleteWordKey, deleteLineKey, redisplayKey, endOf, inputCodes, leftBy23, deletes, redisplays}
+use Rattle.rules.specs.Editing.{deleteWordKey, deleteLineKey, redisplayKey, endOf, inputCodes, leftByDeleteWord, deletes, redisplays}
 
 module _ {C : Type 0} where
   abbrev pub columnNow : State C → ℕ
@@ -23,13 +23,13 @@ module _ {C : Type 0} where
   appended cs r = withInput (r .input ++ cs) r
 
   -- DDD 1: 21 and 18 do not edit; 2 and 3: none do
-  unfoldable pub editsBy : ℕ → Reading C → Bool
-  editsBy code r =
+  unfoldable pub isEditKey : ℕ → Reading C → Bool
+  isEditKey code r =
       (eqb code DEL || eqb code deleteWordKey) && leb (r .terms .disables) disablesLines ||
       (eqb code deleteLineKey || eqb code redisplayKey) && eqb (r .terms .disables) disablesNothing
 
-  unfoldable pub beginsToken : ℕ → Reading C → Bool
-  beginsToken code r = (eqb code ESC || eqb code CSI) && r .terms .recognises
+  unfoldable pub isTokenStart : ℕ → Reading C → Bool
+  isTokenStart code r = (eqb code ESC || eqb code CSI) && r .terms .recognises
 
   -- a key is taken from type-ahead, which leaves these, and idle is 0
   abbrev pub keyTaken : List (Key C) → Reading C → State C → State C
@@ -104,7 +104,7 @@ module _ {C : Type 0} (chars : Characters C) where
   unfoldable pub edits : C → Reading C → Rule C
   edits c r =
       pick (eqb (chars .code c) DEL) (erases (length (r .input) - 1) c r)
-      (pick (eqb (chars .code c) deleteWordKey) (erases (leftBy23 (inputCodes chars r)) c r)
+      (pick (eqb (chars .code c) deleteWordKey) (erases (leftByDeleteWord (inputCodes chars r)) c r)
       (pick (eqb (chars .code c) deleteLineKey) (erasesAll c r)
       (showsAgain c r)))
 
@@ -112,7 +112,7 @@ module _ {C : Type 0} (chars : Characters C) where
   unfoldable pub takesPlain : C → Reading C → Rule C
   takesPlain c r =
       pick (inSet (r .terms .set) (chars .code c)) (terminates c r)
-      (pick (editsBy (chars .code c) r) (edits c r)
+      (pick (isEditKey (chars .code c) r) (edits c r)
       (takesData c r))
 
   -- rule 4
@@ -125,7 +125,7 @@ module _ {C : Type 0} (chars : Characters C) where
       here (λ s.
       pick (isPartial (tokenCodes chars s)) (addsToToken (k .char) r)
       (pick (k .quoted) (takesData (k .char) r)
-      (pick (beginsToken (chars .code (k .char)) r) (addsToToken (k .char) r)
+      (pick (isTokenStart (chars .code (k .char)) r) (addsToToken (k .char) r)
       (takesPlain (raisedBy r (k .char)) r))))
 
   -- one key is taken from type-ahead; with type-ahead empty a read with Q and TIMEOUT 0 completes

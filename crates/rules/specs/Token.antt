@@ -18,21 +18,39 @@ abbrev pub BRACKET : ℕ
 BRACKET = 91
 
 -- the bytes of a sequence by what they do in it; a final byte straight after 27, or after 27 and intermediate bytes, may be lower
+abbrev pub firstIntermediate : ℕ
+firstIntermediate = 32
+
+abbrev pub lastIntermediate : ℕ
+lastIntermediate = 47
+
 abbrev pub isIntermediate : ℕ → Bool
-isIntermediate n = within 32 47 n
+isIntermediate n = within firstIntermediate lastIntermediate n
+
+abbrev pub firstParameter : ℕ
+firstParameter = 48
+
+abbrev pub lastParameter : ℕ
+lastParameter = 63
 
 abbrev pub isParameter : ℕ → Bool
-isParameter n = within 48 63 n
+isParameter n = within firstParameter lastParameter n
+
+abbrev pub firstFinal : ℕ
+firstFinal = 64
+
+abbrev pub firstLowFinal : ℕ
+firstLowFinal = 48
 
 -- the last that may be final
 abbrev pub lastFinal : ℕ
 lastFinal = 126
 
 abbrev pub isFinal : ℕ → Bool
-isFinal n = within 64 lastFinal n
+isFinal n = within firstFinal lastFinal n
 
 abbrev pub isLowFinal : ℕ → Bool
-isLowFinal n = within 48 lastFinal n
+isLowFinal n = within firstLowFinal lastFinal n
 
 -- how far the bytes go
 pub data Place : Type 0 where

@@ -18,11 +18,23 @@ use Rattle.rules.specs.Calls.{Event, key, step, tick, message, Call, Ans
 
 -- Two lists of calls.
 
+abbrev pub keyEvent : ℕ
+keyEvent = 0
+
+abbrev pub stepEvent : ℕ
+stepEvent = 1
+
+abbrev pub tickEvent : ℕ
+tickEvent = 2
+
+abbrev pub messageEvent : ℕ
+messageEvent = 3
+
 unfoldable pub eventKind : {C : Type 0} → Event C → ℕ
-eventKind (key c) = 0
-eventKind step = 1
-eventKind tick = 2
-eventKind (message bytes) = 3
+eventKind (key c) = keyEvent
+eventKind step = stepEvent
+eventKind tick = tickEvent
+eventKind (message bytes) = messageEvent
 
 unfoldable pub eventBytes : {C : Type 0} → Event C → List ℕ
 eventBytes (key c) = []

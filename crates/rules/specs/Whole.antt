@@ -73,15 +73,15 @@ unfolding Token.next Token.placeFrom Token.isFinished Token.isValid Token.standi
 openToken = tt
 
 unfoldable pub openReadData : Unit {0}
-unfolding ReadData.waitingCount ReadData.checksInput ReadData.moreData ReadData.answerOf ReadData.losesPartial ReadData.sendsReadData ReadData.endsRead ReadData.completes ReadData.unreadsWhile ReadData.unreads
+unfolding ReadData.waitingCount ReadData.checksInput ReadData.moreData ReadData.readDataOf ReadData.losesPartial ReadData.sendsReadData ReadData.endsRead ReadData.completes ReadData.unreadsWhile ReadData.unreads
 openReadData = tt
 
 unfoldable pub openEditing : Unit {0}
-unfolding Editing.isWord Editing.leading Editing.leftBy23 Editing.endOf Editing.hiddenCount Editing.shortened Editing.deletesUnseen Editing.displayed Editing.rubOutBytes Editing.deletes Editing.displaysData Editing.displays Editing.redisplays
+unfolding Editing.isWord Editing.leading Editing.leftByDeleteWord Editing.endOf Editing.hiddenCount Editing.shortened Editing.deletesWithoutRubbing Editing.displayed Editing.rubOutBytes Editing.deletes Editing.displaysData Editing.displays Editing.redisplays
 openEditing = tt
 
 unfoldable pub openArrival : Unit {0}
-unfolding Arrival.isImmediateClear Arrival.isHello Arrival.idleAgain Arrival.keeps Arrival.countsDropped Arrival.drops Arrival.stores Arrival.storesQuoted Arrival.quotes Arrival.sendsDiscardState Arrival.flipsDiscard Arrival.passesControls Arrival.emptiesTyped Arrival.clearsInput Arrival.clearRule Arrival.clearsBy Arrival.sendsOutOfBand Arrival.endsOutOfBand Arrival.clearsAtOnce Arrival.controlled Arrival.byFirstRule Arrival.arrives
+unfolding Arrival.isImmediateClear Arrival.isHello Arrival.idleAgain Arrival.keeps Arrival.countsDropped Arrival.drops Arrival.stores Arrival.storesQuoted Arrival.quotes Arrival.sendsDiscardState Arrival.flipsDiscard Arrival.areControlsOff Arrival.emptiesTyped Arrival.clearsInput Arrival.clearRule Arrival.clearsBy Arrival.sendsOutOfBand Arrival.endsOutOfBand Arrival.clearsAtOnce Arrival.controlled Arrival.byFirstRule Arrival.arrives
 openArrival = tt
 
 unfoldable pub openAcceptance : Unit {0}
@@ -89,7 +89,7 @@ unfolding Acceptance.chosen Acceptance.hidesLF Acceptance.shownPrompt Acceptance
 openAcceptance = tt
 
 unfoldable pub openSteps : Unit {0}
-unfolding Steps.appended Steps.editsBy Steps.beginsToken Steps.setsIdle Steps.tokenCode Steps.endsByToken Steps.takesToken Steps.addsToToken Steps.echoesIf Steps.echoesTerminatorIf Steps.takesData Steps.terminates Steps.underflows Steps.erases Steps.erasesAll Steps.showsAgain Steps.edits Steps.takesPlain Steps.raisedBy Steps.takes Steps.takesFirst Steps.stepsWhile Steps.steps Steps.idles Steps.ticksWhile Steps.ticks
+unfolding Steps.appended Steps.isEditKey Steps.isTokenStart Steps.setsIdle Steps.tokenCode Steps.endsByToken Steps.takesToken Steps.addsToToken Steps.echoesIf Steps.echoesTerminatorIf Steps.takesData Steps.terminates Steps.underflows Steps.erases Steps.erasesAll Steps.showsAgain Steps.edits Steps.takesPlain Steps.raisedBy Steps.takes Steps.takesFirst Steps.stepsWhile Steps.steps Steps.idles Steps.ticksWhile Steps.ticks
 openSteps = tt
 
 unfoldable pub openCharacteristics : Unit {0}

@@ -1,4 +1,4 @@
-// Character codes, as in specs/Screen.antt, specs/Token.antt and specs/Editing.antt.
+// Character codes, as in specs/Screen.antt and specs/Token.antt.
 
 pub const SOH: u8 = 1;
 

@@ -1,25 +1,28 @@
 // The numbers of page 01 and 000 for the crates above. First the sizes, as in specs/Numbers.antt.
 pub mod bits;
 pub mod characters;
-pub mod layout;
+pub mod forms;
 
-pub const INPUT: usize = 132;
+pub const INPUT_SIZE: usize = 132;
 
-pub const TYPE_AHEAD: usize = 64;
+pub const TYPE_AHEAD_SIZE: usize = 64;
 
-pub const TOKEN: usize = 16;
+pub const TOKEN_SIZE: usize = 16;
 
-pub const MESSAGE: usize = 256;
+pub const MESSAGE_SIZE: usize = 256;
+
+// bytes of the shortest message (specs/Messages/Codec.antt)
+pub const SHORTEST_MESSAGE: usize = 1;
 
 pub const TERMINAL_AREA: usize = 4096;
 
 pub const MESSAGE_AREA: usize = 256;
 
 // character codes, each with its attribute
-pub const CODES: usize = 256;
+pub const CODE_COUNT: usize = 256;
 
-// bytes of a termination set that has them all
-pub const SET: usize = 32;
+// the most bytes of a termination set (specs/Messages/Codec.antt)
+pub const SET_SIZE: usize = 32;
 
 pub const TOP_COLUMN: u16 = 999;
 

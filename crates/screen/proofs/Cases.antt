@@ -7,7 +7,7 @@ use lib.ListN.{replicate}
 use borrow.Author.Tests.{eq-eqb, ne-eqb, le-leb, lt-leb}
 use Rattle.rules.specs.Numbers.{topColumn}
 use Rattle.rules.specs.Screen.{BS, HT, LF, CR, SP, DEL, isMark, toTab, columnAfter, echo, echoTerminator}
-use Rattle.rules.proofs.Tests.{pick-true, pick-false}
+use Rattle.rules.proofs.Choice.{pick-true, pick-false}
 
 module _ (column b : ℕ) where
   pub column-mark : isMark b ≡ true → columnAfter column b ≡ min topColumn (column + 1)

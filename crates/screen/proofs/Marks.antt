@@ -12,9 +12,9 @@ use borrow.Author.Tests.{leb-true}
 use Rattle.rules.specs.Choice.{pick, allAre}
 use Rattle.rules.specs.Numbers.{topColumn}
 use Rattle.rules.specs.Screen.{SP, isMark, toTab, columnAfter, columnAfterAll, echo, echoAll, marksBehind}
-use Rattle.rules.proofs.Tests.{pick-true, pick-false, pick-case, within-true, both, all-cons}
+use Rattle.rules.proofs.Choice.{pick-true, pick-false, pick-case, within-true, both, all-cons}
 use Rattle.rules.proofs.Bounds.Screen.{echoAll-length}
-use Rattle.screen.specs.View.{counted}
+use Rattle.screen.specs.View.{capped}
 use Rattle.screen.proofs.Cases.{column-mark}
 use Rattle.screen.proofs.Echoes.{columnAfterAll-append, echoAll-append, echoAll-more}
 
@@ -104,8 +104,8 @@ module _ (column : ℕ) (text : List ℕ) (i : ℕ) (inside : i < length text) w
         ∙ sym (ap (columnAfterAll column) (echoAll-more column text i inside)
         ∙ columnAfterAll-append (echoAll column (take i text)) (echo here next) column)
 
-    pub marks-turn : (kept : ℕ) {marks after : ℕ} → kept ≤ i → marks ≡ counted (marksBehind kept column (take i text)) →
-        after ≡ counted (marks + more) → after ≡ counted (marksBehind kept column (take (i + 1) text))
+    pub marks-turn : (kept : ℕ) {marks after : ℕ} → kept ≤ i → marks ≡ capped (marksBehind kept column (take i text)) →
+        after ≡ capped (marks + more) → after ≡ capped (marksBehind kept column (take (i + 1) text))
     marks-turn kept k m e =
         let before = marks-split kept column (take i text) in
         let behind = marks-split kept column (take (i + 1) text) in
@@ -117,18 +117,18 @@ module _ (column : ℕ) (text : List ℕ) (i : ℕ) (inside : i < length text) w
         omega arith
 
 pub kept-turn : (kept column : ℕ) (text : List ℕ) (i : ℕ) {marks after : ℕ} → i < kept →
-    marks ≡ counted (marksBehind kept column (take i text)) → after ≡ marks →
-    after ≡ counted (marksBehind kept column (take (i + 1) text))
+    marks ≡ capped (marksBehind kept column (take i text)) → after ≡ marks →
+    after ≡ capped (marksBehind kept column (take (i + 1) text))
 kept-turn kept column text i k m e =
     let before = marks-none kept column text i (omega arith) in
     let still = marks-none kept column text (i + 1) (omega arith) in
     omega arith
 
 -- a text that memory holds easily is counted to its end
-pub counted-whole : (kept column : ℕ) (ns : List ℕ) → length ns < 2 ^ 60 →
-    counted (marksBehind kept column ns) ≡ marksBehind kept column ns
+pub capped-whole : (kept column : ℕ) (ns : List ℕ) → length ns < 2 ^ 60 →
+    capped (marksBehind kept column ns) ≡ marksBehind kept column ns
 unfolding marksBehind
-counted-whole kept column ns h =
+capped-whole kept column ns h =
     let most = echoAll-length (columnAfterAll column (echoAll column (take kept ns))) (drop kept ns) in
     let fewer = length-drop kept ns in
     omega arith

@@ -5,12 +5,12 @@ use mathlib.Core.List.{List, [], _∷_, _++_}
 use lib.ListN.{length, set, length-set}
 use borrow.Author.Tests.{lt-ltb, le-ltb}
 use Rattle.rules.specs.Screen.{shown, shownAll, columnAfterAll}
-use Rattle.rules.proofs.Tests.{pick-true, pick-false}
+use Rattle.rules.proofs.Choice.{pick-true, pick-false}
 use Rattle.rules.specs.Area.{put, puts, spot}
 use Rattle.screen.specs.View.{Writes, screenView}
 use Rattle.screen.specs.declared.Screen.{Screen}
 use Rattle.screen.specs.declared.Shown.{Shown}
-use Rattle.rules.proofs.Areas.{puts-append}
+use Rattle.rules.proofs.Area.{puts-append}
 use Rattle.screen.proofs.Echoes.{shownAll-append, shownAll-column}
 
 module _ {before : List ℕ} {at : ℕ} {s : Screen} where

@@ -19,5 +19,5 @@ pub record Writes (bytes : List ℕ) (before : List ℕ) (at : ℕ) (s : Screen)
   pub same : length after ≡ length before
 
 -- a count, as far as a usize goes
-abbrev pub counted : ℕ → ℕ
-counted n = min n 0xFFFF_FFFF_FFFF_FFFF
+abbrev pub capped : ℕ → ℕ
+capped n = min n 0xFFFF_FFFF_FFFF_FFFF

@@ -7,7 +7,7 @@ ghost use mathlib.Core.List.{[], _∷_};
 ghost use Rattle.rules.specs.Choice.{pick};
 ghost use Rattle.rules.specs.Numbers.{topColumn};
 ghost use Rattle.rules.specs.Screen as rules;
-ghost use Rattle.screen.specs.View.{Writes, counted};
+ghost use Rattle.screen.specs.View.{Writes, capped};
 use crate::Screen;
 use crate::Shown;
 use crate::columns::further;
@@ -54,7 +54,7 @@ fn column_behind(column: u16, marks: u16) -> u16
 
 // Two counts of marks added up, to MOST at most.
 fn count(marks: usize, more: u16) -> usize
-    ensures { λ r. ⌜ r ≡ counted (marks + more) ⌝ }
+    ensures { λ r. ⌜ r ≡ capped (marks + more) ⌝ }
 {
     let room = MOST - marks;
     let by = more as usize;
@@ -67,7 +67,7 @@ fn count(marks: usize, more: u16) -> usize
 // The marks and spaces that stand on the screen for a text behind its first characters, shown from a column on. One pass:
 // a tab's width goes by what stands before it.
 pub fn marks_behind(kept: usize, column: u16, text: &[u8]) -> usize
-    ensures { λ r. ⌜ r ≡ counted (rules.marksBehind kept column (now (text .entry))) ⌝ }
+    ensures { λ r. ⌜ r ≡ capped (rules.marksBehind kept column (now (text .entry))) ⌝ }
 {
     let mut cursor = column;
     let mut marks = 0;

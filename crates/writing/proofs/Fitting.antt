@@ -12,12 +12,13 @@ use Rattle.rules.specs.Messages.Forms.{forms, formOf}
 use Rattle.rules.specs.Messages.Codec.{allBytes, definedFields, fitsTail, fitsAs, fitsHeld}
 use Rattle.rules.specs.Numbers.{inputSize}
 use Rattle.rules.specs.StartRead.{soundStartRead}
-use Rattle.rules.proofs.Tests.{both, all-split}
-use Rattle.message.specs.declared.Span.{Span}
+use Rattle.rules.proofs.Choice.{both, all-split}
+use Rattle.fields.specs.declared.Span.{Span}
 use Rattle.message.specs.declared.Message.{Message}
 use Rattle.message.specs.declared.Message.the-variants.{StartRead, OutOfBand, Unread, WriteCompletion, DiscardState, InputCount, InputState}
 use Rattle.message.specs.declared.StartReadFields.{StartReadFields}
-use Rattle.message.specs.Found.{spanOf, heldIn, startReadIn, textMessage}
+use Rattle.fields.specs.Spans.{spanOf}
+use Rattle.message.specs.Found.{heldIn, startReadIn, textMessage}
 use Rattle.writing.specs.Fits.{FitsIn}
 use Rattle.writing.specs.Spans.{spansOf}
 use Rattle.writing.proofs.Lengths.{spans-length}

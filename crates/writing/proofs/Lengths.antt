@@ -17,15 +17,16 @@ use Rattle.rules.specs.Messages.Parameters.{Shape, initiation, question, settin
 use Rattle.rules.specs.Messages.Forms as forms
 use Rattle.rules.specs.Messages.Forms.{Tail, nothing, text, setAndText, list, Form, formOf}
 use Rattle.rules.specs.Messages.Codec.{tailBytes, bytesAs, heldBytes}
-use Rattle.rules.proofs.Tests.{both, quarters, all-cons}
+use Rattle.rules.proofs.Choice.{both, quarters, all-cons}
 use Rattle.rules.proofs.Fields.{length-writeGroups}
-use Rattle.rules.proofs.ParameterLists.{joined-cut}
-use Rattle.message.specs.declared.Span.{Span}
+use Rattle.rules.proofs.Parameters.{joined-cut}
+use Rattle.fields.specs.declared.Span.{Span}
 use Rattle.message.specs.declared.Message.{Message}
 use Rattle.message.specs.declared.Message.the-variants.{Initiate, StartRead, ReadData, OutOfBand, Unread, ClearInput, Write}
 use Rattle.message.specs.declared.Message.the-variants.{WriteCompletion, DiscardState, ReadCharacteristics, Characteristics}
 use Rattle.message.specs.declared.Message.the-variants.{CheckInput, InputCount, InputState, Other}
-use Rattle.message.specs.Found.{spanOf, parametersOf, startReadIn, heldIn, placesOf, lies, allLie}
+use Rattle.fields.specs.Spans.{spanOf}
+use Rattle.message.specs.Found.{parametersOf, startReadIn, heldIn, spanListOf, lies, allLie}
 use Rattle.parameters.proofs.Walk.{size-taken, size-least}
 use Rattle.fronts.specs.Front.{frontTail, frontBytes}
 use Rattle.writing.specs.Spans as spans
@@ -83,13 +84,13 @@ form-length f x =
 module _ (s : List ℕ) where
   -- by the bytes that there are of its spans
   abbrev sizeIn : Spans → ℕ
-  sizeIn p = p .head + length (spanOf s (p .list)) + length (spanOf s (p .set)) + length (spanOf s (p .text))
+  sizeIn p = p .header + length (spanOf s (p .list)) + length (spanOf s (p .set)) + length (spanOf s (p .text))
 
-  listed : (kind head : ℕ) (shape : Shape) (p : Span) (x : forms.Message ℕ) → formOf kind .tail ≡ list shape →
-      1 + layout.sizeOf (formOf kind .head) ≡ head → x .parameters ≡ parametersOf shape s p →
-      length (bytesAs (formOf kind) x) ≡ sizeIn (spans.withList kind head p)
+  listed : (kind header : ℕ) (shape : Shape) (p : Span) (x : forms.Message ℕ) → formOf kind .tail ≡ list shape →
+      1 + layout.sizeOf (formOf kind .head) ≡ header → x .parameters ≡ parametersOf shape s p →
+      length (bytesAs (formOf kind) x) ≡ sizeIn (spans.withList kind header p)
   unfolding tailBytes parametersOf spanOf
-  listed kind head shape p x is size e =
+  listed kind header shape p x is size e =
       let f = form-length (formOf kind) x in
       let tail : length (tailBytes (formOf kind .tail) x) ≡ length (joined (x .parameters)) = ap (λ t. length (tailBytes t x)) is in
       let params = ap (λ ps. length (joined ps)) e in
@@ -157,11 +158,11 @@ module _ (size : ℕ) where
   first-lies : (p : Span) (ps : List Span) → allAre (lies size) (p ∷ ps) ≡ true → Lies p
   first-lies p ps e = all-cons (lies size) p ps e .0
 
-  bare-inside : (kind head : ℕ) → inside size (spans.bare kind head) ≡ true
-  bare-inside kind head = four-lie _ none-lies none-lies none-lies none-lies
+  bare-inside : (kind header : ℕ) → inside size (spans.bare kind header) ≡ true
+  bare-inside kind header = four-lie _ none-lies none-lies none-lies none-lies
 
   pub all-inside : (m : Message) → allLie size m ≡ true → inside size (spansOf m) ≡ true
-  unfolding placesOf spansOf
+  unfolding spanListOf spansOf
   all-inside (Initiate f) e =
       let h = all-cons (lies size) (f .revision) (f .parameters ∷ []) e in
       four-lie _ (first-lies (f .parameters) [] (h .1)) none-lies none-lies (h .0)

@@ -10,9 +10,9 @@ use borrow.Author.Tests.{lt-ltb}
 use Rattle.rules.specs.Choice.{pick, joined}
 use Rattle.rules.specs.Messages.Layout.{byteAt, numberOf, fits, bytesOf}
 use Rattle.rules.specs.Messages.Parameters.{Shape, selector, valueLimits, limitsOf, parameterSize, soundParameter, cleaned}
-use Rattle.rules.proofs.Tests.{both, halves, pick-case}
+use Rattle.rules.proofs.Choice.{both, halves, pick-case}
 use Rattle.rules.proofs.Fields.{fieldsIn-numberOf}
-use Rattle.rules.proofs.ParameterLists.{sound-size, size-cleaned}
+use Rattle.rules.proofs.Parameters.{sound-size, size-cleaned}
 use Rattle.parameters.specs.declared.Parameter.{Parameter}
 use Rattle.parameters.specs.Lists.{ParameterIs, shapeOf, parameterAt, soundFrom, parametersFrom, usedAt}
 use Rattle.parameters.proofs.Walk.{cleaned-byte, size-least, size-here}

@@ -13,11 +13,12 @@ use Rattle.rules.specs.Messages.Parameters.{Shape, initiation, question, settin
 use Rattle.rules.specs.Messages.Parameters.{parameterSize, soundParameter, fitsParameter, cleaned, cut}
 use Rattle.rules.specs.Messages.Forms.{forms, formOf}
 use Rattle.rules.specs.Messages.Codec.{allBytes, definedFields, fitsTail, fitsAs, fitsHeld}
-use Rattle.rules.proofs.Tests.{both, halves, pick-same, all-cons, all-joined}
-use Rattle.rules.proofs.ParameterLists.{Cleanable, initiation-cleanable, question-cleanable, setting-cleanable}
-use Rattle.rules.proofs.ParameterLists.{joined-cut, limits-cleaned, selector-cleaned, count-cleaned, cut-cleaned-fits, cut-cleaned-sound}
-use Rattle.message.specs.declared.Span.{Span}
-use Rattle.message.specs.Found.{spanOf, parametersOf, listMessage}
+use Rattle.rules.proofs.Choice.{both, halves, pick-same, all-cons, all-joined}
+use Rattle.rules.proofs.Parameters.{Cleanable, initiation-cleanable, question-cleanable, setting-cleanable}
+use Rattle.rules.proofs.Parameters.{joined-cut, limits-cleaned, selector-cleaned, count-cleaned, cut-cleaned-fits, cut-cleaned-sound}
+use Rattle.fields.specs.declared.Span.{Span}
+use Rattle.fields.specs.Spans.{spanOf}
+use Rattle.message.specs.Found.{parametersOf, listMessage}
 use Rattle.parameters.specs.Lists.{shapeOf, soundFrom}
 use Rattle.writing.proofs.Lengths.{cut-short, cleaned-length}
 use Rattle.writing.proofs.Fitting.{span-bytes}

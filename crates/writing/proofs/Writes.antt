@@ -19,12 +19,12 @@ use Rattle.rules.specs.Messages.Forms as forms
 use Rattle.rules.specs.Messages.Forms.{formOf, text, setAndText, list}
 use Rattle.rules.specs.Messages.Codec.{Outcome, refused, sound, Held, message, other, allBytes, definedKind, definedFields, fitsTail, fitsAs, fitsHeld}
 use Rattle.rules.specs.Messages.Codec.{tailBytes, bytesAs, heldBytes, kindOf, read, writeRefusals, written}
-use Rattle.rules.proofs.Tests.{halves, thirds, quarters, pick-true, pick-false, pick-case, all-cons, all-joined}
-use Rattle.rules.proofs.Sizes.{longest-room}
-use Rattle.rules.proofs.Areas.{puts-front}
+use Rattle.rules.proofs.Choice.{halves, thirds, quarters, pick-true, pick-false, pick-case, all-cons, all-joined}
+use Rattle.rules.proofs.Numbers.{longest-room}
+use Rattle.rules.proofs.Area.{puts-front}
 use Rattle.rules.proofs.Outcomes.{refused-sound, sound-same}
 use Rattle.rules.proofs.RoundTrip.{round-trip}
-use Rattle.rules.proofs.ParameterLists.{joined-cut}
+use Rattle.rules.proofs.Parameters.{joined-cut}
 use Rattle.message.specs.declared.Message.{Message}
 use Rattle.message.specs.declared.StartReadFields.{StartReadFields}
 use Rattle.message.specs.declared.Message.the-variants.{Initiate, StartRead, ReadData, OutOfBand, Unread, ClearInput, Write}
@@ -32,7 +32,8 @@ use Rattle.message.specs.declared.Message.the-variants.{WriteCompletion, Discar
 use Rattle.message.specs.declared.Message.the-variants.{CheckInput, InputCount, InputState, Other}
 use Rattle.message.specs.declared.Found.{Found}
 use Rattle.message.specs.declared.Found.the-variants as variants
-use Rattle.message.specs.Found.{Finds, spanOf, parametersOf, startReadIn, heldIn, asHeld, foundIn, foundInside}
+use Rattle.fields.specs.Spans.{spanOf}
+use Rattle.message.specs.Found.{Finds, parametersOf, startReadIn, heldIn, asHeld, foundIn, foundInside}
 use Rattle.parameters.specs.Lists.{soundFrom}
 use Rattle.parameters.proofs.Shapes.{is-setting}
 use Rattle.message.proofs.Lists.{list-from}

@@ -5,7 +5,7 @@ use mathlib.Core.List.{List}
 use lib.Dec.{eqb}
 use Rattle.rules.specs.Choice.{pick, joined}
 use Rattle.rules.specs.Messages.Forms as forms
-use Rattle.message.specs.declared.Span.{Span}
+use Rattle.fields.specs.declared.Span.{Span}
 use Rattle.message.specs.declared.Message.{Message}
 use Rattle.message.specs.declared.Message.the-variants.{Initiate, StartRead, ReadData, OutOfBand, Unread, ClearInput, Write}
 use Rattle.message.specs.declared.Message.the-variants.{WriteCompletion, DiscardState, ReadCharacteristics, Characteristics}
@@ -18,19 +18,19 @@ abbrev pub none : Span
 none = record { start = 0; len = 0 }
 
 abbrev pub withText : ℕ → ℕ → Span → Spans
-withText kind head text = record { kind = kind; head = head; list = none; set = none; text = text; revision = none }
+withText kind header text = record { kind = kind; header = header; list = none; set = none; text = text; revision = none }
 
 abbrev pub bare : ℕ → ℕ → Spans
-bare kind head = withText kind head none
+bare kind header = withText kind header none
 
 abbrev pub withList : ℕ → ℕ → Span → Spans
-withList kind head list = record { kind = kind; head = head; list = list; set = none; text = none; revision = none }
+withList kind header list = record { kind = kind; header = header; list = list; set = none; text = none; revision = none }
 
 abbrev pub initiateSpans : Span → Span → Spans
-initiateSpans list revision = record { kind = forms.initiate; head = forms.initiateHeader; list = list; set = none; text = none; revision = revision }
+initiateSpans list revision = record { kind = forms.initiate; header = forms.initiateHeader; list = list; set = none; text = none; revision = revision }
 
 abbrev pub startReadSpans : Span → Span → Spans
-startReadSpans set text = record { kind = forms.startRead; head = forms.startReadHeader; list = none; set = set; text = text; revision = none }
+startReadSpans set text = record { kind = forms.startRead; header = forms.startReadHeader; list = none; set = set; text = text; revision = none }
 
 unfoldable pub spansOf : Message → Spans
 spansOf (Initiate f) = initiateSpans (f .parameters) (f .revision)
@@ -51,7 +51,7 @@ spansOf (Other kind body) = withText kind forms.typeHeader body
 
 -- how long the message is by the lengths of its spans
 abbrev pub spannedSize : Spans → ℕ
-spannedSize p = p .head + p .list .len + p .set .len + p .text .len
+spannedSize p = p .header + p .list .len + p .set .len + p .text .len
 
 unfoldable pub inside : ℕ → Spans → Bool
 inside size p = lies size (p .list) && lies size (p .set) && lies size (p .text) && lies size (p .revision)

@@ -4,41 +4,42 @@ ghost use mathlib.Core.List.{[]};
 ghost use Rattle.rules.specs.Messages.Layout.{widthsOf, fits};
 ghost use Rattle.rules.specs.Messages.Forms.{formOf, startRead};
 ghost use Rattle.message.specs.declared.Message.the-variants as variants;
-ghost use Rattle.message.specs.Found.{spanOf, startReadIn};
+ghost use Rattle.fields.specs.Spans.{spanOf};
+ghost use Rattle.message.specs.Found.{startReadIn};
 ghost use Rattle.parameters.specs.Lists.{soundFrom};
 ghost use Rattle.writing.specs.Fits.{Fits, FitsIn};
+use fields::Span;
 use message::InitiateFields;
-use message::LAST_CODE;
+use message::LAST_COMPLETION_CODE;
 use message::LAST_FIX;
 use message::Message;
 use message::ReadDataFields;
-use message::Span;
 use message::StartReadFields;
 use message::WriteFields;
 use rules::bits;
-use rules::layout;
+use rules::forms;
 
 // The most bytes of a termination set.
-const SET: u16 = rules::SET as u16;
+const SET_SIZE: u16 = rules::SET_SIZE as u16;
 
 fn fits_read_data(f: ReadDataFields) -> bool
     ensures { λ r. ⌜ Fits (variants.ReadData f) r ⌝ }
 {
-    (f.code < bits::FOUR) & (f.more < bits::ONE) & (f.code <= LAST_CODE)
+    (f.code < bits::FOUR_BITS) & (f.more < bits::ONE_BIT) & (f.code <= LAST_COMPLETION_CODE)
 }
 
 fn fits_write(f: WriteFields) -> bool
     ensures { λ r. ⌜ Fits (variants.Write f) r ⌝ }
 {
-    (f.lock < bits::TWO)
-        & (f.newline < bits::ONE)
-        & (f.keeps_output < bits::ONE)
-        & (f.first < bits::ONE)
-        & (f.last < bits::ONE)
-        & (f.prefix < bits::TWO)
-        & (f.postfix < bits::TWO)
-        & (f.wants_completion < bits::ONE)
-        & (f.transparent < bits::ONE)
+    (f.lock < bits::TWO_BITS)
+        & (f.newline < bits::ONE_BIT)
+        & (f.keeps_output < bits::ONE_BIT)
+        & (f.first < bits::ONE_BIT)
+        & (f.last < bits::ONE_BIT)
+        & (f.prefix < bits::TWO_BITS)
+        & (f.postfix < bits::TWO_BITS)
+        & (f.wants_completion < bits::ONE_BIT)
+        & (f.transparent < bits::ONE_BIT)
         & (f.prefix <= LAST_FIX)
         & (f.postfix <= LAST_FIX)
 }
@@ -47,18 +48,18 @@ fn fits_write(f: WriteFields) -> bool
 fn fits_flags(f: StartReadFields) -> bool
     ensures { λ r. ⌜ r ≡ fits (widthsOf (formOf startRead .head)) (startReadIn [] f .numbers) ⌝ }
 {
-    (f.underflow < bits::TWO)
-        & (f.clears_type_ahead < bits::ONE)
-        & (f.formats < bits::ONE)
-        & (f.vertical < bits::ONE)
-        & (f.continues < bits::ONE)
-        & (f.raises < bits::TWO)
-        & (f.disables < bits::THREE)
-        & (f.silent < bits::ONE)
-        & (f.terminator_echo < bits::ONE)
-        & (f.timed < bits::ONE)
-        & (f.set_choice < bits::TWO)
-        & (f.escapes < bits::TWO)
+    (f.underflow < bits::TWO_BITS)
+        & (f.clears_type_ahead < bits::ONE_BIT)
+        & (f.formats < bits::ONE_BIT)
+        & (f.vertical < bits::ONE_BIT)
+        & (f.continues < bits::ONE_BIT)
+        & (f.raises < bits::TWO_BITS)
+        & (f.disables < bits::THREE_BITS)
+        & (f.silent < bits::ONE_BIT)
+        & (f.terminator_echo < bits::ONE_BIT)
+        & (f.timed < bits::ONE_BIT)
+        & (f.set_choice < bits::TWO_BITS)
+        & (f.escapes < bits::TWO_BITS)
 }
 
 fn fits_start_read(f: StartReadFields) -> bool
@@ -66,15 +67,15 @@ fn fits_start_read(f: StartReadFields) -> bool
 {
     let set = f.set;
     let flags = fits_flags(f);
-    let sound = message::start_read_test(f);
-    flags & (set.len <= SET) & sound
+    let sound = message::is_sound_start_read(f);
+    flags & (set.len <= SET_SIZE) & sound
 }
 
 fn fits_list(kind: u8, p: Span, s: &[u8]) -> bool
     ensures { λ r. ⌜ r ≡ soundFrom kind 0 (spanOf (now (s .entry)) p) ⌝ }
 {
-    let t = message::span_of(s, p);
-    parameters::whole_list(kind, t, 0)
+    let t = fields::span_of(s, p);
+    parameters::is_sound_list(kind, t, 0)
 }
 
 fn fits_initiate(f: InitiateFields, s: &[u8]) -> bool
@@ -83,7 +84,7 @@ fn fits_initiate(f: InitiateFields, s: &[u8]) -> bool
     let revision = f.revision;
     let parameters = f.parameters;
     let whole = fits_list(rules::INITIATE, parameters, s);
-    (revision.len == layout::REVISION_SIZE) & whole
+    (revision.len == forms::REVISION_SIZE) & whole
 }
 
 pub(crate) fn fits_message(m: Message, s: &[u8]) -> bool
@@ -93,16 +94,16 @@ pub(crate) fn fits_message(m: Message, s: &[u8]) -> bool
         Message::Initiate(f) => fits_initiate(f, s),
         Message::StartRead(f) => fits_start_read(f),
         Message::ReadData(f) => fits_read_data(f),
-        Message::OutOfBand { discard, character } => discard < bits::ONE,
-        Message::Unread { condition } => condition < bits::ONE,
+        Message::OutOfBand { discard, character } => discard < bits::ONE_BIT,
+        Message::Unread { condition } => condition < bits::ONE_BIT,
         Message::ClearInput => true,
         Message::Write(f) => fits_write(f),
         Message::WriteCompletion {
             lost,
             horizontal,
             vertical,
-        } => lost < bits::ONE,
-        Message::DiscardState { kept } => kept < bits::ONE,
+        } => lost < bits::ONE_BIT,
+        Message::DiscardState { kept } => kept < bits::ONE_BIT,
         Message::ReadCharacteristics { parameters } => fits_list(
             rules::READ_CHARACTERISTICS,
             parameters,
@@ -111,7 +112,7 @@ pub(crate) fn fits_message(m: Message, s: &[u8]) -> bool
         Message::Characteristics { parameters } => fits_list(rules::CHARACTERISTICS, parameters, s),
         Message::CheckInput => true,
         Message::InputCount { count } => true,
-        Message::InputState { nonzero } => nonzero < bits::ONE,
+        Message::InputState { nonzero } => nonzero < bits::ONE_BIT,
         Message::Other { kind: _, body: _ } => false,
     }
 }

@@ -3,12 +3,12 @@ ghost use mathlib.Core.Path.{_≡_};
 ghost use mathlib.Core.Bool.{true};
 ghost use Rattle.rules.specs.Choice.{joined};
 ghost use Rattle.rules.specs.Messages.Forms.{characteristics};
-ghost use Rattle.message.specs.Found.{spanOf};
+ghost use Rattle.fields.specs.Spans.{spanOf};
 ghost use Rattle.parameters.specs.Lists.{soundFrom, parametersFrom};
 ghost use Rattle.areas.specs.Puts.{Puts};
 ghost use Rattle.writing.specs.Spans.{listBytes};
 use areas::put_bytes;
-use message::Span;
+use fields::Span;
 use parameters::put_setting;
 
 // The parameters of a Characteristics, unused bits set to 0.
@@ -32,7 +32,7 @@ pub(crate) fn put_list(kind: u8, list: Span, s: &[u8], area: &mut [u8], at: usiz
     requires { ⌜ (kind ≡ characteristics → soundFrom characteristics 0 (spanOf (now s) list) ≡ true) ⌝ }
     ensures { λ r. ⌜ Puts (listBytes kind (spanOf (now (s .entry)) list)) (now (area .entry)) at r (now (area .exit)) ⌝ }
 {
-    let t = message::span_of(s, list);
+    let t = fields::span_of(s, list);
     if kind == rules::CHARACTERISTICS {
         return put_settings(t, area, at);
     }

@@ -5,7 +5,7 @@ use crate::spans::spans_of;
 use areas::put_number;
 use fronts::put_message;
 use message::Message;
-use rules::layout;
+use rules::forms;
 
 // A message behind its length in two bytes: whole, or the front of one whose parameter list the caller puts.
 pub fn put_framed(m: Message, s: &[u8], area: &mut [u8], at: usize) -> usize
@@ -13,6 +13,6 @@ pub fn put_framed(m: Message, s: &[u8], area: &mut [u8], at: usize) -> usize
 {
     let p = spans_of(m);
     let size = size_of(p);
-    let next = put_number(layout::WORD, size, area, at);
+    let next = put_number(forms::WORD_BYTES, size, area, at);
     put_message(m, s, area, next)
 }

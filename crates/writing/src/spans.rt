@@ -2,28 +2,28 @@
 ghost use mathlib.Core.Path.{_≡_};
 ghost use Rattle.message.specs.Found.{lies};
 ghost use Rattle.writing.specs.Spans.{spansOf, spannedSize, inside, bare, withText, withList, initiateSpans, startReadSpans};
+use fields::Span;
 use message::Message;
-use message::Span;
-use rules::layout;
+use rules::forms;
 
-// `head` is how many bytes stand in front of the list, or of the text; a set has its count among them. A span that a message
+// `header` is how many bytes stand in front of the list, or of the text; a set has its count among them. A span that a message
 // does not have is empty.
 pub(crate) struct Spans {
     pub kind: u8,
-    pub head: u16,
+    pub header: u16,
     pub list: Span,
     pub set: Span,
     pub text: Span,
     pub revision: Span,
 }
 
-fn with_text(kind: u8, head: u16, text: Span) -> Spans
-    ensures { λ r. ⌜ r ≡ withText kind head text ⌝ }
+fn with_text(kind: u8, header: u16, text: Span) -> Spans
+    ensures { λ r. ⌜ r ≡ withText kind header text ⌝ }
 {
     let none = Span { start: 0, len: 0 };
     Spans {
         kind,
-        head,
+        header,
         list: none,
         set: none,
         text,
@@ -31,20 +31,20 @@ fn with_text(kind: u8, head: u16, text: Span) -> Spans
     }
 }
 
-fn bare(kind: u8, head: u16) -> Spans
-    ensures { λ r. ⌜ r ≡ bare kind head ⌝ }
+fn bare(kind: u8, header: u16) -> Spans
+    ensures { λ r. ⌜ r ≡ bare kind header ⌝ }
 {
     let none = Span { start: 0, len: 0 };
-    with_text(kind, head, none)
+    with_text(kind, header, none)
 }
 
-fn with_list(kind: u8, head: u16, list: Span) -> Spans
-    ensures { λ r. ⌜ r ≡ withList kind head list ⌝ }
+fn with_list(kind: u8, header: u16, list: Span) -> Spans
+    ensures { λ r. ⌜ r ≡ withList kind header list ⌝ }
 {
     let none = Span { start: 0, len: 0 };
     Spans {
         kind,
-        head,
+        header,
         list,
         set: none,
         text: none,
@@ -58,7 +58,7 @@ fn initiate_spans(list: Span, revision: Span) -> Spans
     let none = Span { start: 0, len: 0 };
     Spans {
         kind: rules::INITIATE,
-        head: layout::INITIATE_HEADER,
+        header: forms::INITIATE_HEADER,
         list,
         set: none,
         text: none,
@@ -72,7 +72,7 @@ fn start_read_spans(set: Span, text: Span) -> Spans
     let none = Span { start: 0, len: 0 };
     Spans {
         kind: rules::START_READ,
-        head: layout::START_READ_HEADER,
+        header: forms::START_READ_HEADER,
         list: none,
         set,
         text,
@@ -86,34 +86,34 @@ pub(crate) fn spans_of(m: Message) -> Spans
     match m {
         Message::Initiate(f) => initiate_spans(f.parameters, f.revision),
         Message::StartRead(f) => start_read_spans(f.set, f.text),
-        Message::ReadData(f) => with_text(rules::READ_DATA, layout::READ_DATA_HEADER, f.text),
+        Message::ReadData(f) => with_text(rules::READ_DATA, forms::READ_DATA_HEADER, f.text),
         Message::OutOfBand {
             discard: _,
             character: _,
-        } => bare(rules::OUT_OF_BAND, layout::OUT_OF_BAND_HEADER),
-        Message::Unread { condition: _ } => bare(rules::UNREAD, layout::BARE_HEADER),
-        Message::ClearInput => bare(rules::CLEAR_INPUT, layout::BARE_HEADER),
-        Message::Write(f) => with_text(rules::WRITE, layout::WRITE_HEADER, f.text),
+        } => bare(rules::OUT_OF_BAND, forms::OUT_OF_BAND_HEADER),
+        Message::Unread { condition: _ } => bare(rules::UNREAD, forms::BARE_HEADER),
+        Message::ClearInput => bare(rules::CLEAR_INPUT, forms::BARE_HEADER),
+        Message::Write(f) => with_text(rules::WRITE, forms::WRITE_HEADER, f.text),
         Message::WriteCompletion {
             lost: _,
             horizontal: _,
             vertical: _,
-        } => bare(rules::WRITE_COMPLETION, layout::WRITE_COMPLETION_HEADER),
-        Message::DiscardState { kept: _ } => bare(rules::DISCARD_STATE, layout::BARE_HEADER),
+        } => bare(rules::WRITE_COMPLETION, forms::WRITE_COMPLETION_HEADER),
+        Message::DiscardState { kept: _ } => bare(rules::DISCARD_STATE, forms::BARE_HEADER),
         Message::ReadCharacteristics { parameters } => with_list(
             rules::READ_CHARACTERISTICS,
-            layout::BARE_HEADER,
+            forms::BARE_HEADER,
             parameters,
         ),
         Message::Characteristics { parameters } => with_list(
             rules::CHARACTERISTICS,
-            layout::BARE_HEADER,
+            forms::BARE_HEADER,
             parameters,
         ),
-        Message::CheckInput => bare(rules::CHECK_INPUT, layout::BARE_HEADER),
-        Message::InputCount { count: _ } => bare(rules::INPUT_COUNT, layout::INPUT_COUNT_HEADER),
-        Message::InputState { nonzero: _ } => bare(rules::INPUT_STATE, layout::BARE_HEADER),
-        Message::Other { kind, body } => with_text(kind, layout::TYPE_HEADER, body),
+        Message::CheckInput => bare(rules::CHECK_INPUT, forms::BARE_HEADER),
+        Message::InputCount { count: _ } => bare(rules::INPUT_COUNT, forms::INPUT_COUNT_HEADER),
+        Message::InputState { nonzero: _ } => bare(rules::INPUT_STATE, forms::BARE_HEADER),
+        Message::Other { kind, body } => with_text(kind, forms::TYPE_HEADER, body),
     }
 }
 
@@ -124,7 +124,7 @@ pub(crate) fn size_of(p: Spans) -> u32
     let list = p.list;
     let set = p.set;
     let text = p.text;
-    p.head as u32 + list.len as u32 + set.len as u32 + text.len as u32
+    p.header as u32 + list.len as u32 + set.len as u32 + text.len as u32
 }
 
 // A span lies in a slice of this length.

@@ -1,5 +1,5 @@
 use mathlib.Core.Path.{sym}
-use Rattle.rules.proofs.Sizes.{input-size, type-ahead-size}
+use Rattle.rules.proofs.Numbers.{input-size, type-ahead-size}
 use Rattle.console.proofs.FreshLine.{is-fresh}
 use borrow.Author.Needs.{needs}
 use Rattle.console.proofs.fresh.Statement.{statement}
@@ -8,7 +8,7 @@ use Rattle.console.proofs.fresh.Reads as reads
 use Rattle.console.proofs.fresh.Lts as lts
 use Rattle.console.proofs.fresh_flow.Reads as fresh-flow-reads
 use Rattle.console.proofs.no_terms.Reads as no-terms-reads
-use Rattle.characteristics.proofs.Set.universal.Reads as universal-reads
+use Rattle.sets.proofs.Set.universal.Reads as universal-reads
 
 universal-requires : tie.Need-universal-requires
 universal-requires c κs = search needs

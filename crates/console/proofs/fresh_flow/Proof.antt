@@ -1,7 +1,7 @@
 use mathlib.Core.Path.{refl, sym}
 use native.Mathlib.Omega.{arith}
 use Rattle.rules.specs.State.{freshTerminal}
-use Rattle.rules.proofs.Sizes.{token-size}
+use Rattle.rules.proofs.Numbers.{token-size}
 use Rattle.console.proofs.fresh_flow.Statement.{statement}
 use Rattle.console.proofs.fresh_flow.Tie as tie
 use Rattle.console.proofs.fresh_flow.Reads as reads

@@ -1,6 +1,6 @@
 use mathlib.Core.Path.{sym}
 use Rattle.rules.specs.Choice.{bit}
-use Rattle.rules.proofs.Tests.{pick-true, pick-false}
+use Rattle.rules.proofs.Choice.{pick-true, pick-false}
 use Rattle.fields.proofs.bit_of.Statement.{statement}
 use Rattle.fields.proofs.bit_of.Tie as tie
 

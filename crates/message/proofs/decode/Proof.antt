@@ -5,7 +5,7 @@ use lib.Dec.{leb}
 use borrow.Author.Needs.{needs}
 use borrow.Author.Tests.{not-true, not-false}
 use Rattle.rules.specs.Messages.Codec.{read}
-use Rattle.rules.proofs.Sizes.{message-size}
+use Rattle.rules.proofs.Numbers.{message-size}
 use Rattle.message.specs.declared.Found.{Found}
 use Rattle.message.specs.Found.{IsType, Finds, asHeld, decodedAs}
 use Rattle.message.proofs.Decoding.{finds-refusal}

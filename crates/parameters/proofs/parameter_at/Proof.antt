@@ -26,31 +26,31 @@ byte-at-requires c κs = search needs
 cast-high : tie.Need-cast-high
 cast-high c = search needs
 
-add-used-at : tie.Need-add-used-at
-add-used-at c = search needs
+add-used-byte : tie.Need-add-used-byte
+add-used-byte c = search needs
 
-used-at-requires : tie.Need-used-at-requires
-used-at-requires c κs =
+used-byte-requires : tie.Need-used-byte-requires
+used-byte-requires c κs =
     let b = c .before .before in
     let a = b .before .before .before .args in
     let some = limit-some (a .kind) (a .at) (a .s .now) 0 in
     omega (arith, b .limits-at .ensures .one)
 
-add-used-at-2 : tie.Need-add-used-at-2
-add-used-at-2 c = search needs
+add-used-byte-2 : tie.Need-add-used-byte-2
+add-used-byte-2 c = search needs
 
-used-at-requires-2 : tie.Need-used-at-requires-2
-used-at-requires-2 c κs =
+used-byte-requires-2 : tie.Need-used-byte-requires-2
+used-byte-requires-2 c κs =
     let b = c .before .before .before in
     let a = b .before .before .before .args in
     let some = limit-some (a .kind) (a .at) (a .s .now) 1 in
     omega (arith, b .limits-at .ensures .two)
 
-add-used-at-3 : tie.Need-add-used-at-3
-add-used-at-3 c = search needs
+add-used-byte-3 : tie.Need-add-used-byte-3
+add-used-byte-3 c = search needs
 
-used-at-requires-3 : tie.Need-used-at-requires-3
-used-at-requires-3 c κs =
+used-byte-requires-3 : tie.Need-used-byte-requires-3
+used-byte-requires-3 c κs =
     let b = c .before .before .before .before in
     let a = b .before .before .before .args in
     let some = limit-some (a .kind) (a .at) (a .s .now) 2 in
@@ -78,7 +78,7 @@ returns-2 c =
     parameter-is (a .kind) (a .at) (a .s .now) (omega arith) (b .before .limits-at .ensures)
     refl (omega (arith, b .shared-slice-known2 .given (a .at)))
     (c .before .before .before .before .byte-at .ensures) (omega arith)
-    (c .before .before .before .used-at .ensures) (c .before .before .used-at2 .ensures) (c .before .used-at3 .ensures)
+    (c .before .before .before .used-byte .ensures) (c .before .before .used-byte2 .ensures) (c .before .used-byte3 .ensures)
 
 pub parameter-at-spec : {M : Type 1} → statement M
 parameter-at-spec =
@@ -91,12 +91,12 @@ parameter-at-spec =
     add-byte-at
     byte-at-requires
     cast-high
-    add-used-at
-    used-at-requires
-    add-used-at-2
-    used-at-requires-2
-    add-used-at-3
-    used-at-requires-3
+    add-used-byte
+    used-byte-requires
+    add-used-byte-2
+    used-byte-requires-2
+    add-used-byte-3
+    used-byte-requires-3
     mul-t14
     add-t15
     add-t10

@@ -20,7 +20,7 @@ use Rattle.rules.proofs.Bounds.Turns.{OfRead, Steady, Good, Fine, fine,
 use Rattle.rules.proofs.Bounds.Turns.{still-good, changes-good, writes-good, sends-good, tells-then, changes-then, then-good, quiet-then, pick-good}
 use Rattle.rules.proofs.Bounds.Messages.{discardState-sent, outOfBand-sent}
 use Rattle.rules.proofs.Bounds.ReadData.{bounded-answerable, completes-good}
-use Rattle.rules.proofs.Bounds.Editing.{deletesUnseen-good, deletes-good}
+use Rattle.rules.proofs.Bounds.Editing.{deletesWithoutRubbing-good, deletes-good}
 
 pub idle-bounded : (n : ℕ) (r : Reading ℕ) → (r .terms .timed ≡ true → 0 < r .terms .timeout → n < r .terms .timeout) →
     BoundedReading r → BoundedReading (withIdle n r)
@@ -92,7 +92,7 @@ module _ {s : State ℕ} (h : Steady BoundedRead s) where
   unfolding clearsInput
   clearsInput-good rubbing none b = still-good h
   clearsInput-good rubbingOut (some r) b = deletes-good cleared 0 r b h
-  clearsInput-good withoutRubbing (some r) b = deletesUnseen-good cleared 0 r b h
+  clearsInput-good withoutRubbing (some r) b = deletesWithoutRubbing-good cleared 0 r b h
 
   endsOutOfBand-good : {bytes : ℕ} (o : Option (Reading ℕ)) → BoundedRead o → Good BoundedRead bytes (10 + inputSize) (endsOutOfBand codes o s)
   unfolding endsOutOfBand

@@ -7,7 +7,7 @@ use lib.ListN.{take, drop}
 use borrow.Author.Tests.{lt-ltb}
 use Rattle.rules.specs.Choice.{allAre}
 use Rattle.rules.specs.Messages.Codec.{allBytes}
-use Rattle.rules.proofs.Tests.{both, all-append, all-split}
+use Rattle.rules.proofs.Choice.{both, all-append, all-split}
 
 pub no-bytes : allBytes [] ≡ true
 unfolding allBytes allAre

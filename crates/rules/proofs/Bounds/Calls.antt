@@ -14,7 +14,7 @@ use Rattle.rules.specs.Characteristics.{isDeferredClear}
 use Rattle.rules.specs.Calls.{Event, key, step, tick, message, Call, Answer, isCarriedBy, carries, refusals, received}
 use Rattle.rules.specs.Calls.{refuses, does, answersMessage, answers, answer, messageBytes, runFrom, run}
 use Rattle.rules.specs.Bounds.{isAttribute, BoundedRead, Bounded, isByteEvent, Within, AllWithin}
-use Rattle.rules.proofs.Tests.{pick-case, pick-second, all-cons}
+use Rattle.rules.proofs.Choice.{pick-case, pick-second, all-cons}
 use Rattle.rules.proofs.Outcomes.{refused-sound}
 use Rattle.rules.proofs.Bounds.Sent.{area-meant, read-sent}
 use Rattle.rules.proofs.Bounds.Turns.{Steady, Fine, still-good}

@@ -16,7 +16,7 @@ use Rattle.rules.specs.State.{Host, State}
 use Rattle.rules.specs.Characteristics.{masked, withAttribute, withParameter, withParameters}
 use Rattle.rules.specs.Host.{setsCharacteristics}
 use Rattle.rules.specs.Bounds.{isAttribute, BoundedHost, BoundedRead}
-use Rattle.rules.proofs.Tests.{pick-case, all-set}
+use Rattle.rules.proofs.Choice.{pick-case, all-set}
 use Rattle.rules.proofs.Bounds.Turns.{Steady, Fine, rehosted, changes-good}
 
 -- so many bits

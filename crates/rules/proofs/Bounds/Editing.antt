@@ -9,9 +9,9 @@ use Rattle.rules.specs.Numbers.{inputSize, topColumn}
 use Rattle.rules.specs.Screen.{echoAll}
 use Rattle.rules.specs.State.{Reading, State, codes, withDisplayColumn}
 use Rattle.rules.specs.Turns.{Fate}
-use Rattle.rules.specs.Editing.{endOf, hiddenCount, inputCodes, shortened, deletesUnseen, displayed, rubOutBytes, deletes, displaysData, displays, redisplays}
+use Rattle.rules.specs.Editing.{endOf, hiddenCount, inputCodes, shortened, deletesWithoutRubbing, displayed, rubOutBytes, deletes, displaysData, displays, redisplays}
 use Rattle.rules.specs.Bounds.{BoundedReading, BoundedRead}
-use Rattle.rules.proofs.Tests.{pick-case}
+use Rattle.rules.proofs.Choice.{pick-case}
 use Rattle.rules.proofs.Bounds.Bytes.{bytes-take}
 use Rattle.rules.proofs.Bounds.Screen.{echoAll-length, rubbed-length}
 use Rattle.rules.proofs.Bounds.Turns.{OfRead, Steady, Good, reread}
@@ -41,9 +41,9 @@ shortened-bounded left r h =
     }
 
 module _ (fate : ℕ → Fate ℕ) (left : ℕ) (r : Reading ℕ) (b : BoundedReading r) where
-  pub deletesUnseen-good : {R : OfRead} {bytes area : ℕ} {s : State ℕ} → Steady R s → Good BoundedRead bytes area (deletesUnseen fate left r s)
-  unfolding deletesUnseen
-  deletesUnseen-good h = tells-then _ _ (changes-good _ (reread h (some (shortened left r)) (shortened-bounded left r b)))
+  pub deletesWithoutRubbing-good : {R : OfRead} {bytes area : ℕ} {s : State ℕ} → Steady R s → Good BoundedRead bytes area (deletesWithoutRubbing fate left r s)
+  unfolding deletesWithoutRubbing
+  deletesWithoutRubbing-good h = tells-then _ _ (changes-good _ (reread h (some (shortened left r)) (shortened-bounded left r b)))
 
   -- three bytes for each of the eight marks that a character may have
   rubOutBytes-length : length (rubOutBytes codes left r) ≤ 24 * inputSize
@@ -56,7 +56,7 @@ module _ (fate : ℕ → Fate ℕ) (left : ℕ) (r : Reading ℕ) (b : BoundedRe
 
   pub deletes-good : {R : OfRead} {area : ℕ} {s : State ℕ} → Steady R s → Good BoundedRead (24 * inputSize) area (deletes codes fate left r s)
   unfolding deletes
-  deletes-good h = then-quiet _ _ (writes-good _ rubOutBytes-length h) λ s₁ h₁. deletesUnseen-good h₁
+  deletes-good h = then-quiet _ _ (writes-good _ rubOutBytes-length h) λ s₁ h₁. deletesWithoutRubbing-good h₁
 
 -- A read is shown: its prompt, then the echo of what follows, its display beginning at a column of the screen.
 echoed-length : (r : Reading ℕ) (column : ℕ) → length (pick (r .terms .echoes) (echoAll column (displayed codes r)) []) ≤ 8 * length (r .input)

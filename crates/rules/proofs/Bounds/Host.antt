@@ -14,8 +14,8 @@ use Rattle.rules.specs.ReadData.{byUnread, waitingCount, checksInput, un
 use Rattle.rules.specs.Host.{ourInitiate, initiates, completion, stopsDiscarding, writesUnlessDiscarding, sendsCompletion, writesOut, obeys}
 use Rattle.rules.specs.Calls.{isCarriedBy}
 use Rattle.rules.specs.Bounds.{BoundedRead}
-use Rattle.rules.proofs.Tests.{pick-true, pick-false}
-use Rattle.rules.proofs.Sizes.{writing-room, answer-room, initiate-room, waiting-word}
+use Rattle.rules.proofs.Choice.{pick-true, pick-false}
+use Rattle.rules.proofs.Numbers.{writing-room, answer-room, initiate-room, waiting-word}
 use Rattle.rules.proofs.Bounds.Screen.{change-byte}
 use Rattle.rules.proofs.Bounds.Sent.{Sent}
 use Rattle.rules.proofs.Bounds.Turns.{Steady, Fine, fine, roomier, rehosted}

@@ -9,7 +9,7 @@ use lib.ListN.{length}
 use borrow.Author.Tests.{ltb-true, lt-ltb}
 use Rattle.rules.specs.Messages.Layout.{byteAt, fits}
 use Rattle.rules.specs.Messages.Parameters.{under}
-use Rattle.rules.proofs.Tests.{both, halves}
+use Rattle.rules.proofs.Choice.{both, halves}
 
 -- as many as limits, each under its own: what `omega` proves of numbers that are written out
 abbrev pub InLimits : List ℕ → List ℕ → Type 0

@@ -15,7 +15,7 @@ use Rattle.rules.specs.Messages.Parameters as parameters
 use Rattle.rules.specs.Messages.Forms.{nothing, forms, formOf, plain, readData, outOfBand, writeCompletion, discardState, inputCount}
 use Rattle.rules.specs.Messages.Codec.{definedKind, definedFields, allBytes, tailBytes, fitsTail, fitsAs}
 use Rattle.rules.specs.Host.{ourInitiate}
-use Rattle.rules.proofs.Tests.{both, pick-case}
+use Rattle.rules.proofs.Choice.{both, pick-case}
 use Rattle.rules.proofs.Bounds.Limits.{InLimits, widthLimits, under-true, fits-true}
 use Rattle.rules.proofs.Bounds.Sent.{Sent, sent-length}
 

@@ -11,10 +11,10 @@ use Rattle.rules.specs.Numbers.{inputSize}
 use Rattle.rules.specs.Messages.Codec.{allBytes}
 use Rattle.rules.specs.State.{Typed, Reading, State, codes}
 use Rattle.rules.specs.Turns.{only}
-use Rattle.rules.specs.ReadData.{byFullBuffer, moreData, answerOf, losesPartial, sendsReadData, endsRead, completes}
+use Rattle.rules.specs.ReadData.{byFullBuffer, moreData, readDataOf, losesPartial, sendsReadData, endsRead, completes}
 use Rattle.rules.specs.Editing.{endOf}
 use Rattle.rules.specs.Bounds.{BoundedTyped, BoundedReading, BoundedRead}
-use Rattle.rules.proofs.Sizes.{input-word}
+use Rattle.rules.proofs.Numbers.{input-word}
 use Rattle.rules.proofs.Bounds.Bytes.{no-bytes}
 use Rattle.rules.proofs.Bounds.Screen.{change-byte}
 use Rattle.rules.proofs.Bounds.Sent.{Sent}
@@ -32,8 +32,8 @@ pub bounded-answerable : (r : Reading ℕ) → BoundedReading r → Answerable r
 unfolding endOf
 bounded-answerable r h = record { input = omega arith; lowWater = omega arith; bytes = h .inputBytes }
 
-answer-sent : (code ending : ℕ) (r : Reading ℕ) (s : State ℕ) → code ≤ 13 → Answerable r → Sent (8 + inputSize) (answerOf codes code ending r s)
-unfolding answerOf
+answer-sent : (code ending : ℕ) (r : Reading ℕ) (s : State ℕ) → code ≤ 13 → Answerable r → Sent (8 + inputSize) (readDataOf codes code ending r s)
+unfolding readDataOf
 answer-sent code ending r s c h =
     let w = input-word in
     readData-sent code (bit (moreData codes s)) (r .lowWater) _ _ (length (r .input) - ending) (r .input)

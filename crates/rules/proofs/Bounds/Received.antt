@@ -15,7 +15,7 @@ use Rattle.rules.specs.Messages.Codec.{allBytes, definedFields, tailByte
 use Rattle.rules.specs.StartRead.{soundStartRead, underflow, vertical, continues, raises, disables, setChoice, escapes}
 use Rattle.rules.specs.StartRead.{maxLength, endOfData, timeout, endOfPrompt, startOfDisplay, lowWater}
 use Rattle.rules.specs.Calls.{carriesStartRead, sentBytes}
-use Rattle.rules.proofs.Tests.{pick-true, halves, thirds, quarters}
+use Rattle.rules.proofs.Choice.{pick-true, halves, thirds, quarters}
 use Rattle.rules.proofs.Bounds.Limits.{fits-at}
 use Rattle.rules.proofs.Bounds.Sent.{Fit, Sent, sent-length}
 

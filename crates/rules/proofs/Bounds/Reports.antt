@@ -21,7 +21,7 @@ use Rattle.rules.specs.Characteristics.{isCarried, switchOf, reported, r
 use Rattle.rules.specs.Host.{reports}
 use Rattle.rules.specs.Calls.{framed, sentBytes, carriesQuestions}
 use Rattle.rules.specs.Bounds.{isAttribute, BoundedHost, BoundedRead}
-use Rattle.rules.proofs.Tests.{both, halves, or-case, quarters, pick-true, pick-false, pick-case, all-at, all-both, all-map}
+use Rattle.rules.proofs.Choice.{both, halves, or-case, quarters, pick-true, pick-false, pick-case, all-at, all-both, all-map}
 use Rattle.rules.proofs.Bounds.Limits.{under-true, under-at, under-length}
 use Rattle.rules.proofs.Bounds.Turns.{Steady, Fine, sends-good}
 use Rattle.rules.proofs.Bounds.Sent.{Fit, framed-length}

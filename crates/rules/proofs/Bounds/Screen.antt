@@ -9,7 +9,7 @@ use Rattle.rules.specs.Choice.{joined}
 use Rattle.rules.specs.Numbers.{topColumn}
 use Rattle.rules.specs.Screen.{Screen, SP, toTab, columnAfter, columnAfterAll, shown, shownAll, change}
 use Rattle.rules.specs.Screen.{echo, echoTerminator, echoAll, marksBehind, rubOut}
-use Rattle.rules.proofs.Tests.{pick-case}
+use Rattle.rules.proofs.Choice.{pick-case}
 
 pub record BoundedScreen (s : Screen) : Type 0 where
   pub column : s .column ≤ topColumn

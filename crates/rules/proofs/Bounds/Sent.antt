@@ -17,7 +17,7 @@ use Rattle.rules.specs.Calls.{framed, mapText, sentBytes}
 use Rattle.rules.specs.Bounds.{AllMeant}
 use Rattle.rules.proofs.Fields.{length-bytesOf, length-writeGroups}
 use Rattle.rules.proofs.Outcomes.{writable, written-sound}
-use Rattle.rules.proofs.Sizes.{message-room}
+use Rattle.rules.proofs.Numbers.{message-room}
 use Rattle.rules.proofs.RoundTrip.{written-reads, read-writes}
 
 pub record Fit (m : Message ℕ) : Type 0 where

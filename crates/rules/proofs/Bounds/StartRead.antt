@@ -18,7 +18,7 @@ use Rattle.rules.specs.StartRead as fields
 use Rattle.rules.specs.StartRead.{universal, chosenSet}
 use Rattle.rules.specs.StartRead.Acceptance.{shownPrompt, dataBehind, hidesInput, hidesLF, openedTerms, openedRead, remembersSet, clearsFirst, feedsLine, autoPrompts, completesIfFull, begins, startsRead}
 use Rattle.rules.specs.Bounds.{BoundedTerms, BoundedRead}
-use Rattle.rules.proofs.Tests.{pick-case}
+use Rattle.rules.proofs.Choice.{pick-case}
 use Rattle.rules.proofs.Bounds.Bytes.{bytes-drop}
 use Rattle.rules.proofs.Bounds.Turns.{Steady, Good, Fine, fine, rehosted}
 use Rattle.rules.proofs.Bounds.Turns.{changes-good, writes-good, then-good, quiet-then, then-quiet, writes-sends, only-good}

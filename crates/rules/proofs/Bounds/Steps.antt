@@ -19,7 +19,7 @@ use Rattle.rules.specs.Editing.{endOf, deletes}
 use Rattle.rules.specs.Steps.{appended, tokenCode, endsByToken, takesToken, addsToToken, echoesIf, takesData, echoesTerminatorIf, terminates, underflows, erases, erasesAll}
 use Rattle.rules.specs.Steps.{showsAgain, edits, takesPlain, raisedBy, takes, takesFirst, stepsWhile, steps, setsIdle, idles, ticksWhile, ticks}
 use Rattle.rules.specs.Bounds.{BoundedTyped, BoundedReading, BoundedRead}
-use Rattle.rules.proofs.Tests.{pick-case, all-cons}
+use Rattle.rules.proofs.Choice.{pick-case, all-cons}
 use Rattle.rules.proofs.Bounds.Bytes.{one-byte, bytes-append}
 use Rattle.rules.proofs.Bounds.Screen.{echo-length, echoTerminator-length}
 use Rattle.rules.proofs.Bounds.Turns.{Steady, Fine, fine, retyped, reread}

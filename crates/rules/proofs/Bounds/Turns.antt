@@ -13,8 +13,8 @@ use Rattle.rules.specs.Messages.Forms.{Message}
 use Rattle.rules.specs.State.{Host, Terminal, Key, Reading, State, withHost, withTerminal, withTyped, withRead}
 use Rattle.rules.specs.Turns.{Fate, Turn, Rule, still, writes, sends, tells, changes, behind, _then_, only}
 use Rattle.rules.specs.Bounds.{BoundedHost, BoundedTerminal, BoundedTyped, BoundedRead}
-use Rattle.rules.proofs.Tests.{pick-case}
-use Rattle.rules.proofs.Sizes.{rubbing-room, answer-room}
+use Rattle.rules.proofs.Choice.{pick-case}
+use Rattle.rules.proofs.Numbers.{rubbing-room, answer-room}
 use Rattle.rules.proofs.Bounds.Screen.{shownAll-bounded}
 use Rattle.rules.proofs.Bounds.Sent.{Sent, AllFit, allFit-append, areaOf, area-append, area-one}
 

@@ -7,14 +7,14 @@ use mathlib.Core.Option.{Option, none, some, Option·map}
 use lib.ListN.{length-map}
 use Rattle.rules.specs.State.{Characters, Reading}
 use Rattle.rules.specs.Turns.{cleared}
-use Rattle.rules.specs.Arrival.{idleAgain, keeps, countsDropped, drops, stores, storesQuoted, quotes, sendsDiscardState, flipsDiscard, passesControls}
+use Rattle.rules.specs.Arrival.{idleAgain, keeps, countsDropped, drops, stores, storesQuoted, quotes, sendsDiscardState, flipsDiscard, areControlsOff}
 use Rattle.rules.specs.Arrival.{Rubbing, rubbingOut, withoutRubbing, emptiesTyped, clearsInput, clearRule, clearsBy}
 use Rattle.rules.specs.Arrival.{sendsOutOfBand, endsOutOfBand, clearsAtOnce, controlled, byFirstRule, arrives}
 use Rattle.rules.proofs.Erasure.Maps.{Maps, mapReading}
 use Rattle.rules.proofs.Erasure.Turns.{Erases, erases-here, erases-still, erases-writes, erases-plain, erases-tells, erases-changes}
 use Rattle.rules.proofs.Erasure.Turns.{erases-then, erases-pick}
 use Rattle.rules.proofs.Erasure.ReadData.{erase-completes}
-use Rattle.rules.proofs.Erasure.Editing.{erase-deletes, erase-deletesUnseen}
+use Rattle.rules.proofs.Erasure.Editing.{erase-deletes, erase-deletesWithoutRubbing}
 
 module _ {C D : Type 0} {f : C → D} {cs : Characters C} {ds : Characters D} (m : Maps f cs ds) where
   erase-idleAgain : (x : Option (Reading C)) → Option·map (mapReading f) (idleAgain x) ≡ idleAgain (Option·map (mapReading f) x)
@@ -50,10 +50,10 @@ module _ {C D : Type 0} {f : C → D} {cs : Characters C} {ds : Characters D} (m
       erases-then (erases-tells _ refl)
       (erases-then (erases-changes _ _ (λ s. refl)) (record { at = λ s. erases-here s (erases-plain _ refl) }))
 
-  erase-passesControls : (x : Option (Reading C)) → passesControls (Option·map (mapReading f) x) ≡ passesControls x
-  unfolding passesControls
-  erase-passesControls none = refl
-  erase-passesControls (some r) = refl
+  erase-areControlsOff : (x : Option (Reading C)) → areControlsOff (Option·map (mapReading f) x) ≡ areControlsOff x
+  unfolding areControlsOff
+  erase-areControlsOff none = refl
+  erase-areControlsOff (some r) = refl
 
   pub erase-emptiesTyped : Erases f emptiesTyped emptiesTyped
   unfolding emptiesTyped
@@ -65,7 +65,7 @@ module _ {C D : Type 0} {f : C → D} {cs : Characters C} {ds : Characters D} (m
   unfolding clearsInput
   erase-clearsInput rubbing none = erases-still
   erase-clearsInput rubbingOut (some r) = erase-deletes m cleared cleared (λ c. refl) 0 r
-  erase-clearsInput withoutRubbing (some r) = erase-deletesUnseen m cleared cleared (λ c. refl) 0 r
+  erase-clearsInput withoutRubbing (some r) = erase-deletesWithoutRubbing m cleared cleared (λ c. refl) 0 r
 
   pub erase-clearRule : (rubbing : Rubbing) → Erases f (clearRule cs rubbing) (clearRule ds rubbing)
   unfolding clearRule
@@ -107,7 +107,7 @@ module _ {C D : Type 0} {f : C → D} {cs : Characters C} {ds : Characters D} (m
             (erases-pick refl (erase-storesQuoted c)
             (erases-pick (rw (m .code)) (erase-sendsOutOfBand c)
             (erases-pick (rw (m .code)) (erase-clearsAtOnce c)
-            (erases-pick (rw (erase-passesControls (s .read))) (erase-stores _ _ c)
+            (erases-pick (rw (erase-areControlsOff (s .read))) (erase-stores _ _ c)
             (erase-controlled c)))));
       }
 

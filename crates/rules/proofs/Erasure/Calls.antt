@@ -12,7 +12,7 @@ use Rattle.rules.specs.Turns.{Rule, still}
 use Rattle.rules.specs.Calls.{Event, key, step, tick, message, Call, Answer}
 use Rattle.rules.specs.Calls.{isPending, isTimely, carriesQuestions, isCarriedBy, carries, refusals, received}
 use Rattle.rules.specs.Calls.{refuses, does, answersMessage, answers, answer, runFrom, run}
-use Rattle.rules.proofs.Tests.{pick-both}
+use Rattle.rules.proofs.Choice.{pick-both}
 use Rattle.rules.proofs.Erasure.Maps.{Maps, mapReading, mapState, mapEvent, mapCall, mapAnswer}
 use Rattle.rules.proofs.Erasure.Turns.{Erases}
 use Rattle.rules.proofs.Erasure.Arrival.{erase-arrives}

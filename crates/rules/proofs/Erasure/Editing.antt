@@ -5,7 +5,7 @@ use mathlib.Core.List.{map-map}
 use lib.ListN.{length-map}
 use Rattle.rules.specs.State.{Characters, Reading}
 use Rattle.rules.specs.Turns.{Fate}
-use Rattle.rules.specs.Editing.{endOf, hiddenCount, shortened, deletesUnseen, displayed, rubOutBytes, deletes, displaysData, displays, redisplays}
+use Rattle.rules.specs.Editing.{endOf, hiddenCount, shortened, deletesWithoutRubbing, displayed, rubOutBytes, deletes, displaysData, displays, redisplays}
 use Rattle.rules.proofs.Erasure.Maps.{Maps, mapReading, mapFate}
 use Rattle.rules.proofs.Erasure.Lists.{map-take, map-drop, codes-same}
 use Rattle.rules.proofs.Erasure.Turns.{Erases, erases-here, erases-writes, erases-tells, erases-reading, erases-then}
@@ -29,13 +29,13 @@ module _ {C D : Type 0} {f : C → D} {cs : Characters C} {ds : Characters D} (m
 
   -- deleting, over any fate that the map carries to a fate
   module _ (fate : C → Fate C) (fate′ : D → Fate D) (same : (c : C) → mapFate f (fate c) ≡ fate′ (f c)) (left : ℕ) (r : Reading C) where
-    pub erase-deletesUnseen : Erases f (deletesUnseen fate left r) (deletesUnseen fate′ left (mapReading f r))
-    unfolding deletesUnseen
-    erase-deletesUnseen = erases-then (erases-tells _ (simp (← map-drop, map-map, same))) (erases-reading _ (erase-shortened left r))
+    pub erase-deletesWithoutRubbing : Erases f (deletesWithoutRubbing fate left r) (deletesWithoutRubbing fate′ left (mapReading f r))
+    unfolding deletesWithoutRubbing
+    erase-deletesWithoutRubbing = erases-then (erases-tells _ (simp (← map-drop, map-map, same))) (erases-reading _ (erase-shortened left r))
 
     pub erase-deletes : Erases f (deletes cs fate left r) (deletes ds fate′ left (mapReading f r))
     unfolding deletes
-    erase-deletes = erases-then (erases-writes (erase-rubOutBytes left r)) erase-deletesUnseen
+    erase-deletes = erases-then (erases-writes (erase-rubOutBytes left r)) erase-deletesWithoutRubbing
 
   pub erase-displays : (r : Reading C) → Erases f (displays cs r) (displays ds (mapReading f r))
   unfolding displays displaysData

@@ -6,7 +6,7 @@ use mathlib.Core.Option.{Option, none, some, Option·map}
 use lib.ListN.{length-map}
 use Rattle.rules.specs.Messages.Forms.{Message}
 use Rattle.rules.specs.State.{Characters, Reading, State, Typed}
-use Rattle.rules.specs.ReadData.{waitingCount, checksInput, moreData, answerOf, losesPartial, sendsReadData, endsRead, completes, unreadsWhile, unreads}
+use Rattle.rules.specs.ReadData.{waitingCount, checksInput, moreData, readDataOf, losesPartial, sendsReadData, endsRead, completes, unreadsWhile, unreads}
 use Rattle.rules.specs.Calls.{mapText}
 use Rattle.rules.proofs.Erasure.Maps.{Maps, mapTyped, mapReading, mapState}
 use Rattle.rules.proofs.Erasure.Lists.{isEmpty-map, codes-same}
@@ -26,10 +26,10 @@ module _ {C D : Type 0} {f : C → D} {cs : Characters C} {ds : Characters D} (m
   unfolding moreData
   erase-moreData s = simp (isEmpty-map, codes-same m)
 
-  erase-answerOf : (code ending : ℕ) (r : Reading C) (s : State C) →
-      mapText f (answerOf cs code ending r s) ≡ answerOf ds code ending (mapReading f r) (mapState f s)
-  unfolding mapText answerOf
-  erase-answerOf code ending r s = simp (erase-moreData s, length-map)
+  erase-readDataOf : (code ending : ℕ) (r : Reading C) (s : State C) →
+      mapText f (readDataOf cs code ending r s) ≡ readDataOf ds code ending (mapReading f r) (mapState f s)
+  unfolding mapText readDataOf
+  erase-readDataOf code ending r s = simp (erase-moreData s, length-map)
 
   erase-losesPartial : Erases f (losesPartial cs) (losesPartial ds)
   unfolding losesPartial
@@ -44,7 +44,7 @@ module _ {C D : Type 0} {f : C → D} {cs : Characters C} {ds : Characters D} (m
   unfolding completes sendsReadData endsRead
   erase-completes code ending r =
       erases-then erase-losesPartial
-      (erases-then (record { at = λ s. erases-here s (erases-sends _ (erase-answerOf code ending r s)) })
+      (erases-then (record { at = λ s. erases-here s (erases-sends _ (erase-readDataOf code ending r s)) })
       (erases-changes _ _ (λ s. refl)))
 
   erase-unreadsWhile : (x : Option (Reading C)) (n : Message ℕ) →

@@ -7,7 +7,7 @@ use lib.ListN.{length-map}
 use Rattle.rules.specs.State.{Characters, Key, Reading, withIdle}
 use Rattle.rules.specs.Turns.{edited}
 use Rattle.rules.specs.ReadData.{completes}
-use Rattle.rules.specs.Steps.{appended, editsBy, beginsToken, tokenCode, endsByToken, takesToken, addsToToken, echoesIf, takesData, echoesTerminatorIf, terminates}
+use Rattle.rules.specs.Steps.{appended, isEditKey, isTokenStart, tokenCode, endsByToken, takesToken, addsToToken, echoesIf, takesData, echoesTerminatorIf, terminates}
 use Rattle.rules.specs.Steps.{underflows, erases, erasesAll, showsAgain, edits, takesPlain, raisedBy, takes, takesFirst}
 use Rattle.rules.specs.Steps.{stepsWhile, steps, setsIdle, idles, ticksWhile, ticks}
 use Rattle.rules.proofs.Erasure.Maps.{Maps, mapKey, mapReading}
@@ -97,7 +97,7 @@ module _ {C D : Type 0} {f : C → D} {cs : Characters C} {ds : Characters D} (m
       (erase-showsAgain c r)))
 
   erase-takesPlain : (c : C) (r : Reading C) → Erases f (takesPlain cs c r) (takesPlain ds (f c) (mapReading f r))
-  unfolding takesPlain editsBy
+  unfolding takesPlain isEditKey
   erase-takesPlain c r =
       erases-pick (rw (m .code)) (erase-terminates c r)
       (erases-pick (rw (m .code)) (erase-edits c r)
@@ -108,7 +108,7 @@ module _ {C D : Type 0} {f : C → D} {cs : Characters C} {ds : Characters D} (m
   erase-raisedBy r c = simp (map-pick f, m .raise)
 
   erase-takes : (k : Key C) (r : Reading C) → Erases f (takes cs k r) (takes ds (mapKey f k) (mapReading f r))
-  unfolding takes beginsToken
+  unfolding takes isTokenStart
   erase-takes k r =
       record {
         at = λ s.

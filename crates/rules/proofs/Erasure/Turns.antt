@@ -9,7 +9,7 @@ use Rattle.rules.specs.Messages.Forms.{Message, plain}
 use Rattle.rules.specs.State.{Reading, State, withRead}
 use Rattle.rules.specs.Turns.{Fate, Rule, still, writes, sends, tells, changes, behind, _then_, only}
 use Rattle.rules.specs.Calls.{mapText}
-use Rattle.rules.proofs.Tests.{pick-both}
+use Rattle.rules.proofs.Choice.{pick-both}
 use Rattle.rules.proofs.Erasure.Maps.{mapReading, mapState, mapFate, mapTurn}
 
 -- The first rule, mapped, is the second. It is a record, so that a law can read both rules off its type.

@@ -11,7 +11,7 @@ use Rattle.rules.specs.Turns.{cleared}
 use Rattle.rules.specs.Arrival.{isHello, isImmediateClear, idleAgain, keeps, countsDropped, drops, stores, storesQuoted, quotes, sendsDiscardState, flipsDiscard}
 use Rattle.rules.specs.Arrival.{Rubbing, rubbingOut, withoutRubbing, emptiesTyped, clearsInput, clearRule, clearsBy}
 use Rattle.rules.specs.Arrival.{sendsOutOfBand, endsOutOfBand, clearsAtOnce, controlled, byFirstRule, arrives}
-use Rattle.rules.proofs.Tests.{pick-cases}
+use Rattle.rules.proofs.Choice.{pick-cases}
 use Rattle.rules.proofs.TwoRuns.Printing.{printing}
 use Rattle.rules.proofs.TwoRuns.Twins.{Twin, isBoth, code₁, code₂, first-chars, second-chars, same-code}
 use Rattle.rules.proofs.TwoRuns.Twins.{LevelRead, Level, isGuarded, RulesAt, Agreeing}
@@ -19,7 +19,7 @@ use Rattle.rules.proofs.TwoRuns.Turns.{level-emptied, agrees-terminal, 
 use Rattle.rules.proofs.TwoRuns.Turns.{agrees-pick, by-test, by-code}
 use Rattle.rules.proofs.TwoRuns.Bands.{attributeAt, Passed, Initiated}
 use Rattle.rules.proofs.TwoRuns.ReadData.{completes-agrees}
-use Rattle.rules.proofs.TwoRuns.Editing.{deletesUnseen-agrees, deletes-agrees}
+use Rattle.rules.proofs.TwoRuns.Editing.{deletesWithoutRubbing-agrees, deletes-agrees}
 
 module _ {changed : ℕ → Bool} where
   -- Storing: the code is not looked at.
@@ -65,7 +65,7 @@ module _ {changed : ℕ → Bool} where
   unfolding clearsInput
   clearsInput-agrees rubbing none h = agrees-still
   clearsInput-agrees rubbingOut (some r) h = deletes-agrees cleared 0 r h
-  clearsInput-agrees withoutRubbing (some r) h = deletesUnseen-agrees cleared 0 r h
+  clearsInput-agrees withoutRubbing (some r) h = deletesWithoutRubbing-agrees cleared 0 r h
 
   pub clearRule-agrees : (rubbing : Rubbing) → Agreeing {changed = changed} (λ chars. clearRule chars rubbing)
   unfolding clearRule

@@ -9,7 +9,7 @@ use Rattle.rules.specs.State.{Characters, State}
 use Rattle.rules.specs.Turns.{Fate, Turn, arrived, control, outOfBand, tells, behind, _then_}
 use Rattle.rules.specs.TwoRuns.{fateTest, isOutOfBand, inBand, unacted}
 use Rattle.rules.specs.Arrival.{isHello, isImmediateClear, sendsOutOfBand, clearsAtOnce, byFirstRule, arrives}
-use Rattle.rules.proofs.Tests.{pick-true, pick-false, or-none, all-cons}
+use Rattle.rules.proofs.Choice.{pick-true, pick-false, or-none, all-cons}
 
 abbrev pub attributeAt : {C : Type 0} → State C → ℕ → ℕ
 attributeAt s n = getD (s .host .attributes) n 0

@@ -10,7 +10,7 @@ use Rattle.rules.specs.State.{Characters, State, fresh}
 use Rattle.rules.specs.Turns.{Fate, Rule}
 use Rattle.rules.specs.Arrival.{arrives}
 use Rattle.rules.specs.Calls.{Event, key, step, tick, message, Call, Answer, refuses, does, received, answersMessage, answers, answer}
-use Rattle.rules.proofs.Tests.{pick-both}
+use Rattle.rules.proofs.Choice.{pick-both}
 use Rattle.rules.proofs.TwoRuns.Twins.{Twin, isBoth, code₁, code₂, first-chars, second-chars, Level}
 use Rattle.rules.proofs.TwoRuns.Twins.{Spared, Agree, Rules}
 use Rattle.rules.proofs.TwoRuns.Turns.{agrees-still}

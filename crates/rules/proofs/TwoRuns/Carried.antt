@@ -10,7 +10,7 @@ use Rattle.rules.specs.Turns.{Control, Fate, arrived, control, crowdedOu
 use Rattle.rules.specs.Calls.{Call, Answer, run}
 use Rattle.rules.specs.TwoRuns.{changedAt, Placed, codeIn, history, isChanged}
 use Rattle.rules.specs.TwoRuns.{fateTest, inBand, unacted, unechoed, untokened, unset, unsetRaised}
-use Rattle.rules.proofs.Tests.{both, halves, all-unmap}
+use Rattle.rules.proofs.Choice.{both, halves, all-unmap}
 use Rattle.rules.proofs.Erasure.Maps.{mapFate, mapAnswer}
 use Rattle.rules.proofs.TwoRuns.Twins.{Twin, apart, sideOf, isApart, side-chars}
 use Rattle.rules.proofs.TwoRuns.Sides.{Side, side-placed}

@@ -10,7 +10,7 @@ use Rattle.rules.specs.Calls.{Call, run}
 use Rattle.rules.specs.TwoRuns.{alike, changedAt, eachChanged, bothPrinting, sameClass, Placed, codeIn, history, isChanged}
 use Rattle.rules.specs.TwoRuns.{inBand, unacted, unechoed, untokened, unset, unsetRaised, Supposition, inBoth, suppositions, supposed}
 use Rattle.rules.specs.TwoRuns.{seen, LooksTheSame, Demand3, Demand3Weak}
-use Rattle.rules.proofs.Tests.{halves, all-at, all-both}
+use Rattle.rules.proofs.Choice.{halves, all-at, all-both}
 use Rattle.rules.proofs.TwoRuns.Twins.{Twin, sideOf, isApart, side-chars, spared}
 use Rattle.rules.proofs.TwoRuns.Bands.{inBand-passed, unacted-passed}
 use Rattle.rules.proofs.TwoRuns.Calls.{Heeded, Supposed}

@@ -8,8 +8,8 @@ use Rattle.rules.specs.Choice.{pick, allAre}
 use Rattle.rules.specs.Screen.{echoAll, marksBehind, rubOut}
 use Rattle.rules.specs.State.{Reading}
 use Rattle.rules.specs.Turns.{Fate}
-use Rattle.rules.specs.Editing.{hiddenCount, shortened, deletesUnseen, displayed, rubOutBytes, deletes, displaysData, displays, redisplays}
-use Rattle.rules.proofs.Tests.{pick-same, all-split}
+use Rattle.rules.specs.Editing.{hiddenCount, shortened, deletesWithoutRubbing, displayed, rubOutBytes, deletes, displaysData, displays, redisplays}
+use Rattle.rules.proofs.Choice.{pick-same, all-split}
 use Rattle.rules.proofs.TwoRuns.Twins.{Twin, isBoth, first-chars, second-chars, same-codes, LevelReading}
 use Rattle.rules.proofs.TwoRuns.Twins.{Agreeing}
 use Rattle.rules.proofs.TwoRuns.Turns.{level-read, agrees-then, agrees-changes, agrees-writes, told}
@@ -24,10 +24,10 @@ module _ {changed : ℕ → Bool} where
       pick (r .terms .echoes) (f (displayed first-chars r)) [] ≡ pick (r .terms .echoes) (f (displayed second-chars r)) []
   same-shown r h f = pick-same (r .terms .echoes) [] (λ e. ap f (same-displayed r (h e)))
 
-  pub deletesUnseen-agrees : (fate : Twin changed → Fate (Twin changed)) (left : ℕ) (r : Reading (Twin changed)) → LevelReading r →
-      Agreeing (λ chars. deletesUnseen fate left r)
-  unfolding deletesUnseen shortened
-  deletesUnseen-agrees fate left r h =
+  pub deletesWithoutRubbing-agrees : (fate : Twin changed → Fate (Twin changed)) (left : ℕ) (r : Reading (Twin changed)) → LevelReading r →
+      Agreeing (λ chars. deletesWithoutRubbing fate left r)
+  unfolding deletesWithoutRubbing shortened
+  deletesWithoutRubbing-agrees fate left r h =
       told _ _ (λ x y. agrees-changes (λ s. level-read (λ e. all-split isBoth left (r .input) (h e) .0)))
 
   pub deletes-agrees : (fate : Twin changed → Fate (Twin changed)) (left : ℕ) (r : Reading (Twin changed)) → LevelReading r →
@@ -36,7 +36,7 @@ module _ {changed : ℕ → Bool} where
   deletes-agrees fate left r h =
       agrees-then
       (agrees-writes (same-shown r h (λ ns. rubOut (marksBehind (left - hiddenCount r) (r .displayColumn) ns))))
-      (deletesUnseen-agrees fate left r h)
+      (deletesWithoutRubbing-agrees fate left r h)
 
   pub displays-agrees : (r : Reading (Twin changed)) → LevelReading r → Agreeing (λ chars. displays chars r)
   unfolding displays displaysData

@@ -8,7 +8,7 @@ use Rattle.rules.specs.State.{Terms}
 use Rattle.rules.specs.StartRead.{inSet}
 use Rattle.rules.specs.Turns.{Fate, taken, tokened}
 use Rattle.rules.specs.TwoRuns.{codeIn, raisedIn, fateTest, unechoed, untokened, unset, unsetRaised}
-use Rattle.rules.proofs.Tests.{quarters, all-cons}
+use Rattle.rules.proofs.Choice.{quarters, all-cons}
 use Rattle.rules.proofs.TwoRuns.Twins.{Twin, both, apart, isBoth, isApart, raise, code₁, code₂, Settled, spared, Spared}
 
 module _ {changed : ℕ → Bool} where

@@ -12,7 +12,7 @@ use Rattle.rules.specs.State.{codes}
 use Rattle.rules.specs.Turns.{Turn}
 use Rattle.rules.specs.Calls.{Answer, framed, mapText, sentBytes, messageBytes}
 use Rattle.rules.specs.TwoRuns.{blanked, seen}
-use Rattle.rules.proofs.Tests.{pick-cases, all-cons}
+use Rattle.rules.proofs.Choice.{pick-cases, all-cons}
 use Rattle.rules.proofs.Erasure.Maps.{mapTurn, mapAnswer}
 use Rattle.rules.proofs.TwoRuns.Twins.{Twin, code₁, code₂, same-codes, isGuarded, Agree}
 

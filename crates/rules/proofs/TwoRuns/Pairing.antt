@@ -10,7 +10,7 @@ use Rattle.rules.specs.Choice.{pick, same}
 use Rattle.rules.specs.Calls.{Event, key, step, tick, message, Call}
 use Rattle.rules.specs.TwoRuns.{eventKind, eventBytes, codeOf, agree, alike, changedAt, eachChanged, isPrinting, bothPrinting, sameClass}
 use Rattle.rules.specs.TwoRuns.{Placed, typedAt, placedEvent, placed}
-use Rattle.rules.proofs.Tests.{pick-false, halves, quarters, same-equal}
+use Rattle.rules.proofs.Choice.{pick-false, halves, quarters, same-equal}
 use Rattle.rules.proofs.Erasure.Maps.{mapEvent, mapCall}
 use Rattle.rules.proofs.TwoRuns.Twins.{Twin, both, apart, firstOf, secondOf, Hidden}
 

@@ -9,7 +9,7 @@ use Rattle.rules.specs.Choice.{pick, within}
 use Rattle.rules.specs.Editing.{isWord}
 use Rattle.rules.specs.State.{raised}
 use Rattle.rules.specs.TwoRuns.{isPrinting}
-use Rattle.rules.proofs.Tests.{pick-true, halves}
+use Rattle.rules.proofs.Choice.{pick-true, halves}
 
 -- opens what a computed test of a printing code needs
 unfoldable pub printing : Unit {0}

@@ -7,7 +7,7 @@ use Rattle.rules.specs.Choice.{isEmpty}
 use Rattle.rules.specs.Messages.Forms.{Message}
 use Rattle.rules.specs.State.{Reading, State}
 use Rattle.rules.specs.Token.{isWhole, isPartial}
-use Rattle.rules.specs.ReadData.{tokenCodes, moreData, answerOf, losesPartial, sendsReadData, endsRead, completes, unreadsWhile, unreads}
+use Rattle.rules.specs.ReadData.{tokenCodes, moreData, readDataOf, losesPartial, sendsReadData, endsRead, completes, unreadsWhile, unreads}
 use Rattle.rules.proofs.TwoRuns.Twins.{Twin, first-chars, second-chars, same-codes, Level}
 use Rattle.rules.proofs.TwoRuns.Twins.{isGuarded, Rules, Agreeing}
 use Rattle.rules.proofs.TwoRuns.Turns.{level-emptied, level-read, agrees-then, agrees-still, agrees-changes, agrees-sends, told}
@@ -27,13 +27,13 @@ module _ {changed : ℕ → Bool} where
       agrees-only (ap isPartial (same-token l)) (told _ _ (λ x y. agrees-changes (λ u. level-emptied))) s l
 
   same-answer : {code code′ : ℕ} → code ≡ code′ → (ending : ℕ) (r : Reading (Twin changed)) {s : State (Twin changed)} →
-      Level s → answerOf first-chars code ending r s ≡ answerOf second-chars code′ ending r s
-  unfolding answerOf
+      Level s → readDataOf first-chars code ending r s ≡ readDataOf second-chars code′ ending r s
+  unfolding readDataOf
   same-answer e ending r l = rw (e, same-more l)
 
   answer-guarded : (code ending : ℕ) (r : Reading (Twin changed)) (s : State (Twin changed)) →
-      isGuarded (answerOf first-chars code ending r s) ≡ true
-  unfolding answerOf isGuarded
+      isGuarded (readDataOf first-chars code ending r s) ≡ true
+  unfolding readDataOf isGuarded
   answer-guarded code ending r s = refl
 
   -- a read that completes is not pending: nothing is asked of its input

@@ -8,7 +8,7 @@ use Rattle.rules.specs.State.{State, fresh}
 use Rattle.rules.specs.Turns.{Fate}
 use Rattle.rules.specs.Calls.{Call, answer, runFrom, run}
 use Rattle.rules.specs.TwoRuns.{seen}
-use Rattle.rules.proofs.Tests.{all-halves}
+use Rattle.rules.proofs.Choice.{all-halves}
 use Rattle.rules.proofs.Erasure.Maps.{mapAnswer}
 use Rattle.rules.proofs.TwoRuns.Twins.{Twin, code₁, code₂, first-chars, second-chars, Level, spared}
 use Rattle.rules.proofs.TwoRuns.Calls.{fresh-level, Heeded, Supposed, agree-answer}

@@ -10,7 +10,7 @@ use Rattle.rules.specs.Calls.{Call, run}
 use Rattle.rules.specs.TwoRuns.{Seen, seen, LooksTheSame}
 use Rattle.rules.specs.TwoRuns.Examples.{sameSeen, looksSame, Pair, meets, passcode, isHidden, broken, shows}
 use Rattle.rules.specs.Whole.{whole}
-use Rattle.rules.proofs.Tests.{both, halves, same-itself, all-member}
+use Rattle.rules.proofs.Choice.{both, halves, same-itself, all-member}
 
 -- a passcode meets all suppositions, looks the same, and is read by the host
 pub hidden : isHidden passcode ≡ true

@@ -11,10 +11,10 @@ use Rattle.rules.specs.State.{Key, Reading, withIdle}
 use Rattle.rules.specs.Token.{ESC, CSI, standing, isValid, isWhole, isPartial}
 use Rattle.rules.specs.Turns.{edited}
 use Rattle.rules.specs.ReadData.{byValidToken, byInvalidToken}
-use Rattle.rules.specs.Steps.{columnNow, appended, editsBy, beginsToken, tokenCode, endsByToken, takesToken, addsToToken, echoesIf, takesData, echoesTerminatorIf, terminates}
+use Rattle.rules.specs.Steps.{columnNow, appended, isEditKey, isTokenStart, tokenCode, endsByToken, takesToken, addsToToken, echoesIf, takesData, echoesTerminatorIf, terminates}
 use Rattle.rules.specs.Steps.{underflows, erases, erasesAll, showsAgain, edits, takesPlain, raisedBy, takes, takesFirst}
 use Rattle.rules.specs.Steps.{stepsWhile, steps, setsIdle, idles, ticksWhile, ticks}
-use Rattle.rules.proofs.Tests.{pick-same, pick-case, all-snoc}
+use Rattle.rules.proofs.Choice.{pick-same, pick-case, all-snoc}
 use Rattle.rules.proofs.TwoRuns.Printing.{printing}
 use Rattle.rules.proofs.TwoRuns.Twins.{Twin, isBoth, raise, code₁, code₂, first-chars, second-chars, same-code, same-codes, same-word}
 use Rattle.rules.proofs.TwoRuns.Twins.{Settled, settled-code, settled-or, settled-and, LevelReading, LevelRead, Rules, Agreeing}
@@ -23,7 +23,7 @@ use Rattle.rules.proofs.TwoRuns.Turns.{agrees-pick, agrees-only, by-tes
 use Rattle.rules.proofs.TwoRuns.Fates.{tokened-both, Safe, taken-safe}
 use Rattle.rules.proofs.TwoRuns.ReadData.{same-token, completes-agrees}
 use Rattle.rules.proofs.TwoRuns.Editing.{deletes-agrees, redisplays-agrees}
-use Rattle.rules.proofs.TwoRuns.Words.{leftBy23-same}
+use Rattle.rules.proofs.TwoRuns.Words.{leftByDeleteWord-same}
 
 module _ {changed : ℕ → Bool} where
   -- Tokens hold no changed key.
@@ -96,14 +96,14 @@ module _ {changed : ℕ → Bool} where
   unfolding edits printing
   edits-agrees c r h =
       by-code DEL refl c (λ b. erases-agrees refl c r h)
-      (by-code 23 refl c (λ b. erases-agrees (leftBy23-same code₁ code₂ same-word (r .input)) c r h)
+      (by-code 23 refl c (λ b. erases-agrees (leftByDeleteWord-same code₁ code₂ same-word (r .input)) c r h)
       (by-code 21 refl c (λ b. erasesAll-agrees c r h)
       (showsAgain-agrees c r h)))
 
   -- The rules of a step.
 
-  settled-edits : (c : Twin changed) (r : Reading (Twin changed)) → Settled (λ n. editsBy n r) c
-  unfolding editsBy printing
+  settled-edits : (c : Twin changed) (r : Reading (Twin changed)) → Settled (λ n. isEditKey n r) c
+  unfolding isEditKey printing
   settled-edits c r =
       settled-or
       (settled-and _ (settled-or (settled-code DEL refl c) (settled-code 23 refl c)))
@@ -114,11 +114,11 @@ module _ {changed : ℕ → Bool} where
   unfolding takesPlain
   takesPlain-agrees c r safe h =
       by-test (inSet (r .terms .set)) c (safe .unset) (terminates-agrees c r)
-      (by-test (λ n. editsBy n r) c (settled-edits c r) (λ b. edits-agrees c r h)
+      (by-test (λ n. isEditKey n r) c (settled-edits c r) (λ b. edits-agrees c r h)
       (takesData-agrees c r safe h))
 
-  settled-begins : (c : Twin changed) (r : Reading (Twin changed)) → Settled (λ n. beginsToken n r) c
-  unfolding beginsToken printing
+  settled-begins : (c : Twin changed) (r : Reading (Twin changed)) → Settled (λ n. isTokenStart n r) c
+  unfolding isTokenStart printing
   settled-begins c r = settled-and _ (settled-or (settled-code ESC refl c) (settled-code CSI refl c))
 
   takes-agrees : (k : Key (Twin changed)) (r : Reading (Twin changed)) → Safe (r .terms) (k .char) × Safe (r .terms) (raise (k .char)) →
@@ -127,7 +127,7 @@ module _ {changed : ℕ → Bool} where
   takes-agrees k r (safe, safe-raised) h s l =
       agrees-pick (ap isPartial (same-token l)) (addsToToken-agrees (k .char) r)
       (agrees-pick refl (takesData-agrees (k .char) r safe h)
-      (by-test (λ n. beginsToken n r) (k .char) (settled-begins (k .char) r) (λ b. addsToToken-agrees (k .char) r)
+      (by-test (λ n. isTokenStart n r) (k .char) (settled-begins (k .char) r) (λ b. addsToToken-agrees (k .char) r)
       (takesPlain-agrees _ r (pick-case (Safe (r .terms)) (r .terms .raises) (λ e. safe-raised) (λ e. safe)) h))) s l
 
   takesFirst-agrees : (ks : List (Key (Twin changed))) (r : Reading (Twin changed)) → LevelReading r →

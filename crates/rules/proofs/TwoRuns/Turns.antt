@@ -10,7 +10,7 @@ use Rattle.rules.specs.Messages.Forms.{Message}
 use Rattle.rules.specs.State.{Host, Terminal, Key, Reading, State, withHost, withTerminal, withTyped, withRead}
 use Rattle.rules.specs.Turns.{Turn, Fate, Rule, still, writes, sends, tells, changes, behind, _then_, only}
 use Rattle.rules.specs.TwoRuns.{isPrinting}
-use Rattle.rules.proofs.Tests.{pick-both, all-more, all-behind, all-halves}
+use Rattle.rules.proofs.Choice.{pick-both, all-more, all-behind, all-halves}
 use Rattle.rules.proofs.TwoRuns.Twins.{Twin, both, apart, isBoth, code₁, code₂, Settled, settled-code}
 use Rattle.rules.proofs.TwoRuns.Twins.{LevelRead, Level, spared, Spared, isGuarded, Agrees, RulesAt, Rules, Agreeing}
 

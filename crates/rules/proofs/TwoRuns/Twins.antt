@@ -12,7 +12,7 @@ use Rattle.rules.specs.State.{Characters, State, Reading, raised}
 use Rattle.rules.specs.Turns.{Turn, Fate, Rule}
 use Rattle.rules.specs.TwoRuns.{Placed, typedAt, preloaded, codeIn, raisedIn, isPrinting, sameClass}
 use Rattle.rules.specs.TwoRuns.{unechoed, untokened, unset, unsetRaised}
-use Rattle.rules.proofs.Tests.{all-cons}
+use Rattle.rules.proofs.Choice.{all-cons}
 use Rattle.rules.proofs.TwoRuns.Printing.{raised-printing, beq-same, unlike}
 
 -- the two codes of a changed key

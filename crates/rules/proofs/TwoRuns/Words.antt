@@ -5,7 +5,7 @@ use mathlib.Core.Bool.{Bool, not}
 use mathlib.Core.List.{List, [], _∷_, map, reverse, reverseAux}
 use lib.ListN.{drop, length-map}
 use Rattle.rules.specs.Choice.{pick}
-use Rattle.rules.specs.Editing.{isWord, leading, leftBy23}
+use Rattle.rules.specs.Editing.{isWord, leading, leftByDeleteWord}
 
 module _ {A : Type 0} where
   drop-map : (f : A → ℕ) (n : ℕ) (cs : List A) → drop n (map f cs) ≡ map f (drop n cs)
@@ -28,9 +28,9 @@ module _ {A : Type 0} where
     leading-same test same [] = refl
     leading-same test same (c ∷ cs) = λ i. pick (same c i) (1 + leading-same test same cs i) 0
 
-    pub leftBy23-same : ((c : A) → isWord (f c) ≡ isWord (g c)) → (cs : List A) → leftBy23 (map f cs) ≡ leftBy23 (map g cs)
-    unfolding leftBy23
-    leftBy23-same same cs =
+    pub leftByDeleteWord-same : ((c : A) → isWord (f c) ≡ isWord (g c)) → (cs : List A) → leftByDeleteWord (map f cs) ≡ leftByDeleteWord (map g cs)
+    unfolding leftByDeleteWord
+    leftByDeleteWord-same same cs =
         let words = leading-same isWord same in
         let spaces = leading-same (λ n. not (isWord n)) (λ c. ap not (same c)) in
         simp (length-map, reverse-map, drop-map, words, spaces)

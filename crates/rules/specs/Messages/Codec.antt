@@ -26,8 +26,8 @@ unfoldable pub definedKind : ℕ → Bool
 definedKind kind = within initiate inputState kind
 
 -- the last completion code that 000 defines, and the last value of PP and of QQ
-abbrev pub lastCode : ℕ
-lastCode = 13
+abbrev pub lastCompletionCode : ℕ
+lastCompletionCode = 13
 
 abbrev pub lastFix : ℕ
 lastFix = 2
@@ -36,7 +36,7 @@ lastFix = 2
 unfoldable pub definedFields : Message ℕ → Bool
 definedFields m =
     pick (eqb (m .kind) startRead) (soundStartRead inputSize m)
-    (pick (eqb (m .kind) readData) (leb (completionCode m) lastCode)
+    (pick (eqb (m .kind) readData) (leb (completionCode m) lastCompletionCode)
     (pick (eqb (m .kind) write) (leb (prefix m) lastFix && leb (postfix m) lastFix)
     true))
 
@@ -95,8 +95,12 @@ soundAs f bytes =
     wholeTail (f .tail) (behindHead f bytes) &&
     definedFields (fieldsAs f bytes)
 
+-- bytes of the shortest message: a type alone
+abbrev pub shortestMessage : ℕ
+shortestMessage = 1
+
 unfoldable pub soundLength : ℕ → Bool
-soundLength n = within 1 messageSize n
+soundLength n = within shortestMessage messageSize n
 
 -- the refusals of reading, in the table's order
 unfoldable pub readRefusals : List ℕ → List Row

@@ -47,7 +47,10 @@ form head tail = record { head = head; tail = tail }
 abbrev pub revisionSize : ℕ
 revisionSize = 8
 
--- how many bytes FLAGS has, and how many bits each field of it, in a Start Read and in a Write
+-- how many bytes FLAGS has, of most messages, of a Start Read and of a Write, and how many bits each field of it
+abbrev pub flagBytes : ℕ
+flagBytes = 1
+
 abbrev pub startReadFlagBytes : ℕ
 startReadFlagBytes = 3
 
@@ -57,6 +60,9 @@ writeFlagBytes = 2
 abbrev pub startReadWidths : List ℕ
 startReadWidths = 2 ∷ 1 ∷ 1 ∷ 1 ∷ 1 ∷ 2 ∷ 3 ∷ 1 ∷ 1 ∷ 1 ∷ 2 ∷ 2 ∷ []
 
+abbrev pub readDataWidths : List ℕ
+readDataWidths = 4 ∷ 1 ∷ []
+
 abbrev pub writeWidths : List ℕ
 writeWidths = 2 ∷ 1 ∷ 1 ∷ 1 ∷ 1 ∷ 2 ∷ 2 ∷ 1 ∷ 1 ∷ []
 
@@ -64,36 +70,36 @@ writeWidths = 2 ∷ 1 ∷ 1 ∷ 1 ∷ 1 ∷ 2 ∷ 2 ∷ 1 ∷ 1 ∷ []
 unfoldable pub forms : List Form
 forms =
     -- Initiate: FLAGS; VERSION, ECO, MOD, REVISION; PARAMETERs
-    form (flags 1 [] ∷ byte ∷ byte ∷ byte ∷ replicate revisionSize byte) (list initiation) ∷
+    form (flags flagBytes [] ∷ byte ∷ byte ∷ byte ∷ replicate revisionSize byte) (list initiation) ∷
     -- Start Read: UU, C, F, V, K, II, DDD, N, T, Q, ZZ, EE; MAX-LENGTH, END-OF-DATA, TIMEOUT, END-OF-PROMPT,
     -- START-OF-DISPLAY, LOW-WATER; TERMINATION-SET, DATA
     form
     (flags startReadFlagBytes startReadWidths ∷ word ∷ word ∷ word ∷ word ∷ word ∷ word ∷ [])
     setAndText ∷
     -- Read Data: completion code, more-data; LOW-WATER, VERTICAL-POSITION, HORIZONTAL-POSITION, TERMINATION-POSITION; DATA
-    form (flags 1 (4 ∷ 1 ∷ []) ∷ word ∷ byte ∷ byte ∷ word ∷ []) text ∷
+    form (flags flagBytes readDataWidths ∷ word ∷ byte ∷ byte ∷ word ∷ []) text ∷
     -- Out-of-Band: discard control; CHARACTER
-    form (flags 1 (1 ∷ []) ∷ byte ∷ []) nothing ∷
+    form (flags flagBytes (1 ∷ []) ∷ byte ∷ []) nothing ∷
     -- Unread: unread condition
-    form (flags 1 (1 ∷ []) ∷ []) nothing ∷
+    form (flags flagBytes (1 ∷ []) ∷ []) nothing ∷
     -- Clear Input
-    form (flags 1 [] ∷ []) nothing ∷
+    form (flags flagBytes [] ∷ []) nothing ∷
     -- Write: UU, L, D, B, E, PP, QQ, S, T; PREFIX-VALUE, POSTFIX-VALUE; DATA
     form (flags writeFlagBytes writeWidths ∷ byte ∷ byte ∷ []) text ∷
     -- Write Completion: discard status; HORIZONTAL-POS, VERTICAL-POS
-    form (flags 1 (1 ∷ []) ∷ word ∷ word ∷ []) nothing ∷
+    form (flags flagBytes (1 ∷ []) ∷ word ∷ word ∷ []) nothing ∷
     -- Discard State: discard control
-    form (flags 1 (1 ∷ []) ∷ []) nothing ∷
+    form (flags flagBytes (1 ∷ []) ∷ []) nothing ∷
     -- Read Characteristics: PARAMETERs
-    form (flags 1 [] ∷ []) (list question) ∷
+    form (flags flagBytes [] ∷ []) (list question) ∷
     -- Characteristics: PARAMETERs
-    form (flags 1 [] ∷ []) (list setting) ∷
+    form (flags flagBytes [] ∷ []) (list setting) ∷
     -- Check Input
-    form (flags 1 [] ∷ []) nothing ∷
+    form (flags flagBytes [] ∷ []) nothing ∷
     -- Input Count: COUNT
-    form (flags 1 [] ∷ word ∷ []) nothing ∷
+    form (flags flagBytes [] ∷ word ∷ []) nothing ∷
     -- Input State: count change; the line never sends it
-    form (flags 1 (1 ∷ []) ∷ []) nothing ∷ []
+    form (flags flagBytes (1 ∷ []) ∷ []) nothing ∷ []
 
 -- of a type that is not 1 to 14: nothing behind the type byte
 abbrev pub noForm : Form

@@ -46,6 +46,10 @@ secondValueAt = 3
 abbrev pub thirdValueAt : ℕ
 thirdValueAt = 4
 
+-- bytes of the longest value: CHARACTER, MASK and ATTRIBUTES
+abbrev pub longestValue : ℕ
+longestValue = 3
+
 -- a number in two bytes, low byte first
 abbrev pub paired : ℕ → ℕ → ℕ
 paired low high = low + byteValues * high

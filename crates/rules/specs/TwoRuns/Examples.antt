@@ -7,7 +7,11 @@ use lib.Dec.{eqb}
 use lib.ListN.{replicate}
 use Rattle.rules.specs.Choice.{bit, joined, same}
 use Rattle.rules.specs.Numbers.{terminalArea, messageArea}
+use Rattle.rules.specs.Messages.Forms.{revisionSize}
+use Rattle.rules.specs.Screen.{SP, DEL}
 use Rattle.rules.specs.State.{codes}
+use Rattle.rules.specs.Token.{ESC, BRACKET}
+use Rattle.rules.specs.Editing.{deleteWordKey}
 use Rattle.rules.specs.Calls.{Event, key, step, message, Call, messageBytes, run}
 use Rattle.rules.specs.TwoRuns.{suppositions, inBand, Seen, seen}
 
@@ -37,7 +41,7 @@ abbrev pub full : Event ℕ → Call ℕ
 full e = record { terminal = terminalArea; messages = messageArea; event = e }
 
 unfoldable pub conversation : List (Event ℕ) → List (Call ℕ)
-conversation es = map full (message (0x01 ∷ 0x00 ∷ 0x01 ∷ 0x00 ∷ 0x00 ∷ replicate 8 0x20) ∷ es)
+conversation es = map full (message (0x01 ∷ 0x00 ∷ 0x01 ∷ 0x00 ∷ 0x00 ∷ replicate revisionSize SP) ∷ es)
 
 -- each key with the step that takes it
 unfoldable pub typing : List ℕ → List (Event ℕ)
@@ -97,8 +101,8 @@ meets p = same (map bit (suppositions inBand (p .first) (p .second))) (p .holdin
 unfoldable pub passcode : Pair
 passcode =
     pair (reading silentRaising noSet ∷ [])
-    (0x61 ∷ 0x37 ∷ 0x7F ∷ 0x62 ∷ 0x63 ∷ 0x0D ∷ [])
-    (0x7A ∷ 0x33 ∷ 0x7F ∷ 0x51 ∷ 0x71 ∷ 0x0D ∷ [])
+    (0x61 ∷ 0x37 ∷ DEL ∷ 0x62 ∷ 0x63 ∷ 0x0D ∷ [])
+    (0x7A ∷ 0x33 ∷ DEL ∷ 0x51 ∷ 0x71 ∷ 0x0D ∷ [])
     (replicate 8 1)
 
 -- it looks the same, and the host reads another DATA
@@ -115,9 +119,9 @@ broken =
       holding = 0 ∷ 1 ∷ 1 ∷ 1 ∷ 1 ∷ 1 ∷ 1 ∷ 1 ∷ [];
     } ∷
     -- not a printing mark: "-" is data, DEL finds nothing to delete
-    pair (reading silent noSet ∷ []) (0x2D ∷ []) (0x7F ∷ []) (1 ∷ 0 ∷ 1 ∷ 1 ∷ 1 ∷ 1 ∷ 1 ∷ 1 ∷ []) ∷
+    pair (reading silent noSet ∷ []) (0x2D ∷ []) (DEL ∷ []) (1 ∷ 0 ∷ 1 ∷ 1 ∷ 1 ∷ 1 ∷ 1 ∷ 1 ∷ []) ∷
     -- another word class: 23 leaves "-" of "-1x" and "--" of "--x"
-    pair (reading silent noSet ∷ []) (0x2D ∷ 0x31 ∷ 0x78 ∷ 23 ∷ 0x0D ∷ []) (0x2D ∷ 0x2D ∷ 0x78 ∷ 23 ∷ 0x0D ∷ [])
+    pair (reading silent noSet ∷ []) (0x2D ∷ 0x31 ∷ 0x78 ∷ deleteWordKey ∷ 0x0D ∷ []) (0x2D ∷ 0x2D ∷ 0x78 ∷ deleteWordKey ∷ 0x0D ∷ [])
     (1 ∷ 1 ∷ 0 ∷ 1 ∷ 1 ∷ 1 ∷ 1 ∷ 1 ∷ []) ∷
     -- out-of-band: "1" is a hello character
     pair (message (0x0B ∷ 0x00 ∷ 0x02 ∷ 0x02 ∷ 0x31 ∷ 0xFF ∷ 0x03 ∷ []) ∷ []) (0x31 ∷ []) (0x32 ∷ [])
@@ -125,7 +129,7 @@ broken =
     -- an echoing read
     pair (reading echoing noSet ∷ []) (0x31 ∷ []) (0x32 ∷ []) (1 ∷ 1 ∷ 1 ∷ 1 ∷ 0 ∷ 1 ∷ 1 ∷ 1 ∷ []) ∷
     -- an escape sequence: 27 91 65 is whole, 27 91 48 is not
-    pair (reading recognising noSet ∷ []) (27 ∷ 91 ∷ 65 ∷ []) (27 ∷ 91 ∷ 48 ∷ []) (1 ∷ 1 ∷ 1 ∷ 1 ∷ 1 ∷ 0 ∷ 1 ∷ 1 ∷ []) ∷
+    pair (reading recognising noSet ∷ []) (ESC ∷ BRACKET ∷ 65 ∷ []) (ESC ∷ BRACKET ∷ 48 ∷ []) (1 ∷ 1 ∷ 1 ∷ 1 ∷ 1 ∷ 0 ∷ 1 ∷ 1 ∷ []) ∷
     -- the termination set has "a"
     pair (reading ownSet setOfSmallA ∷ []) (0x61 ∷ []) (0x62 ∷ []) (1 ∷ 1 ∷ 1 ∷ 1 ∷ 1 ∷ 1 ∷ 0 ∷ 1 ∷ []) ∷
     -- the termination set has "A", the raised form of "a"

@@ -1,6 +1,6 @@
 use borrow.Author.Tests.{not-true, not-false}
 use Rattle.characteristics.specs.View.{hostView}
-use Rattle.rules.proofs.Sizes.{message-area}
+use Rattle.rules.proofs.Numbers.{message-area}
 use Rattle.characteristics.proofs.Answers.{not-carried, carried-size}
 use Rattle.characteristics.proofs.Host.carries_questions.Statement.{statement}
 use Rattle.characteristics.proofs.Host.carries_questions.Tie as tie
@@ -13,16 +13,16 @@ returns c s =
     let args = c .before .before .before .args in
     not-carried (args .list .now) (hostView (args .self)) s (c .before .all-carried .ensures) (not-true _ (c .if1 .taken))
 
-answer-size-requires : tie.Need-answer-size-requires
-answer-size-requires c κs = tt
+report-size-requires : tie.Need-report-size-requires
+report-size-requires c κs = tt
 
 returns-2 : tie.Need-returns-2
 returns-2 c s =
     let b = c .before .before in
     let args = b .before .before .args in
     carried-size (args .list .now) (hostView (args .self)) s (b .all-carried .ensures) (not-false _ (c .before .if1 .left))
-    message-area (c .answer-size .ensures (hostView (args .self)))
+    message-area (c .report-size .ensures (hostView (args .self)))
 
 pub carries-questions-spec : {M : Type 1} → statement M
 carries-questions-spec =
-    tie.close (tie.spec all-carried-requires returns answer-size-requires returns-2)
+    tie.close (tie.spec all-carried-requires returns report-size-requires returns-2)

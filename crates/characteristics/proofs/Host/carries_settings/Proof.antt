@@ -4,7 +4,7 @@ use borrow.Author.Needs.{needs}
 use borrow.Author.Tests.{not-true, not-false}
 use Rattle.rules.specs.Choice.{anyIs}
 use Rattle.rules.specs.Characteristics.{isDeferredClear, carriesSettings}
-use Rattle.rules.proofs.Tests.{pick-true, pick-false}
+use Rattle.rules.proofs.Choice.{pick-true, pick-false}
 use Rattle.characteristics.proofs.Host.carries_settings.Statement.{statement}
 use Rattle.characteristics.proofs.Host.carries_settings.Tie as tie
 

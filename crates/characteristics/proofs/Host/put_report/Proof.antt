@@ -7,8 +7,8 @@ use Rattle.rules.specs.Numbers.{messageArea}
 use Rattle.rules.specs.Messages.Layout.{fieldsIn, numberOf, writeGroups}
 use Rattle.rules.specs.Messages.Forms.{forms, formOf}
 use Rattle.rules.specs.State.{fresh}
-use Rattle.rules.proofs.Sizes.{area-word}
-use Rattle.rules.proofs.Tests.{pick-true, pick-false}
+use Rattle.rules.proofs.Numbers.{area-word}
+use Rattle.rules.proofs.Choice.{pick-true, pick-false}
 use Rattle.message.specs.Found.{heldIn}
 use Rattle.fronts.specs.Front.{frontBytes, frontTail}
 use Rattle.writing.specs.Spans.{spansOf}
@@ -26,18 +26,18 @@ returns : tie.Need-returns
 unfolding reportBytes
 returns c = equals (sym (pick-false _ _ (sym (c .before .carries-questions .ensures fresh) ∙ not-true _ (c .if1 .taken)))) nothing
 
-answer-size-requires : tie.Need-answer-size-requires
-answer-size-requires c κs = tt
+report-size-requires : tie.Need-report-size-requires
+report-size-requires c κs = tt
 
 -- the size that the code has is the answer's own
-sized : (c : tie.After-answer-size) →
+sized : (c : tie.After-report-size) →
     let args = c .before .before .before .before .before .args in
-    (c .answer-size .result ≡ 4 + length (answersFrom 0 (args .list .now) (hostView (args .self)))) × (c .answer-size .result ≤ messageArea)
+    (c .report-size .result ≡ 4 + length (answersFrom 0 (args .list .now) (hostView (args .self)))) × (c .report-size .result ≤ messageArea)
 sized c =
     let b = c .before .before in
     let args = b .before .before .before .args in
     own-size (args .list .now) (hostView (args .self)) fresh (sym (b .carries-questions .ensures fresh) ∙ not-false _ (c .before .if1 .left))
-    (c .answer-size .ensures (hostView (args .self)))
+    (c .report-size .ensures (hostView (args .self)))
 
 sub-t10 : tie.Need-sub-t10
 sub-t10 c = omega (arith, sized c .0)
@@ -63,7 +63,7 @@ returns-2 c =
     let b = a .before .before in
     let args = b .before .before .before .args in
     equals
-    (answer-bytes (args .list .now) (hostView (args .self)) (2 + (a .answer-size .result - 4) + 0 + 0) (omega (arith, sized a .0)) ∙
+    (answer-bytes (args .list .now) (hostView (args .self)) (2 + (a .report-size .result - 4) + 0 + 0) (omega (arith, sized a .0)) ∙
     sym (pick-true _ _ (sym (b .carries-questions .ensures fresh) ∙ not-false _ (a .before .if1 .left))))
     (joins (p1 .put-framed .ensures .front) (p2 .put-answers .ensures))
 
@@ -73,7 +73,7 @@ put-report-spec =
     (tie.spec
     carries-questions-requires
     returns
-    answer-size-requires
+    report-size-requires
     sub-t10
     cast-t11
     put-framed-requires

@@ -1,5 +1,5 @@
 use mathlib.Core.Path.{sym}
-use Rattle.rules.proofs.Tests.{pick-true, pick-false}
+use Rattle.rules.proofs.Choice.{pick-true, pick-false}
 use Rattle.characteristics.proofs.settings.chosen.Statement.{statement}
 use Rattle.characteristics.proofs.settings.chosen.Tie as tie
 

@@ -22,8 +22,8 @@ cast-put-number c = search needs
 put-number-requires : tie.Need-put-number-requires
 put-number-requires c κs = tt
 
-put-eight-requires : tie.Need-put-eight-requires
-put-eight-requires c κs = tt
+put-revision-requires : tie.Need-put-revision-requires
+put-revision-requires c κs = tt
 
 same-length : tie.Need-same-length
 same-length c =
@@ -31,7 +31,7 @@ same-length c =
     let p3 = p4 .before .before .before .before in
     let p2 = p3 .before .before .before .before .before in
     let p1 = p2 .before .before .before .before in
-    p4 .put-eight .ensures .same ∙ p3 .put-number .ensures .same ∙ p2 .put-pair2 .ensures .same ∙ p1 .put-pair .ensures .same
+    p4 .put-revision .ensures .same ∙ p3 .put-number .ensures .same ∙ p2 .put-pair2 .ensures .same ∙ p1 .put-pair .ensures .same
 
 returns : tie.Need-returns
 unfolding frontBytes heldIn formOf forms frontTail fieldsIn
@@ -43,7 +43,7 @@ returns c =
     let a = p1 .before .before .before .before .before .args .f in
     headed 1 []
     (none-first (field-first 1 8 (a .version) (field-first 1 8 (a .eco) (field-first 1 8 (a .modification) others))))
-    (joins (p1 .put-pair .ensures) (joins (p2 .put-pair2 .ensures) (joins (p3 .put-number .ensures) (joins (p4 .put-eight .ensures) nothing))))
+    (joins (p1 .put-pair .ensures) (joins (p2 .put-pair2 .ensures) (joins (p3 .put-number .ensures) (joins (p4 .put-revision .ensures) nothing))))
 
 pub put-initiate-spec : {M : Type 1} → statement M
 put-initiate-spec =
@@ -53,6 +53,6 @@ put-initiate-spec =
     put-pair-requires-2
     cast-put-number
     put-number-requires
-    put-eight-requires
+    put-revision-requires
     same-length
     returns)

@@ -3,7 +3,7 @@ use native.Mathlib.Omega.{arith}
 use mathlib.Core.List.{[], _∷_}
 use Prim.Native.Nat.{_+_, _*_}
 use Rattle.rules.specs.Messages.Layout.{fieldsIn, numberOf}
-use Rattle.message.specs.Found.{spanOf}
+use Rattle.fields.specs.Spans.{spanOf}
 use Rattle.fronts.proofs.Groups.{headed, flags-first, field-first, no-more}
 use Rattle.rules.specs.Messages.Forms.{forms, formOf}
 use Rattle.message.specs.Found.{heldIn}

@@ -1,6 +1,6 @@
 use mathlib.Core.Path.{_∙_}
 use Rattle.rules.specs.Messages.Layout.{fieldsIn, numberOf}
-use Rattle.message.specs.Found.{spanOf}
+use Rattle.fields.specs.Spans.{spanOf}
 use Rattle.fronts.proofs.Groups.{headed, flags-first, field-first, no-more}
 use Rattle.rules.specs.Messages.Forms.{forms, formOf, writeWidths}
 use Rattle.message.specs.Found.{heldIn}

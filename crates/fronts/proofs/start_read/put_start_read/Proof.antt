@@ -3,7 +3,8 @@ use Prim.Native.Nat.{_%_}
 use mathlib.Core.List.{_∷_, _++_}
 use lib.ListN.{length}
 use Rattle.rules.specs.Messages.Layout.{fieldsIn, numberOf, writeGroups}
-use Rattle.message.specs.Found.{spanOf, startReadIn}
+use Rattle.fields.specs.Spans.{spanOf}
+use Rattle.message.specs.Found.{startReadIn}
 use Rattle.fronts.proofs.Groups.{headed, flags-first, field-first, no-more}
 use Rattle.rules.specs.Messages.Forms.{forms, formOf, startReadWidths}
 use Rattle.message.specs.Found.{heldIn}

@@ -3,7 +3,7 @@ use native.Mathlib.Omega.{arith}
 use borrow.Author.Tests.{not-true, not-false, eq-eqb}
 use Rattle.rules.specs.State.{codes}
 use Rattle.rules.specs.Steps.{takesFirst, stepsWhile, steps}
-use Rattle.rules.proofs.Tests.{isEmpty-nil}
+use Rattle.rules.proofs.Choice.{isEmpty-nil}
 use Rattle.line.specs.View.{view, readingOf}
 use Rattle.line.specs.With.{onFlow, lent}
 use Rattle.line.specs.Acts.{CanTakeKey}

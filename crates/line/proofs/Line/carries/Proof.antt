@@ -2,7 +2,8 @@ use mathlib.Core.Path.{refl, ap, _∙_}
 use Rattle.rules.specs.Choice.{pick}
 use Rattle.rules.specs.Calls.{isCarriedBy, carriesQuestions}
 use Rattle.rules.specs.Characteristics.{carriesSettings}
-use Rattle.message.specs.Found.{spanOf, heldIn, startReadIn, writeIn}
+use Rattle.fields.specs.Spans.{spanOf}
+use Rattle.message.specs.Found.{heldIn, startReadIn, writeIn}
 use Rattle.characteristics.specs.View as host
 use Rattle.characteristics.specs.Lists.{settingsIn, questionsIn}
 use Rattle.characteristics.proofs.Held.{held-settings, held-questions}
@@ -16,10 +17,10 @@ use Rattle.line.proofs.Line.carries.Reads as reads
 use Rattle.line.proofs.Line.carries.Lts as lts
 use Rattle.characteristics.proofs.Host.carries_questions.Reads as carries-questions-reads
 use Rattle.characteristics.proofs.Host.carries_settings.Reads as carries-settings-reads
-use Rattle.line.proofs.Line.characteristics.Reads as characteristics-reads
+use Rattle.line.proofs.Line.host_in.Reads as host-in-reads
 use Rattle.line.proofs.refusals.carries_start_read.Reads as carries-start-read-reads
 use Rattle.line.proofs.refusals.carries_write.Reads as carries-write-reads
-use Rattle.message.proofs.span_of.Reads as span-of-reads
+use Rattle.fields.proofs.span_of.Reads as span-of-reads
 
 enum-known-m : tie.Need-enum-known-m
 enum-known-m c = search needs
@@ -36,8 +37,8 @@ carries-write-requires c κs = search needs
 enum-known-m-3 : tie.Need-enum-known-m-3
 enum-known-m-3 c = search needs
 
-characteristics-requires : tie.Need-characteristics-requires
-characteristics-requires c κs = search needs
+host-in-requires : tie.Need-host-in-requires
+host-in-requires c κs = search needs
 
 span-of-requires : tie.Need-span-of-requires
 span-of-requires c κs = search needs
@@ -48,8 +49,8 @@ carries-questions-requires c κs = search needs
 enum-known-m-4 : tie.Need-enum-known-m-4
 enum-known-m-4 c = search needs
 
-characteristics-requires-2 : tie.Need-characteristics-requires-2
-characteristics-requires-2 c κs = search needs
+host-in-requires-2 : tie.Need-host-in-requires-2
+host-in-requires-2 c κs = search needs
 
 span-of-requires-2 : tie.Need-span-of-requires-2
 span-of-requires-2 c κs = search needs
@@ -75,7 +76,7 @@ returns-3 c =
     let a = c .before .before .before .before .before .before .before .args in
     carried-as (a .s .now) (view (a .self)) (c .before .before .before .before .m3 .given .1) (questionsIn (spanOf (a .s .now) _)) (held-questions _ _)
     (c .carries-questions .ensures (view (a .self))
-    ∙ ap (λ h. carriesQuestions (withHost (host.hostView h) (view (a .self))) (questionsIn (c .before .span-of .result .now))) (c .before .before .characteristics .ensures)
+    ∙ ap (λ h. carriesQuestions (withHost (host.hostView h) (view (a .self))) (questionsIn (c .before .span-of .result .now))) (c .before .before .host-in .ensures)
     ∙ ap (λ bs. carriesQuestions (view (a .self)) (questionsIn bs)) (c .before .span-of .ensures))
 
 returns-4 : tie.Need-returns-4
@@ -84,7 +85,7 @@ returns-4 c =
     let a = c .before .before .before .before .before .before .before .args in
     carried-as (a .s .now) (view (a .self)) (c .before .before .before .before .m4 .given .1) (settingsIn (spanOf (a .s .now) _)) (held-settings _ _)
     (c .carries-settings .ensures
-    ∙ ap (λ h. carriesSettings (host.hostView h) (settingsIn (c .before .span-of2 .result .now))) (c .before .before .characteristics2 .ensures)
+    ∙ ap (λ h. carriesSettings (host.hostView h) (settingsIn (c .before .span-of2 .result .now))) (c .before .before .host-in2 .ensures)
     ∙ ap (λ bs. carriesSettings (hostOf (a .self)) (settingsIn bs)) (c .before .span-of2 .ensures))
 
 returns-5 : tie.Need-returns-5
@@ -99,11 +100,11 @@ carries-spec =
     enum-known-m-2
     carries-write-requires
     enum-known-m-3
-    characteristics-requires
+    host-in-requires
     span-of-requires
     carries-questions-requires
     enum-known-m-4
-    characteristics-requires-2
+    host-in-requires-2
     span-of-requires-2
     carries-settings-requires
     returns

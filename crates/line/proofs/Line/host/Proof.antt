@@ -20,7 +20,7 @@ use Rattle.line.proofs.Line.obeys.Reads as obeys-reads
 use Rattle.line.proofs.Line.refuse.Reads as refuse-reads
 use Rattle.line.proofs.events.sender_of.Reads as sender-of-reads
 use Rattle.line.proofs.refusals.early_row.Reads as early-row-reads
-use Rattle.message.proofs.number_of.Reads as number-of-reads
+use Rattle.message.proofs.found_number.Reads as found-number-reads
 use Rattle.message.proofs.decode.Reads as decode-reads
 
 early-row-requires : tie.Need-early-row-requires
@@ -49,8 +49,8 @@ enum-known-f c = search needs
 enum-told : tie.Need-enum-told
 enum-told c = search needs
 
-number-of-requires : tie.Need-number-of-requires
-number-of-requires c κs = search needs
+found-number-requires : tie.Need-found-number-requires
+found-number-requires c κs = search needs
 
 refuse-requires-2 : tie.Need-refuse-requires-2
 refuse-requires-2 c κs = search needs
@@ -66,7 +66,7 @@ returns-2 c =
     let row = c .before .before .before .before .before .before .early-row .ensures (view l) refl (is-pending (l .flow .pending) (readingOf l (l .flow .reading))) in
     let told = c .before .before .enum-told .given .1 in
     let found = ap (foundIn s) (sym told) ∙ c .before .before .before .before .decode .ensures .fields in
-    let number = c .before .number-of .ensures ∙ ap foundNumber told in
+    let number = c .before .found-number .ensures ∙ ap foundNumber told in
     let passed = early-passed l t m s row (c .before .before .before .before .before .if1 .left) in
     refused (rules.message s) l t m _ (start .pre)
     (outcome-refused l t m s row (c .before .before .before .before .before .if1 .left) (found-refused l s (passed .3) (passed .2) found) ∙ ap (λ n. refuses n (view l)) (sym number))
@@ -148,7 +148,7 @@ host-spec =
     decode-requires
     enum-known-f
     enum-told
-    number-of-requires
+    found-number-requires
     refuse-requires-2
     returns-2
     sender-of-requires

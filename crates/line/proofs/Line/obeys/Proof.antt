@@ -36,7 +36,7 @@ acts-on-host-requires c κs =
     let counted = set-counted (a .s .now) (a .self) next (a .m) (start .pre .0 .counted) (set .ensures) in
     let act = c .before .before .before .before .before .before .before .before .before .act-of .ensures .1 in
     let doable = subst (Doable (a .s .now) (next .flow) (next .terms)) (sym (act .1 (a .m) refl)) (startables (a .self) (a .s .now) (a .m) (start .pre .1 .0)) in
-    (counted .flow, (counted .text, (counted .shown, (doable, act .0))))
+    (counted .flow, (counted .text, (counted .prompt, (doable, act .0))))
 
 same-length : tie.Need-same-length
 same-length c = search needs

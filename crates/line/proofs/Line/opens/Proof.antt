@@ -4,7 +4,7 @@ use native.Mathlib.Omega.{arith}
 use lib.ListN.{length}
 use lib.Seq.{sets, length-sets}
 use Rattle.line.specs.StartRead.{onOpened, Opens}
-use Rattle.rules.proofs.Sizes.{input-word, inputNumeral, input-size}
+use Rattle.rules.proofs.Numbers.{input-word, inputNumeral, input-size}
 use Rattle.line.proofs.StartRead.{pieces-fit, line-opens}
 use borrow.Author.Needs.{needs}
 use Rattle.line.proofs.Line.opens.Statement.{statement}

@@ -3,7 +3,7 @@ use mathlib.Core.List.{[]}
 use Rattle.rules.specs.State.{codes}
 use Rattle.rules.specs.StartRead.{inSet}
 use Rattle.rules.specs.Steps.{raisedBy}
-use Rattle.characteristics.specs.View.{setOf}
+use Rattle.sets.specs.View.{setOf}
 use Rattle.line.specs.declared.events.Event.the-variants.{Step}
 use Rattle.line.specs.View.{readingOf}
 use Rattle.line.proofs.EventRules.{eventOf}
@@ -13,10 +13,10 @@ use Rattle.line.proofs.Line.step.Statement.{statement}
 use Rattle.line.proofs.Line.step.Tie as tie
 use Rattle.line.proofs.Line.step.Reads as reads
 use Rattle.line.proofs.Line.step.Lts as lts
-use Rattle.characteristics.proofs.Set.has.Reads as has-reads
+use Rattle.sets.proofs.Set.has.Reads as has-reads
 use Rattle.line.proofs.Flow.act_if.Reads as act-if-reads
 use Rattle.line.proofs.Terms.raised_by.Reads as raised-by-reads
-use Rattle.line.proofs.Flow.takes.Reads as takes-reads
+use Rattle.line.proofs.Flow.taken_as.Reads as taken-as-reads
 use Rattle.line.proofs.Typed.is_held.Reads as is-held-reads
 use Rattle.line.proofs.Work.acts_on_step.Reads as acts-on-step-reads
 use Rattle.line.proofs.keys.code_of.Reads as code-of-reads
@@ -42,8 +42,8 @@ has-requires c κs = search needs
 is-held-requires : tie.Need-is-held-requires
 is-held-requires c κs = search needs
 
-takes-requires : tie.Need-takes-requires
-takes-requires c κs = search needs
+taken-as-requires : tie.Need-taken-as-requires
+taken-as-requires c κs = search needs
 
 act-if-requires : tie.Need-act-if-requires
 act-if-requires c κs = search needs
@@ -62,7 +62,7 @@ acts-on-step-requires c κs =
     let raised = c .before .before .before .before .before .before .before .before .before .before .raised-by .ensures (l .text) l (l .flow .reading) ∙ ap (raisedBy codes (readingOf l (l .flow .reading))) (c .before .before .before .before .before .before .before .before .before .before .before .code-of .ensures) in
     let ends = c .before .before .before .before .before .before .before .before .before .has .ensures ∙ ap (inSet (setOf (l .set))) raised in
     let act = c .before .before .before .before .before .before .act-if .ensures in
-    (start .pre .counted .flow, (start .pre .counted .text, (keyed-doable Step l (start .pre) (a .terminal .now) (a .messages .now) tt (c .before .before .before .before .before .before .before .before .before .before .before .before .before .before .before .before .before .are-roomy .ensures) (λ y. act .0 [] l y (record { bounded = start .pre; held = c .before .before .before .before .before .before .before .before .is-held .ensures; taken = λ can. c .before .before .before .before .before .before .before .takes .ensures [] l can ends })) (act .1 .0), act .1 .1)))
+    (start .pre .counted .flow, (start .pre .counted .text, (keyed-doable Step l (start .pre) (a .terminal .now) (a .messages .now) tt (c .before .before .before .before .before .before .before .before .before .before .before .before .before .before .before .before .before .are-roomy .ensures) (λ y. act .0 [] l y (record { bounded = start .pre; held = c .before .before .before .before .before .before .before .before .is-held .ensures; taken = λ can. c .before .before .before .before .before .before .before .taken-as .ensures [] l can ends })) (act .1 .0), act .1 .1)))
 
 row-of-requires : tie.Need-row-of-requires
 row-of-requires c κs = search needs
@@ -84,7 +84,7 @@ returns c =
     let act = c .before .before .before .before .before .before .before .before .before .before .before .before .before .act-if .ensures in
     let done = c .before .before .before .before .before .before .acts-on-step in
     numbered (c .row-of .ensures)
-    (keyed-answers Step l (start .pre) (a .terminal .now) (a .messages .now) tt (c .before .before .before .before .before .before .before .before .before .before .before .before .before .before .before .before .before .before .before .before .before .before .before .before .are-roomy .ensures) (λ y. act .0 [] l y (record { bounded = start .pre; held = c .before .before .before .before .before .before .before .before .before .before .before .before .before .before .before .is-held .ensures; taken = λ can. c .before .before .before .before .before .before .before .before .before .before .before .before .before .before .takes .ensures [] l can ends })) (act .1 .0)
+    (keyed-answers Step l (start .pre) (a .terminal .now) (a .messages .now) tt (c .before .before .before .before .before .before .before .before .before .before .before .before .before .before .before .before .before .before .before .before .before .before .before .before .are-roomy .ensures) (λ y. act .0 [] l y (record { bounded = start .pre; held = c .before .before .before .before .before .before .before .before .before .before .before .before .before .before .before .is-held .ensures; taken = λ can. c .before .before .before .before .before .before .before .before .before .before .before .before .before .before .taken-as .ensures [] l can ends })) (act .1 .0)
     (done .result) _ _ _ _ (c .before .before .before .before .before .before .before .before .before .before .move-keys .ensures) (done .ensures .0) (done .ensures .1 .0) (done .ensures .1 .1 .0 l) (done .ensures .1 .1 .1))
 
 pub step-spec : {M : Type 1} → statement M
@@ -97,7 +97,7 @@ step-spec =
     raised-by-requires
     has-requires
     is-held-requires
-    takes-requires
+    taken-as-requires
     act-if-requires
     cast-move-keys
     move-keys-requires

@@ -9,12 +9,12 @@ use Rattle.line.proofs.Line.with_characteristics.Tie as tie
 use Rattle.line.proofs.Line.with_characteristics.Reads as reads
 use Rattle.line.proofs.Line.with_characteristics.Lts as lts
 use Rattle.characteristics.proofs.Host.with_settings.Reads as with-settings-reads
-use Rattle.line.proofs.Line.characteristics.Reads as characteristics-reads
+use Rattle.line.proofs.Line.host_in.Reads as host-in-reads
 use Rattle.line.proofs.Line.with_host.Reads as with-host-reads
-use Rattle.message.proofs.span_of.Reads as span-of-reads
+use Rattle.fields.proofs.span_of.Reads as span-of-reads
 
-characteristics-requires : tie.Need-characteristics-requires
-characteristics-requires c κs = search needs
+host-in-requires : tie.Need-host-in-requires
+host-in-requires c κs = search needs
 
 span-of-requires : tie.Need-span-of-requires
 span-of-requires c κs = search needs
@@ -34,16 +34,16 @@ returns c =
       same = c .with-host .ensures;
       settings =
           set .ensures .0
-          ∙ ap (λ h. withParameters (parametersFrom 11 0 (c .before .before .span-of .result .now)) (host.hostView h)) (c .before .before .before .characteristics .ensures)
+          ∙ ap (λ h. withParameters (parametersFrom 11 0 (c .before .before .span-of .result .now)) (host.hostView h)) (c .before .before .before .host-in .ensures)
           ∙ ap (λ bs. withParameters (parametersFrom 11 0 bs) (hostOf (a .self))) (c .before .before .span-of .ensures);
-      counted = set .ensures .1 .counted (rw (c .before .before .before .characteristics .ensures) (record { table = c .before .before .before .before .before .pre .table; set = c .before .before .before .before .before .pre .lastSet }));
+      counted = set .ensures .1 .counted (rw (c .before .before .before .host-in .ensures) (record { table = c .before .before .before .before .before .pre .table; set = c .before .before .before .before .before .pre .lastSet }));
     }
 
 pub with-characteristics-spec : {M : Type 1} → statement M
 with-characteristics-spec =
     tie.close
     (tie.spec
-    characteristics-requires
+    host-in-requires
     span-of-requires
     with-settings-requires
     with-host-requires

@@ -8,7 +8,7 @@ use Rattle.rules.specs.State.{codes}
 use Rattle.rules.specs.Editing.{displayed}
 use Rattle.line.specs.View.{readingOf}
 use Rattle.line.specs.With.{lent}
-use Rattle.screen.proofs.Marks.{counted-whole}
+use Rattle.screen.proofs.Marks.{capped-whole}
 use Rattle.line.proofs.Reading.marks.Statement.{statement}
 use Rattle.line.proofs.Reading.marks.Tie as tie
 
@@ -45,7 +45,7 @@ returns c =
     let short : length part < 2 ^ 60 = omega (arith, length-take (r .«input_len» - from) (drop from text), start .pre .within) in
     λ t l.
     let line = lent t text l in
-    c .marks-behind .ensures ∙ counted-whole kept (r .«display_column») part short
+    c .marks-behind .ensures ∙ capped-whole kept (r .«display_column») part short
     ∙ ap (λ x. marksBehind kept (r .«display_column») x) (shown .ensures .text line)
     ∙ ap (λ k. marksBehind k (r .«display_column») (displayed codes (readingOf line r))) (c .before .before .shown-of .ensures)
 

@@ -1,6 +1,6 @@
 use native.Mathlib.Omega.{arith}
 use borrow.Author.Needs.{needs}
-use Rattle.rules.proofs.Sizes.{input-word, input-size}
+use Rattle.rules.proofs.Numbers.{input-word, input-size}
 use Rattle.line.proofs.InputAppended.{pushed}
 use Rattle.line.proofs.Reading.push.Statement.{statement}
 use Rattle.line.proofs.Reading.push.Tie as tie

@@ -1,7 +1,7 @@
 use native.Mathlib.Omega.{arith}
 use lib.Dec.{ltb}
 use borrow.Author.Tests.{ltb-true}
-use Rattle.rules.proofs.Tests.{halves}
+use Rattle.rules.proofs.Choice.{halves}
 use Rattle.line.proofs.InputAppended.{hidden-less, none-less}
 use Rattle.line.proofs.Reading.shown_of.Statement.{statement}
 use Rattle.line.proofs.Reading.shown_of.Tie as tie

@@ -1,6 +1,6 @@
 use mathlib.Core.Path.{sym, _∙_}
 use Rattle.rules.specs.Steps.{raisedBy}
-use Rattle.rules.proofs.Tests.{pick-true, pick-false}
+use Rattle.rules.proofs.Choice.{pick-true, pick-false}
 use Rattle.line.proofs.Terms.raised_by.Statement.{statement}
 use Rattle.line.proofs.Terms.raised_by.Tie as tie
 

@@ -3,7 +3,7 @@ use mathlib.Core.List.{map-id}
 use borrow.Author.Needs.{needs}
 use Rattle.rules.specs.Token.{isValid, standing}
 use Rattle.rules.specs.Steps.{tokenCode}
-use Rattle.rules.proofs.Tests.{pick-true, pick-false}
+use Rattle.rules.proofs.Choice.{pick-true, pick-false}
 use Rattle.line.specs.View.{tokenOf}
 use Rattle.line.proofs.TokenBytes.{token-length}
 use Rattle.line.proofs.Typed.token_code.Statement.{statement}

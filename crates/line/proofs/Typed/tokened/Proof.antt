@@ -1,6 +1,6 @@
 use native.Mathlib.Omega.{arith}
 use borrow.Author.Needs.{needs}
-use Rattle.rules.proofs.Sizes.{token-size, waiting-word}
+use Rattle.rules.proofs.Numbers.{token-size, waiting-word}
 use Rattle.line.proofs.Typed.tokened.Statement.{statement}
 use Rattle.line.proofs.Typed.tokened.Tie as tie
 

@@ -5,7 +5,7 @@ use borrow.Author.Needs.{needs}
 use Rattle.rules.specs.Messages.Forms.{plain, inputCount}
 use Rattle.rules.specs.Messages.Codec as codec
 use Rattle.rules.specs.ReadData.{checksInput}
-use Rattle.rules.proofs.Sizes.{waiting-word}
+use Rattle.rules.proofs.Numbers.{waiting-word}
 use Rattle.message.specs.Found.{heldIn}
 use Rattle.writing.specs.Spans.{spansOf, inside}
 use Rattle.line.proofs.FlowChanges.{here-rule}

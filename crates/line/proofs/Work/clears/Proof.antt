@@ -10,8 +10,8 @@ use Rattle.line.proofs.Work.clears.Tie as tie
 empties-typed-requires : tie.Need-empties-typed-requires
 empties-typed-requires c κs = search needs
 
-clears-seen-requires : tie.Need-clears-seen-requires
-clears-seen-requires c κs =
+clears-rubbing-out-requires : tie.Need-clears-rubbing-out-requires
+clears-rubbing-out-requires c κs =
     let start = c .before .before .before .before .before .before in
     let counted = c .before .before .before .empties-typed .ensures .0 in
     (counted, record { within = counted .within; full = start .pre .1 })
@@ -23,7 +23,7 @@ returns : tie.Need-returns
 unfolding clearRule
 returns c =
     let a = c .before .before .before .before .before .before .before .before .before .args in
-    let cleared = c .before .before .clears-seen .ensures in (
+    let cleared = c .before .before .clears-rubbing-out .ensures in (
       cleared .0,
       λ l m.
           then-does (c .before .before .before .before .before .before .empties-typed .ensures .1 (lent (a .t) (a .text .now) l) _ m)
@@ -31,4 +31,4 @@ returns c =
     )
 
 pub clears-spec : {M : Type 1} → statement M
-clears-spec = tie.close (tie.spec empties-typed-requires clears-seen-requires same-length returns)
+clears-spec = tie.close (tie.spec empties-typed-requires clears-rubbing-out-requires same-length returns)

@@ -13,12 +13,12 @@ sends-out-of-band-requires c κs = search needs
 empties-typed-requires : tie.Need-empties-typed-requires
 empties-typed-requires c κs = c .before .before .sends-out-of-band .ensures .0
 
-clears-unseen-requires : tie.Need-clears-unseen-requires
-clears-unseen-requires c κs = let counted = c .before .before .empties-typed .ensures .0 in (counted, counted .within)
+clears-without-rubbing-requires : tie.Need-clears-without-rubbing-requires
+clears-without-rubbing-requires c κs = let counted = c .before .before .empties-typed .ensures .0 in (counted, counted .within)
 
 ends-out-of-band-requires : tie.Need-ends-out-of-band-requires
 ends-out-of-band-requires c κs =
-    let counted = c .before .before .before .clears-unseen .ensures .0 in
+    let counted = c .before .before .before .clears-without-rubbing .ensures .0 in
     (counted, record { within = counted .within; full = c .before .before .before .before .before .before .before .before .before .before .before .before .before .pre .1 })
 
 same-length : tie.Need-same-length
@@ -29,7 +29,7 @@ unfolding clearsAtOnce clearRule
 returns c =
     let a = c .before .before .before .before .before .before .before .before .before .before .before .before .before .before .before .before .args in
     let ended = c .before .before .ends-out-of-band .ensures in
-    let unseen = c .before .before .before .before .before .before .clears-unseen .ensures in
+    let unseen = c .before .before .before .before .before .before .clears-without-rubbing .ensures in
     let emptied = c .before .before .before .before .before .before .before .before .before .empties-typed .ensures in
     let sent = c .before .before .before .before .before .before .before .before .before .before .before .before .sends-out-of-band .ensures in (
       ended .0,
@@ -46,7 +46,7 @@ clears-at-once-spec =
     (tie.spec
     sends-out-of-band-requires
     empties-typed-requires
-    clears-unseen-requires
+    clears-without-rubbing-requires
     ends-out-of-band-requires
     same-length
     returns)

@@ -8,7 +8,7 @@ use Rattle.rules.specs.Editing.{displays}
 use Rattle.fields.proofs.Pieces.{all-behind}
 use Rattle.line.specs.View.{promptOf}
 use Rattle.line.specs.With.{lent}
-use Rattle.rules.proofs.Sizes.{inputNumeral, input-size}
+use Rattle.rules.proofs.Numbers.{inputNumeral, input-size}
 use Rattle.line.proofs.Turns.{then-does}
 use Rattle.line.proofs.FlowChanges.{same-writes}
 use Rattle.line.proofs.Work.displays.Statement.{statement}

@@ -4,7 +4,7 @@ use mathlib.Core.List.{[]}
 use lib.ListN.{take, drop}
 use borrow.Author.Needs.{needs}
 use Rattle.rules.specs.Screen.{echoAll}
-use Rattle.rules.proofs.Tests.{pick-true, pick-false}
+use Rattle.rules.proofs.Choice.{pick-true, pick-false}
 use Rattle.rules.specs.Editing.{displaysData}
 use Rattle.line.specs.With.{lent}
 use Rattle.line.proofs.Turns.{then-does}

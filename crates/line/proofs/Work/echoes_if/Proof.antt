@@ -1,7 +1,7 @@
 use mathlib.Core.Path.{refl, sym}
 use mathlib.Core.List.{[]}
 use borrow.Author.Needs.{needs}
-use Rattle.rules.proofs.Tests.{pick-true, pick-false}
+use Rattle.rules.proofs.Choice.{pick-true, pick-false}
 use Rattle.rules.specs.Steps.{echoesIf}
 use Rattle.line.proofs.FlowChanges.{same-writes, blank-does, here-rule}
 use Rattle.line.proofs.Work.echoes_if.Statement.{statement}

@@ -16,17 +16,17 @@ use Rattle.line.proofs.Work.edits.Statement.{statement}
 use Rattle.line.proofs.Work.edits.Tie as tie
 use Rattle.line.proofs.Work.edits.Reads as reads
 use Rattle.line.proofs.Work.edits.Lts as lts
-use Rattle.line.proofs.Reading.left_by_127.Reads as left-by-127-reads
-use Rattle.line.proofs.Reading.left_by_23.Reads as left-by-23-reads
+use Rattle.line.proofs.Reading.left_by_delete.Reads as left-by-delete-reads
+use Rattle.line.proofs.Reading.left_by_delete_word.Reads as left-by-delete-word-reads
 use Rattle.line.proofs.Work.deletes.Reads as deletes-reads
 use Rattle.line.proofs.Work.erases.Reads as erases-reads
 use Rattle.line.proofs.Work.redisplays.Reads as redisplays-reads
 
-left-by-127-requires : tie.Need-left-by-127-requires
-left-by-127-requires c κs = search needs
+left-by-delete-requires : tie.Need-left-by-delete-requires
+left-by-delete-requires c κs = search needs
 
 erases-requires : tie.Need-erases-requires
-erases-requires c κs = let pre = c .before .before .before .before .before .before .before .pre in (pre .0, (pre .1 .0, (pre .1 .1, omega (arith, c .before .before .before .left-by-127 .ensures))))
+erases-requires c κs = let pre = c .before .before .before .before .before .before .before .pre in (pre .0, (pre .1 .0, (pre .1 .1, omega (arith, c .before .before .before .left-by-delete .ensures))))
 
 same-length : tie.Need-same-length
 same-length c = search needs
@@ -40,7 +40,7 @@ returns c =
     let start = c .before .before .before .before .before .before .before .before .before .before .before .before in
     let a = start .args in
     let text = a .text .now in
-    let left = c .before .before .before .before .before .before .before .before .left-by-127 .ensures ∙ ap (λ n. n - 1) (sym (input-length (a .r .«input_len») text (omega (arith, start .pre .1 .0 .within, start .pre .1 .0 .full)))) in
+    let left = c .before .before .before .before .before .before .before .before .left-by-delete .ensures ∙ ap (λ n. n - 1) (sym (input-length (a .r .«input_len») text (omega (arith, start .pre .1 .0 .within, start .pre .1 .0 .full)))) in
     let done = c .before .before .before .before .erases .ensures in (
       done .0,
       (
@@ -51,11 +51,11 @@ returns c =
       ),
     )
 
-left-by-23-requires : tie.Need-left-by-23-requires
-left-by-23-requires c κs = c .before .before .before .before .before .before .pre .1 .0
+left-by-delete-word-requires : tie.Need-left-by-delete-word-requires
+left-by-delete-word-requires c κs = c .before .before .before .before .before .before .pre .1 .0
 
 erases-requires-2 : tie.Need-erases-requires-2
-erases-requires-2 c κs = let pre = c .before .before .before .before .before .before .before .before .before .before .pre in (pre .0, (pre .1 .0, (pre .1 .1, c .before .before .before .left-by-23 .ensures .within)))
+erases-requires-2 c κs = let pre = c .before .before .before .before .before .before .before .before .before .before .pre in (pre .0, (pre .1 .0, (pre .1 .1, c .before .before .before .left-by-delete-word .ensures .within)))
 
 same-length-3 : tie.Need-same-length-3
 same-length-3 c = search needs
@@ -74,7 +74,7 @@ returns-2 c =
         λ l.
             second-does _ _ (ne-eqb _ 127 (c .before .before .before .before .before .before .before .before .before .before .before .before .if1 .left))
             (first-does _ _ (eq-eqb _ 23 (c .before .before .before .before .before .before .before .before .before .before .before .if2 .taken))
-            (for-equal (λ n. erases codes n (a .c) (readingOf (lent (a .t) (a .text .now) l) (a .r))) (c .before .before .before .before .before .before .before .before .left-by-23 .ensures .left-by (a .t) l) (done .1 .1 l))),
+            (for-equal (λ n. erases codes n (a .c) (readingOf (lent (a .t) (a .text .now) l) (a .r))) (c .before .before .before .before .before .before .before .before .left-by-delete-word .ensures .left-by (a .t) l) (done .1 .1 l))),
       ),
     )
 
@@ -124,12 +124,12 @@ pub edits-spec : {M : Type 1} → statement M
 edits-spec =
     tie.close
     (tie.spec
-    left-by-127-requires
+    left-by-delete-requires
     erases-requires
     same-length
     same-length-2
     returns
-    left-by-23-requires
+    left-by-delete-word-requires
     erases-requires-2
     same-length-3
     same-length-4

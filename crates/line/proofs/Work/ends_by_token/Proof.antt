@@ -4,7 +4,7 @@ use borrow.Author.Needs.{needs}
 use Rattle.line.specs.View.{tokenOf}
 use Rattle.line.specs.With.{lent}
 use Rattle.rules.specs.Steps.{endsByToken}
-use Rattle.rules.proofs.Sizes.{waiting-word}
+use Rattle.rules.proofs.Numbers.{waiting-word}
 use Rattle.line.proofs.Turns.{then-does}
 use Rattle.line.proofs.TokenBytes.{token-length, token-counted, untokened-counted}
 use Rattle.line.proofs.FlowChanges.{here-rule, completes-as, typed-counted, cleared-does, ended-does}

@@ -1,5 +1,5 @@
 use native.Mathlib.Omega.{arith}
-use Rattle.rules.proofs.Sizes.{waiting-word}
+use Rattle.rules.proofs.Numbers.{waiting-word}
 use Rattle.line.proofs.ArrivalLaws.{kept-counted, keeps-does}
 use Rattle.line.proofs.Work.keeps.Statement.{statement}
 use Rattle.line.proofs.Work.keeps.Tie as tie

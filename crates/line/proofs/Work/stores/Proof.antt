@@ -7,7 +7,7 @@ use native.Mathlib.Omega.{arith}
 use Rattle.rules.specs.Numbers.{typeAheadSize}
 use Rattle.rules.specs.Arrival.{stores}
 use Rattle.line.proofs.FlowChanges.{here-first, here-second}
-use Rattle.rules.proofs.Sizes.{type-ahead-size}
+use Rattle.rules.proofs.Numbers.{type-ahead-size}
 use Rattle.line.proofs.KeyArrays.{has-room, no-room}
 use Rattle.line.proofs.Work.stores.Statement.{statement}
 use Rattle.line.proofs.Work.stores.Tie as tie

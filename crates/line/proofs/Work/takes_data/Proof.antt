@@ -4,7 +4,7 @@ use native.Mathlib.Omega.{arith}
 use borrow.Author.Needs.{needs}
 use borrow.Author.Tests.{eq-eqb, ne-eqb}
 use Rattle.rules.specs.Steps.{takesData}
-use Rattle.rules.proofs.Sizes.{input-word}
+use Rattle.rules.proofs.Numbers.{input-word}
 use Rattle.line.specs.With.{lent}
 use Rattle.line.proofs.InputAppended.{end-is}
 use Rattle.line.proofs.Turns.{then-does, only-does, not-does, still-does}

@@ -6,7 +6,7 @@ use lib.ListN.{length}
 use borrow.Author.Tests.{le-leb, lt-leb}
 use Rattle.rules.specs.Editing.{endOf}
 use Rattle.rules.specs.Steps.{takesToken}
-use Rattle.rules.proofs.Sizes.{input-word, waiting-word}
+use Rattle.rules.proofs.Numbers.{input-word, waiting-word}
 use Rattle.line.specs.View.{readingOf, tokenOf}
 use Rattle.line.specs.With.{lent}
 use Rattle.line.proofs.InputAppended.{end-is}

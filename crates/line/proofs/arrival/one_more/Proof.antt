@@ -1,6 +1,6 @@
 use native.Mathlib.Omega.{arith}
 use borrow.Author.Needs.{needs}
-use Rattle.rules.proofs.Sizes.{top-dropped}
+use Rattle.rules.proofs.Numbers.{top-dropped}
 use Rattle.line.proofs.arrival.one_more.Statement.{statement}
 use Rattle.line.proofs.arrival.one_more.Tie as tie
 

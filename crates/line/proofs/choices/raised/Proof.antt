@@ -4,7 +4,7 @@ use lib.Dec.{leb}
 use borrow.Author.Tests.{leb-true}
 use Rattle.rules.specs.Choice.{within}
 use Rattle.rules.specs.State.{raised}
-use Rattle.rules.proofs.Tests.{pick-true, pick-false, halves}
+use Rattle.rules.proofs.Choice.{pick-true, pick-false, halves}
 use Rattle.line.proofs.choices.raised.Statement.{statement}
 use Rattle.line.proofs.choices.raised.Tie as tie
 

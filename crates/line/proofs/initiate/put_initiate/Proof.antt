@@ -1,7 +1,7 @@
 use mathlib.Core.Path.{ap, sym, _∙_}
 use borrow.Author.Needs.{needs}
 use Rattle.areas.proofs.Putting.{equals, joins}
-use Rattle.rules.proofs.Sizes.{message-size, input-size}
+use Rattle.rules.proofs.Numbers.{message-size, input-size}
 use Rattle.line.proofs.OurInitiate.{parameter, our-bytes}
 use Rattle.line.proofs.initiate.put_initiate.Statement.{statement}
 use Rattle.line.proofs.initiate.put_initiate.Tie as tie

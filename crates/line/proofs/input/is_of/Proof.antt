@@ -1,6 +1,6 @@
 use mathlib.Core.Path.{sym, ap, _∙_}
 use mathlib.Core.Bool.{not}
-use Rattle.rules.proofs.Tests.{pick-true, pick-false}
+use Rattle.rules.proofs.Choice.{pick-true, pick-false}
 use Rattle.line.specs.ReadChanges.{ofClass}
 use Rattle.line.proofs.input.is_of.Statement.{statement}
 use Rattle.line.proofs.input.is_of.Tie as tie

@@ -4,7 +4,7 @@ use native.Mathlib.Omega.{arith}
 use lib.ListN.{length, length-set}
 use Rattle.rules.specs.Numbers.{typeAheadSize}
 use Rattle.line.specs.KeyArray.{shift}
-use Rattle.rules.proofs.Sizes.{type-ahead-size}
+use Rattle.rules.proofs.Numbers.{type-ahead-size}
 use Rattle.line.proofs.KeyArrays.{shift-more}
 use Rattle.line.proofs.keys.drop_first.Statement.{statement}
 use Rattle.line.proofs.keys.drop_first.Tie as tie

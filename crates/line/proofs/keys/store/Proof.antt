@@ -3,7 +3,7 @@ use mathlib.Core.Path.{sym}
 use native.Mathlib.Omega.{arith}
 use lib.ListN.{length}
 use lib.Seq.{set-out}
-use Rattle.rules.proofs.Sizes.{type-ahead-size}
+use Rattle.rules.proofs.Numbers.{type-ahead-size}
 use borrow.Author.Needs.{needs}
 use Rattle.line.proofs.keys.store.Statement.{statement}
 use Rattle.line.proofs.keys.store.Tie as tie

@@ -1,7 +1,7 @@
 use mathlib.Core.Path.{sym, ap₂}
 use mathlib.Core.Bool.{_&&_}
 use lib.Dec.{leb}
-use Rattle.rules.proofs.Sizes.{terminal-area, message-area}
+use Rattle.rules.proofs.Numbers.{terminal-area, message-area}
 use Rattle.line.proofs.refusals.are_roomy.Statement.{statement}
 use Rattle.line.proofs.refusals.are_roomy.Tie as tie
 

@@ -1,6 +1,6 @@
 use mathlib.Core.Path.{sym, _∙_}
 use Rattle.rules.specs.Choice.{firstOf}
-use Rattle.rules.proofs.Tests.{pick-true, pick-false}
+use Rattle.rules.proofs.Choice.{pick-true, pick-false}
 use Rattle.line.specs.Refusals.{firstRow}
 use Rattle.line.proofs.refusals.first_row.Statement.{statement}
 use Rattle.line.proofs.refusals.first_row.Tie as tie

@@ -3,7 +3,7 @@ use mathlib.Core.Bool.{_&&_}
 use lib.Dec.{leb}
 use Rattle.rules.specs.Choice.{within}
 use Rattle.rules.specs.Messages.Codec.{soundLength}
-use Rattle.rules.proofs.Sizes.{message-size}
+use Rattle.rules.proofs.Numbers.{message-size}
 use Rattle.line.proofs.refusals.is_sound_length.Statement.{statement}
 use Rattle.line.proofs.refusals.is_sound_length.Tie as tie
 

@@ -2,7 +2,7 @@ use mathlib.Core.Path.{sym, ap, _∙_}
 use mathlib.Core.Bool.{not, _&&_}
 use lib.Dec.{eqb}
 use Rattle.rules.specs.Calls.{isTimely}
-use Rattle.rules.proofs.Tests.{pick-true, pick-false}
+use Rattle.rules.proofs.Choice.{pick-true, pick-false}
 use Rattle.line.proofs.refusals.is_timely.Statement.{statement}
 use Rattle.line.proofs.refusals.is_timely.Tie as tie
 use Rattle.line.proofs.refusals.is_timely.Reads as reads

@@ -1,7 +1,7 @@
 use mathlib.Core.Path.{sym, ap}
 use mathlib.Core.Bool.{not}
 use Rattle.rules.specs.Choice.{firstOf}
-use Rattle.rules.proofs.Tests.{pick-true, pick-false}
+use Rattle.rules.proofs.Choice.{pick-true, pick-false}
 use Rattle.line.specs.Refusals.{rowOf}
 use Rattle.line.proofs.refusals.row_of.Statement.{statement}
 use Rattle.line.proofs.refusals.row_of.Tie as tie

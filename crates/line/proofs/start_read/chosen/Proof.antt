@@ -1,7 +1,7 @@
 use mathlib.Core.Path.{sym}
 use borrow.Author.Tests.{eq-eqb, ne-eqb}
 use Rattle.rules.specs.StartRead.Acceptance.{chosen}
-use Rattle.rules.proofs.Tests.{pick-true, pick-false}
+use Rattle.rules.proofs.Choice.{pick-true, pick-false}
 use Rattle.line.proofs.start_read.chosen.Statement.{statement}
 use Rattle.line.proofs.start_read.chosen.Tie as tie
 

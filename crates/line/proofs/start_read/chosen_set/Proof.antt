@@ -4,7 +4,7 @@ use native.Mathlib.Omega.{arith}
 use borrow.Author.Needs.{needs}
 use borrow.Author.Tests.{eq-eqb, ne-eqb}
 use Rattle.rules.specs.StartRead.{chosenSet}
-use Rattle.rules.proofs.Tests.{pick-true, pick-false}
+use Rattle.rules.proofs.Choice.{pick-true, pick-false}
 use Rattle.message.specs.Found.{startReadIn}
 use Rattle.line.proofs.start_read.chosen_set.Statement.{statement}
 use Rattle.line.proofs.start_read.chosen_set.Tie as tie

@@ -11,7 +11,7 @@ use Rattle.line.proofs.start_read.data_of.Statement.{statement}
 use Rattle.line.proofs.start_read.data_of.Tie as tie
 use Rattle.line.proofs.start_read.data_of.Reads as reads
 use Rattle.line.proofs.start_read.data_of.Lts as lts
-use Rattle.message.proofs.span_of.Reads as span-of-reads
+use Rattle.fields.proofs.span_of.Reads as span-of-reads
 
 span-of-requires : tie.Need-span-of-requires
 span-of-requires c κs = search needs

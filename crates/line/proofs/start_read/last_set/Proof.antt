@@ -3,13 +3,13 @@ use lib.ListN.{length}
 use native.Mathlib.Omega.{arith}
 use borrow.Author.Needs.{needs}
 use borrow.Author.Tests.{eq-eqb, ne-eqb}
-use Rattle.rules.proofs.Tests.{pick-true, pick-false}
+use Rattle.rules.proofs.Choice.{pick-true, pick-false}
 use Rattle.line.proofs.start_read.last_set.Statement.{statement}
 use Rattle.line.proofs.start_read.last_set.Tie as tie
 use Rattle.line.proofs.start_read.last_set.Reads as reads
 use Rattle.line.proofs.start_read.last_set.Lts as lts
 use Rattle.line.proofs.start_read.set_of.Reads as set-of-reads
-use Rattle.message.proofs.span_of.Reads as span-of-reads
+use Rattle.fields.proofs.span_of.Reads as span-of-reads
 
 span-of-requires : tie.Need-span-of-requires
 span-of-requires c κs = search needs

@@ -11,7 +11,7 @@ use Rattle.line.proofs.start_read.prompt_of.Reads as reads
 use Rattle.line.proofs.start_read.prompt_of.Lts as lts
 use Rattle.line.proofs.start_read.front_of.Reads as front-of-reads
 use Rattle.line.proofs.start_read.hides_lf.Reads as hides-lf-reads
-use Rattle.message.proofs.span_of.Reads as span-of-reads
+use Rattle.fields.proofs.span_of.Reads as span-of-reads
 
 hides-lf-requires : tie.Need-hides-lf-requires
 hides-lf-requires c κs = search needs

@@ -4,7 +4,7 @@ use native.Mathlib.Omega.{arith}
 use lib.ListN.{length, take, length-set}
 use lib.Seq.{sets, take-all}
 use Rattle.rules.specs.Numbers.{inputSize}
-use Rattle.rules.proofs.Sizes.{input-size}
+use Rattle.rules.proofs.Numbers.{input-size}
 use Rattle.line.proofs.StartRead.{put-more}
 use Rattle.line.proofs.start_read.put_text.Statement.{statement}
 use Rattle.line.proofs.start_read.put_text.Tie as tie

@@ -1,7 +1,7 @@
 use mathlib.Core.Path.{refl}
 use native.Mathlib.Omega.{arith}
 use borrow.Author.Needs.{needs}
-use Rattle.characteristics.specs.View.{setOf}
+use Rattle.sets.specs.View.{setOf}
 use Rattle.line.proofs.StartRead.{copied, copied-length}
 use Rattle.line.proofs.start_read.set_of.Statement.{statement}
 use Rattle.line.proofs.start_read.set_of.Tie as tie

@@ -1,7 +1,7 @@
 use mathlib.Core.Path.{sym, _∙_}
 use Rattle.rules.specs.Choice.{within}
 use Rattle.rules.specs.Token.{next}
-use Rattle.rules.proofs.Tests.{pick-true, pick-false}
+use Rattle.rules.proofs.Choice.{pick-true, pick-false}
 use Rattle.line.specs.TokenChanges.{placeOf}
 use Rattle.line.proofs.tokens.after_parameter.Statement.{statement}
 use Rattle.line.proofs.tokens.after_parameter.Tie as tie

@@ -1,6 +1,6 @@
 use mathlib.Core.Path.{sym, _∙_}
 use Rattle.rules.specs.Choice.{within}
-use Rattle.rules.proofs.Tests.{pick-true, pick-false}
+use Rattle.rules.proofs.Choice.{pick-true, pick-false}
 use Rattle.line.specs.TokenChanges.{placeOf}
 use Rattle.line.proofs.tokens.ended.Statement.{statement}
 use Rattle.line.proofs.tokens.ended.Tie as tie

@@ -1,7 +1,7 @@
 use mathlib.Core.Path.{refl}
 use Rattle.rules.specs.Messages.Layout.{sizeOf}
 use Rattle.rules.specs.Messages.Forms.{forms, formOf}
-use Rattle.message.specs.Found.{heldIn, placesOf}
+use Rattle.message.specs.Found.{heldIn, spanListOf}
 use Rattle.message.proofs.Heads.{no-more, none-first}
 use Rattle.message.proofs.Decoding.{isFree, fixed-refused, fixed-sound}
 use Rattle.message.proofs.fixed.decode_check_input.Statement.{statement}
@@ -12,7 +12,7 @@ unfolding formOf forms sizeOf
 returns c = fixed-refused 12 (c .before .args .s .now) refl (c .if1 .taken)
 
 returns-2 : tie.Need-returns-2
-unfolding heldIn placesOf formOf forms sizeOf isFree
+unfolding heldIn spanListOf formOf forms sizeOf isFree
 returns-2 c =
     let a = c .before in
     fixed-sound 12 (a .args .s .now) refl (a .pre .typed) refl (c .if1 .left)

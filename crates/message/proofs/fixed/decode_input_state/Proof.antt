@@ -2,7 +2,7 @@ use mathlib.Core.Path.{refl}
 use borrow.Author.Needs.{needs}
 use Rattle.rules.specs.Messages.Layout.{sizeOf}
 use Rattle.rules.specs.Messages.Forms.{forms, formOf}
-use Rattle.message.specs.Found.{heldIn, placesOf}
+use Rattle.message.specs.Found.{heldIn, spanListOf}
 use Rattle.message.proofs.Heads.{no-more, bit-first}
 use Rattle.message.proofs.Decoding.{isFree, fixed-refused, fixed-sound}
 use Rattle.message.proofs.fixed.decode_input_state.Statement.{statement}
@@ -16,7 +16,7 @@ byte-at-requires : tie.Need-byte-at-requires
 byte-at-requires c κs = search needs
 
 returns-2 : tie.Need-returns-2
-unfolding heldIn placesOf formOf forms sizeOf isFree
+unfolding heldIn spanListOf formOf forms sizeOf isFree
 returns-2 c =
     let a = c .before .before .before in
     fixed-sound 14 (a .args .s .now) refl (a .pre .typed) refl (c .before .if1 .left)

@@ -3,7 +3,7 @@ use native.Mathlib.Omega.{arith}
 use borrow.Author.Needs.{needs}
 use Rattle.rules.specs.Messages.Layout.{sizeOf}
 use Rattle.rules.specs.Messages.Forms.{forms, formOf}
-use Rattle.message.specs.Found.{heldIn, placesOf}
+use Rattle.message.specs.Found.{heldIn, spanListOf}
 use Rattle.message.proofs.Heads.{no-more, bit-first, word-first}
 use Rattle.message.proofs.Decoding.{isFree, fixed-refused, fixed-sound}
 use Rattle.message.proofs.fixed.decode_write_completion.Statement.{statement}
@@ -23,7 +23,7 @@ word-at-requires-2 : tie.Need-word-at-requires-2
 word-at-requires-2 c κs = search needs
 
 returns-2 : tie.Need-returns-2
-unfolding heldIn placesOf formOf forms sizeOf isFree
+unfolding heldIn spanListOf formOf forms sizeOf isFree
 returns-2 c =
     let a = c .before .before .before .before .before in
     fixed-sound 8 (a .args .s .now) refl (a .pre .typed) refl (c .before .before .before .if1 .left)

@@ -14,14 +14,14 @@ returns : tie.Need-returns
 unfolding formOf forms sizeOf
 returns c = head-cut 1 (c .before .before .args .s .now) (c .if1 .taken)
 
-whole-list-requires : tie.Need-whole-list-requires
-whole-list-requires c κs = search needs
+is-sound-list-requires : tie.Need-is-sound-list-requires
+is-sound-list-requires c κs = search needs
 
 returns-2 : tie.Need-returns-2
 unfolding formOf forms sizeOf behindHead wholeTail soundFrom shapeOf pick
 returns-2 c =
     let b = c .before in
-    tail-unsound 1 (b .before .before .before .args .s .now) (sym (b .whole-list .ensures) ∙ not-true _ (c .if2 .taken))
+    tail-unsound 1 (b .before .before .before .args .s .now) (sym (b .is-sound-list .ensures) ∙ not-true _ (c .if2 .taken))
 
 initiate-fields-requires : tie.Need-initiate-fields-requires
 initiate-fields-requires c κs = search needs
@@ -33,8 +33,8 @@ returns-3 c =
     let a = b .before .before .before in
     let s = a .args .s .now in
     decodes-sound 1 s (c .initiate-fields .ensures) (b .before .if1 .left)
-    (sym (b .whole-list .ensures) ∙ not-false _ (c .before .if2 .left)) (free-defined 1 s (a .pre .typed) refl)
+    (sym (b .is-sound-list .ensures) ∙ not-false _ (c .before .if2 .left)) (free-defined 1 s (a .pre .typed) refl)
 
 pub decode-initiate-spec : {M : Type 1} → statement M
 decode-initiate-spec =
-    tie.close (tie.spec returns whole-list-requires returns-2 initiate-fields-requires returns-3)
+    tie.close (tie.spec returns is-sound-list-requires returns-2 initiate-fields-requires returns-3)

@@ -6,8 +6,9 @@ use Rattle.rules.specs.Choice.{allAre}
 use Rattle.rules.specs.Messages.Layout.{sizeOf}
 use Rattle.rules.specs.Messages.Parameters.{initiation}
 use Rattle.rules.specs.Messages.Forms.{forms, formOf}
-use Rattle.rules.proofs.Tests.{both}
-use Rattle.message.specs.Found.{spanOf, heldIn, placesOf}
+use Rattle.rules.proofs.Choice.{both}
+use Rattle.fields.specs.Spans.{spanOf}
+use Rattle.message.specs.Found.{heldIn, spanListOf}
 use Rattle.message.proofs.Heads.{none-first, byte-first, bytes-run}
 use Rattle.message.proofs.Decoding.{rest-lies, list-fields}
 use Rattle.message.proofs.listed.initiate_fields.Statement.{statement}
@@ -26,7 +27,7 @@ rest-from-requires : tie.Need-rest-from-requires
 rest-from-requires c κs = search needs
 
 returns : tie.Need-returns
-unfolding spanOf heldIn placesOf allAre formOf forms sizeOf
+unfolding spanOf heldIn spanListOf allAre formOf forms sizeOf
 returns c =
     let b = c .before .before .before .before in
     let a = b .before in

@@ -3,8 +3,8 @@ use Prim.Native.Nat.{_-_}
 use native.Mathlib.Omega.{arith}
 use lib.ListN.{length}
 use borrow.Author.Needs.{needs}
-use Rattle.rules.proofs.Sizes.{message-word}
-use Rattle.message.specs.Found.{spanOf}
+use Rattle.rules.proofs.Numbers.{message-word}
+use Rattle.fields.specs.Spans.{spanOf}
 use Rattle.fields.proofs.Pieces.{all-behind}
 use Rattle.message.proofs.spans.rest_from.Statement.{statement}
 use Rattle.message.proofs.spans.rest_from.Tie as tie

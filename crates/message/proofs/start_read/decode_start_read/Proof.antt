@@ -33,8 +33,8 @@ returns-2 c =
 start-read-fields-requires : tie.Need-start-read-fields-requires
 start-read-fields-requires c κs = search needs
 
-start-read-test-requires : tie.Need-start-read-test-requires
-start-read-test-requires c κs = search needs
+is-sound-start-read-requires : tie.Need-is-sound-start-read-requires
+is-sound-start-read-requires c κs = search needs
 
 returns-3 : tie.Need-returns-3
 unfolding heldIn formOf forms sizeOf startReadIn definedFields pick
@@ -44,7 +44,7 @@ returns-3 c =
     let s = d .before .before .before .args .s .now in
     let is = b .start-read-fields .ensures in
     decodes-sound 2 s (is .read) (d .before .if1 .left) (whole-set s (d .byte-at .ensures) ∙ not-false _ (b .before .if2 .left))
-    (defined-as 2 s (is .read .fields) (sym (c .before .start-read-test .ensures s (is .long)) ∙ c .if3 .taken))
+    (defined-as 2 s (is .read .fields) (sym (c .before .is-sound-start-read .ensures s (is .long)) ∙ c .if3 .taken))
 
 returns-4 : tie.Need-returns-4
 unfolding heldIn startReadIn definedFields pick
@@ -52,7 +52,7 @@ returns-4 c =
     let b = c .before .before in
     let s = b .before .before .before .before .before .args .s .now in
     let is = b .start-read-fields .ensures in
-    field-undefined 2 s (defined-as 2 s (is .read .fields) (sym (c .before .start-read-test .ensures s (is .long)) ∙ c .if3 .left))
+    field-undefined 2 s (defined-as 2 s (is .read .fields) (sym (c .before .is-sound-start-read .ensures s (is .long)) ∙ c .if3 .left))
 
 pub decode-start-read-spec : {M : Type 1} → statement M
 decode-start-read-spec =
@@ -64,6 +64,6 @@ decode-start-read-spec =
     cast-count
     returns-2
     start-read-fields-requires
-    start-read-test-requires
+    is-sound-start-read-requires
     returns-3
     returns-4)

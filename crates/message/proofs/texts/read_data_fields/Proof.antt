@@ -5,8 +5,8 @@ use borrow.Author.Needs.{needs}
 use Rattle.rules.specs.Choice.{allAre}
 use Rattle.rules.specs.Messages.Layout.{sizeOf, fieldsIn}
 use Rattle.rules.specs.Messages.Forms.{forms, formOf}
-use Rattle.rules.proofs.Tests.{both}
-use Rattle.message.specs.Found.{heldIn, placesOf}
+use Rattle.rules.proofs.Choice.{both}
+use Rattle.message.specs.Found.{heldIn, spanListOf}
 use Rattle.message.proofs.Heads.{no-more, bits-first, byte-first, word-first}
 use Rattle.message.proofs.Decoding.{rest-lies, text-fields}
 use Rattle.message.proofs.texts.read_data_fields.Statement.{statement}
@@ -31,7 +31,7 @@ rest-from-requires : tie.Need-rest-from-requires
 rest-from-requires c κs = search needs
 
 returns : tie.Need-returns
-unfolding heldIn placesOf allAre formOf forms sizeOf fieldsIn
+unfolding heldIn spanListOf allAre formOf forms sizeOf fieldsIn
 returns c =
     let b = c .before .before .before .before .before in
     let a = b .before .before in

@@ -4,8 +4,8 @@ use borrow.Author.Needs.{needs}
 use Rattle.rules.specs.Choice.{allAre}
 use Rattle.rules.specs.Messages.Layout.{sizeOf, fieldsIn}
 use Rattle.rules.specs.Messages.Forms.{forms, formOf, writeWidths}
-use Rattle.rules.proofs.Tests.{both}
-use Rattle.message.specs.Found.{heldIn, placesOf}
+use Rattle.rules.proofs.Choice.{both}
+use Rattle.message.specs.Found.{heldIn, spanListOf}
 use Rattle.message.proofs.Heads.{no-more, flags-first, byte-first}
 use Rattle.message.proofs.Decoding.{rest-lies, text-fields}
 use Rattle.message.proofs.texts.write_fields.Statement.{statement}
@@ -51,7 +51,7 @@ cast-t31 : tie.Need-cast-t31
 cast-t31 c = search needs
 
 returns : tie.Need-returns
-unfolding heldIn placesOf allAre formOf forms sizeOf fieldsIn
+unfolding heldIn spanListOf allAre formOf forms sizeOf fieldsIn
 returns c =
     let b = c .before .before .before in
     let a = b .before .before in

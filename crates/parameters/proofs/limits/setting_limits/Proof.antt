@@ -3,7 +3,7 @@ use mathlib.Core.List.{[], _∷_}
 use borrow.Author.Needs.{needs}
 use borrow.Author.Tests.{eq-eqb, ne-eqb}
 use Rattle.rules.specs.Messages.Parameters.{valueLimits}
-use Rattle.rules.proofs.Tests.{pick-true, pick-false}
+use Rattle.rules.proofs.Choice.{pick-true, pick-false}
 use Rattle.parameters.proofs.Shapes.{limits-are}
 use Rattle.parameters.proofs.limits.setting_limits.Statement.{statement}
 use Rattle.parameters.proofs.limits.setting_limits.Tie as tie

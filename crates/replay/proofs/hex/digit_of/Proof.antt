@@ -1,7 +1,7 @@
 use mathlib.Core.Path.{sym}
 use borrow.Author.Needs.{needs}
 use borrow.Author.Tests.{lt-ltb, le-ltb}
-use Rattle.rules.proofs.Tests.{pick-true, pick-false}
+use Rattle.rules.proofs.Choice.{pick-true, pick-false}
 use Rattle.replay.specs.Digits.{digitOf}
 use Rattle.replay.proofs.hex.digit_of.Statement.{statement}
 use Rattle.replay.proofs.hex.digit_of.Tie as tie

@@ -1,7 +1,7 @@
 use mathlib.Core.Path.{sym, _∙_}
 use native.Mathlib.Omega.{arith}
 use borrow.Author.Needs.{needs}
-use Rattle.rules.proofs.Tests.{within-bounds, pick-true, pick-false}
+use Rattle.rules.proofs.Choice.{within-bounds, pick-true, pick-false}
 use Rattle.replay.specs.Digits.{valueOf}
 use Rattle.replay.proofs.hex.value_of.Statement.{statement}
 use Rattle.replay.proofs.hex.value_of.Tie as tie

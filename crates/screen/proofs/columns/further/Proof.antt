@@ -1,6 +1,6 @@
 use native.Mathlib.Omega.{arith}
 use borrow.Author.Needs.{needs}
-use Rattle.rules.proofs.Sizes.{top-column}
+use Rattle.rules.proofs.Numbers.{top-column}
 use Rattle.screen.proofs.columns.further.Statement.{statement}
 use Rattle.screen.proofs.columns.further.Tie as tie
 

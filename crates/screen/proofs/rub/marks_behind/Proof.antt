@@ -5,14 +5,14 @@ use mathlib.Core.Logic.{⊎-elim}
 use lib.ListN.{length, take}
 use lib.Seq.{take-all}
 use Rattle.rules.specs.Screen.{columnAfterAll, echoAll, marksBehind}
-use Rattle.screen.specs.View.{counted}
+use Rattle.screen.specs.View.{capped}
 use Rattle.screen.proofs.Marks.{reached, marks-none, column-turn, marks-turn, kept-turn}
 use Rattle.screen.proofs.rub.marks_behind.Statement.{statement}
 use Rattle.screen.proofs.rub.marks_behind.Tie as tie
 
 abbrev Inv-loop : tie.InvT-loop
 Inv-loop kept column text cursor₀ marks₀ i₀ cursor marks i =
-    (i ≤ length text) × (cursor ≡ reached column (take i text)) × (marks ≡ counted (marksBehind kept column (take i text)))
+    (i ≤ length text) × (cursor ≡ reached column (take i text)) × (marks ≡ capped (marksBehind kept column (take i text)))
 
 abbrev μ-loop : tie.MeasureT-loop
 μ-loop kept column text cursor₀ marks₀ i₀ cursor marks i = length text - i
@@ -64,7 +64,7 @@ returns c =
     let a = c .before in
     let args = a .before .before .args in
     a .loop .inv .2
-    ∙ ap (λ l. counted (marksBehind (args .kept) (args .column) l)) (take-all _ _ (c .loop-test .left))
+    ∙ ap (λ l. capped (marksBehind (args .kept) (args .column) l)) (take-all _ _ (c .loop-test .left))
 
 pub marks-behind-spec : {M : Type 1} → statement M
 marks-behind-spec =

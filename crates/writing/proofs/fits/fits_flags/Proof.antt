@@ -1,7 +1,7 @@
 use native.Mathlib.Omega.{arith}
 use mathlib.Core.Path.{refl}
 use lib.Dec.{ltb}
-use Rattle.rules.proofs.Tests.{both}
+use Rattle.rules.proofs.Choice.{both}
 use Rattle.writing.proofs.Fitting.{twelve}
 use borrow.Author.Tests.{lt-ltb}
 use Rattle.rules.specs.Messages.Layout.{widthsOf, fits}

@@ -1,7 +1,7 @@
 use mathlib.Core.Path.{sym, ap, _∙_}
 use borrow.Author.Tests.{eq-eqb, ne-eqb}
 use Rattle.rules.specs.Choice.{joined}
-use Rattle.rules.proofs.Tests.{pick-true, pick-false}
+use Rattle.rules.proofs.Choice.{pick-true, pick-false}
 use Rattle.parameters.specs.Lists.{soundFrom, parametersFrom}
 use Rattle.areas.proofs.Putting.{equals}
 use Rattle.writing.specs.Spans.{listBytes}
