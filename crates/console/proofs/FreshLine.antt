@@ -42,7 +42,7 @@ module _ (keys text : List ℕ) (set : Set) (terms : Terms) (flow : Flow) where
           host = record { initiated = false; switches = freshSwitches; attributes = replicate 256 0; lastSet = universal-set .0 i };
           terminal = f .terminal i;
           typed = record { typeAhead = keysOf (f .keysLength i) keys; token = take (f .token i) (flow .typed .token) };
-          read = pendingOf (f .pending i) (readingOf lineOf (flow .reading));
+          pendingRead = pendingOf (f .pending i) (readingOf lineOf (flow .reading));
         }
 
     pub is-fresh : length keys ≡ typeAheadSize → length text ≡ inputSize → terms .«prompt_len» ≡ 0 → IsFresh lineOf

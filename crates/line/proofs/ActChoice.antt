@@ -60,10 +60,10 @@ module _ {s : List ℕ} {l : Line} {a : Act} where
 
   -- A rule that looks whether a read is pending.
   module _ (F : Option (rules.Reading ℕ) → Rule ℕ) where
-    pub meets-pending : l .flow .pending ≡ true → Meets (F (some (readingOf l (l .flow .reading)))) s l a → Meets (λ v. F (v .read) v) s l a
+    pub meets-pending : l .flow .pending ≡ true → Meets (F (some (readingOf l (l .flow .reading)))) s l a → Meets (λ v. F (v .pendingRead) v) s l a
     meets-pending e h = meets-as (ap (λ p. F (pendingOf p (readingOf l (l .flow .reading))) (view l)) e) h
 
-    pub meets-none : l .flow .pending ≡ false → Meets (F none) s l a → Meets (λ v. F (v .read) v) s l a
+    pub meets-none : l .flow .pending ≡ false → Meets (F none) s l a → Meets (λ v. F (v .pendingRead) v) s l a
     meets-none e h = meets-as (ap (λ p. F (pendingOf p (readingOf l (l .flow .reading))) (view l)) e) h
 
   -- what became of keys is not seen

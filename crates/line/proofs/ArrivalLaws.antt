@@ -66,7 +66,7 @@ module _ (w : Work) (c : CountedFlow (w .flow)) (room : w .flow .typed .«keys_l
         host = view l .host;
         terminal = terminalOf (f .terminal);
         typed = record { typeAhead = stored-keys (f .typed .«keys_len») k (l .keys) (omega arith) i; token = tokenOf (f .typed) };
-        read = rest-view (f .pending) l (f .reading) i;
+        pendingRead = rest-view (f .pending) l (f .reading) i;
       })
       refl refl
 

@@ -34,7 +34,7 @@ prompt-length n text h e = let long = length-drop (inputSize - n) text in omega 
 pub pending-room : (l : Line) → Bounded l → l .flow .pending ≡ true → HasRoom (l .terms) (l .flow .reading)
 pending-room l b e =
     let r = l .flow .reading in
-    let read = rw e at (b .state .read) in
+    let read = rw e at (b .state .pendingRead) in
     let counted = b .counted in
     let full : CountedReading r (l .text) = record { within = counted .flow .within; full = counted .text } in
     let end = end-is (l .terms) (l .text) l r full in

@@ -27,7 +27,7 @@ module _ (w : Progress) (condition : ℕ) where
   reading = readingOf (w .line) (w .line .flow .reading)
 
   -- whether a read is pending
-  while : {p : Bool} → w .line .flow .pending ≡ p → unreadsWhile codes (view (w .line) .read) asked (view (w .line)) ≡ unreadsWhile codes (pendingOf p reading) asked (view (w .line))
+  while : {p : Bool} → w .line .flow .pending ≡ p → unreadsWhile codes (view (w .line) .pendingRead) asked (view (w .line)) ≡ unreadsWhile codes (pendingOf p reading) asked (view (w .line))
   while e = ap (λ p. unreadsWhile codes (pendingOf p reading) asked (view (w .line))) e
 
   pub unreads-none : (t m : List ℕ) → w .line .flow .pending ≡ false → Does (unreads codes asked) w t m w t m

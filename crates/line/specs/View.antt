@@ -93,5 +93,5 @@ view l =
       host = hostOf l;
       terminal = terminalOf (l .flow .terminal);
       typed = typedOf (l .keys) (l .flow .typed);
-      read = pendingOf (l .flow .pending) (readingOf l (l .flow .reading));
+      pendingRead = pendingOf (l .flow .pending) (readingOf l (l .flow .reading));
     }

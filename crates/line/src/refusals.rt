@@ -99,7 +99,7 @@ fn first_row(roomy: bool, sized: bool, hosts: bool, timely: bool) -> u8
 
 // First Initiate, and only once; Start Read with no read pending.
 fn is_timely(kind: u8, initiated: bool, pending: bool) -> bool
-    ensures { λ r. ⌜ ((s : State ℕ) → initiated ≡ s .host .initiated → pending ≡ isPending (s .read) → r ≡ rules.isTimely kind s) ⌝ }
+    ensures { λ r. ⌜ ((s : State ℕ) → initiated ≡ s .host .initiated → pending ≡ isPending (s .pendingRead) → r ≡ rules.isTimely kind s) ⌝ }
 {
     if initiated {
         return (kind != rules::INITIATE) & !((kind == rules::START_READ) & pending);
@@ -115,7 +115,7 @@ pub(crate) fn early_row(
     initiated: bool,
     pending: bool,
 ) -> u8
-    ensures { λ r. ⌜ ((x : State ℕ) → initiated ≡ x .host .initiated → pending ≡ isPending (x .read) → r ≡ earlyRow terminal messages (now (s .entry)) x) ⌝ }
+    ensures { λ r. ⌜ ((x : State ℕ) → initiated ≡ x .host .initiated → pending ≡ isPending (x .pendingRead) → r ≡ earlyRow terminal messages (now (s .entry)) x) ⌝ }
 {
     let roomy = are_roomy(terminal, messages);
     let sized = is_sound_length(s.len());

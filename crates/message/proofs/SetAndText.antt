@@ -87,7 +87,7 @@ module _ (s : List ℕ) {count : ℕ} (counted : count ≡ byteAt s 16) where
         let text = ap (spanOf s) (are .text-kept) ∙ text-behind in
         let size = length-drop (17 + count) s in
         record {
-          read = record {
+          found = record {
             fields =
                 ap message
                 ((λ i. record {

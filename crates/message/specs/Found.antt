@@ -171,5 +171,5 @@ pub record FlagsAre (s : List ℕ) (set text : Span) (f : StartReadFields) : Typ
 
 -- the fields of a Start Read
 pub record StartReadIs (s : List ℕ) (f : StartReadFields) : Type 0 where
-  pub read : FieldsIn forms.startRead s (StartRead f)
+  pub found : FieldsIn forms.startRead s (StartRead f)
   pub long : length (spanOf s (f .text)) ≡ f .text .len

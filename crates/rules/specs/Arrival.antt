@@ -49,7 +49,7 @@ module _ {C : Type 0} where
   unfoldable pub keeps : Bool → C → Rule C
   keeps quoted c =
       changes (λ s.
-      withRead (idleAgain (s .read))
+      withRead (idleAgain (s .pendingRead))
       (withTyped (s .typed .typeAhead ++ record { char = c; quoted = quoted } ∷ []) (s .typed .token) s))
 
   -- one more dropped, up to where the count stops
@@ -104,7 +104,7 @@ module _ {C : Type 0} (chars : Characters C) where
 
   -- The clear rule: empty type-ahead, drop held and partial tokens, delete the pending read's input as 21 does.
   unfoldable pub clearRule : Rubbing → Rule C
-  clearRule rubbing = emptiesTyped then here (λ s. clearsInput rubbing (s .read))
+  clearRule rubbing = emptiesTyped then here (λ s. clearsInput rubbing (s .pendingRead))
 
   -- rule 3, code 24
   unfoldable pub clearsBy : C → Rule C
@@ -122,7 +122,7 @@ module _ {C : Type 0} (chars : Characters C) where
 
   unfoldable pub clearsAtOnce : C → Rule C
   clearsAtOnce c =
-      sendsOutOfBand c then clearRule withoutRubbing then here (λ s. endsOutOfBand (s .read))
+      sendsOutOfBand c then clearRule withoutRubbing then here (λ s. endsOutOfBand (s .pendingRead))
 
   -- rule 3, then 4
   unfoldable pub controlled : C → Rule C
@@ -142,7 +142,7 @@ module _ {C : Type 0} (chars : Characters C) where
       pick (s .terminal .quoting) (storesQuoted c)
       (pick (isHello (attributeOf c s)) (sendsOutOfBand c)
       (pick (isImmediateClear (attributeOf c s)) (clearsAtOnce c)
-      (pick (areControlsOff (s .read)) (stores typeAheadSize false c)
+      (pick (areControlsOff (s .pendingRead)) (stores typeAheadSize false c)
       (controlled c)))))
 
   -- before Initiate only rule 4 applies

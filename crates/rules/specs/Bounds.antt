@@ -65,7 +65,7 @@ pub record Bounded (s : State ℕ) : Type 0 where
   pub host : BoundedHost (s .host)
   pub terminal : BoundedTerminal (s .terminal)
   pub typed : BoundedTyped (s .typed)
-  pub read : BoundedRead (s .read)
+  pub pendingRead : BoundedRead (s .pendingRead)
 
 -- a call's key and bytes are bytes
 unfoldable pub isByteEvent : Event ℕ → Bool

@@ -91,7 +91,7 @@ module _ {C : Type 0} where
   unfoldable pub isTimely : ℕ → State C → Bool
   isTimely kind s =
       pick (s .host .initiated)
-      (not (eqb kind forms.initiate) && not (eqb kind forms.startRead && isPending (s .read)))
+      (not (eqb kind forms.initiate) && not (eqb kind forms.startRead && isPending (s .pendingRead)))
       (eqb kind forms.initiate)
 
   -- 6: a Read Characteristics whose answer and its length pass the message area

@@ -107,4 +107,4 @@ module _ {C : Type 0} (chars : Characters C) where
       (completes byUnread noEnding r))
 
   unfoldable pub unreads : Message ℕ → Rule C
-  unreads m = here (λ s. unreadsWhile (s .read) m)
+  unreads m = here (λ s. unreadsWhile (s .pendingRead) m)

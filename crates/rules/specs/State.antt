@@ -110,7 +110,7 @@ pub record State (C : Type 0) : Type 0 where
   pub host : Host
   pub terminal : Terminal
   pub typed : Typed C
-  pub read : Option (Reading C)
+  pub pendingRead : Option (Reading C)
 
 -- A fresh line.
 unfoldable pub freshSwitches : Switches
@@ -124,7 +124,7 @@ freshTerminal =
     record { screen = record { column = 0; line = 0; afterCR = false }; discarding = false; quoting = false; dropped = 0 }
 
 unfoldable pub fresh : {C : Type 0} → State C
-fresh = record { host = freshHost; terminal = freshTerminal; typed = record { typeAhead = []; token = [] }; read = none }
+fresh = record { host = freshHost; terminal = freshTerminal; typed = record { typeAhead = []; token = [] }; pendingRead = none }
 
 -- One part changed.
 abbrev pub withSwitches : Switches → Host → Host
@@ -141,20 +141,20 @@ withInitiated x h = record { initiated = x; switches = h .switches; attributes =
 
 module _ {C : Type 0} where
   abbrev pub withHost : Host → State C → State C
-  withHost x s = record { host = x; terminal = s .terminal; typed = s .typed; read = s .read }
+  withHost x s = record { host = x; terminal = s .terminal; typed = s .typed; pendingRead = s .pendingRead }
 
   abbrev pub withTerminal : Terminal → State C → State C
-  withTerminal x s = record { host = s .host; terminal = x; typed = s .typed; read = s .read }
+  withTerminal x s = record { host = s .host; terminal = x; typed = s .typed; pendingRead = s .pendingRead }
 
   abbrev pub withTyped : List (Key C) → List C → State C → State C
   withTyped keys token s =
-      record { host = s .host; terminal = s .terminal; typed = record { typeAhead = keys; token = token }; read = s .read }
+      record { host = s .host; terminal = s .terminal; typed = record { typeAhead = keys; token = token }; pendingRead = s .pendingRead }
 
   abbrev pub withToken : List C → State C → State C
   withToken token s = withTyped (s .typed .typeAhead) token s
 
   abbrev pub withRead : Option (Reading C) → State C → State C
-  withRead x s = record { host = s .host; terminal = s .terminal; typed = s .typed; read = x }
+  withRead x s = record { host = s .host; terminal = s .terminal; typed = s .typed; pendingRead = x }
 
 abbrev pub withScreen : Screen → Terminal → Terminal
 withScreen x t = record { screen = x; discarding = t .discarding; quoting = t .quoting; dropped = t .dropped }

@@ -142,7 +142,7 @@ module _ {C : Type 0} (chars : Characters C) where
   stepsWhile (some r) = here (λ s. pick (isWhole (tokenCodes chars s)) (takesToken r) (takesFirst (s .typed .typeAhead) r))
 
   unfoldable pub steps : Rule C
-  steps = here (λ s. stepsWhile (s .read))
+  steps = here (λ s. stepsWhile (s .pendingRead))
 
   -- Tick: idle rises by one; at TIMEOUT the read completes
   unfoldable pub idles : Reading C → Rule C
@@ -160,4 +160,4 @@ module _ {C : Type 0} (chars : Characters C) where
       (idles r))
 
   unfoldable pub ticks : Rule C
-  ticks = here (λ s. ticksWhile (s .read))
+  ticks = here (λ s. ticksWhile (s .pendingRead))

@@ -46,7 +46,7 @@ module _ {area : ℕ} {s : State ℕ} (c : ℕ) (byte : c < 256) (h : Steady Bou
         keyBytes = rw map-append (bytes-append _ (c ∷ []) (h .typed .keyBytes) (one-byte c byte));
         tokenBytes = h .typed .tokenBytes;
       }))
-      (idleAgain (s .read)) (idleAgain-bounded (s .read) (h .read)))
+      (idleAgain (s .pendingRead)) (idleAgain-bounded (s .pendingRead) (h .pendingRead)))
 
   drops-good : Good BoundedRead 1 area (drops c s)
   unfolding drops countsDropped
@@ -102,7 +102,7 @@ module _ {s : State ℕ} (h : Steady BoundedRead s) where
 module _ {s : State ℕ} (h : Steady BoundedRead s) where
   clearRule-good : {area : ℕ} (rubbing : Rubbing) → Good BoundedRead (rubbed rubbing) area (clearRule codes rubbing s)
   unfolding clearRule
-  clearRule-good rubbing = quiet-then _ _ (emptiesTyped-good h) λ s₁ h₁. clearsInput-good h₁ rubbing (s₁ .read) (h₁ .read)
+  clearRule-good rubbing = quiet-then _ _ (emptiesTyped-good h) λ s₁ h₁. clearsInput-good h₁ rubbing (s₁ .pendingRead) (h₁ .pendingRead)
 
 module _ {s : State ℕ} (h : Steady BoundedRead s) where
   pub clearRule-fine : Fine (clearRule codes rubbingOut s)
@@ -119,7 +119,7 @@ module _ {s : State ℕ} (h : Steady BoundedRead s) where
         fine 0 (inputSize + 15) (omega arith) (omega arith)
         (then-good _ _ 0 0 5 (10 + inputSize) (omega arith) (omega arith) sendsOutOfBand-good λ s₁ h₁.
         quiet-then _ _ (clearRule-good h₁ withoutRubbing) λ s₂ h₂.
-        endsOutOfBand-good h₂ (s₂ .read) (h₂ .read))
+        endsOutOfBand-good h₂ (s₂ .pendingRead) (h₂ .pendingRead))
 
     stores-fine : (quoted : Bool) → Fine (stores typeAheadSize quoted c s)
     stores-fine quoted = fine 1 0 (omega arith) (omega arith) (stores-good c byte h quoted)

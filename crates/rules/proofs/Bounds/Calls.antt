@@ -29,11 +29,11 @@ fresh-bounded =
       host = record { table = refl; attributes = refl; setLength = omega arith; setBytes = refl };
       terminal = record { column = omega arith; line = omega arith; dropped = omega arith };
       typed = record { typeAhead = omega arith; token = omega arith; keyBytes = refl; tokenBytes = refl };
-      read = tt;
+      pendingRead = tt;
     }
 
 steady : {s : State ℕ} → Bounded s → Steady BoundedRead s
-steady b = record { host = b .host; terminal = b .terminal; typed = b .typed; read = b .read }
+steady b = record { host = b .host; terminal = b .terminal; typed = b .typed; pendingRead = b .pendingRead }
 
 -- a fine turn is what a call may leave and write
 fine-within : (a : Answer ℕ) → Fine (a .turn) → Within a
@@ -41,7 +41,7 @@ unfolding messageBytes
 fine-within a g =
     let h = g .state in
     record {
-      state = record { host = h .host; terminal = h .terminal; typed = h .typed; read = h .read };
+      state = record { host = h .host; terminal = h .terminal; typed = h .typed; pendingRead = h .pendingRead };
       terminal = g .terminal;
       messages = g .messages;
       meant = area-meant (a .turn .messages) (g .fit) (g .messages);

@@ -65,7 +65,7 @@ module _ {s : State ℕ} (h : Steady BoundedRead s) where
   obeys-fine m sent carried =
       pick-good _ _ _ (λ y. initiates-fine) λ n.
       pick-good _ _ _ (λ y. startsRead-fine m (accepted-start-read m (eqb-true (m .kind) startRead y) (sym (pick-true _ _ y) ∙ carried) (sent .fit)) h) λ no-start.
-      pick-good _ _ _ (λ y. unreadsWhile-fine (s .read) m (h .read)) λ n.
+      pick-good _ _ _ (λ y. unreadsWhile-fine (s .pendingRead) m (h .pendingRead)) λ n.
       pick-good _ _ _ (λ y. clearRule-fine h) λ n.
       pick-good _ _ _ (λ y. writesOut-fine m (write-text m (eqb-true (m .kind) write y) sent)) λ no-write.
       pick-good _ _ _

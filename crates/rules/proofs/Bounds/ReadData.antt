@@ -68,4 +68,4 @@ pub completes-full : {bytes : ℕ} {s : State ℕ} (full : Bool) (r : Reading �
     Good BoundedRead bytes (10 + inputSize) (only full (completes codes byFullBuffer 0 r) s)
 completes-full full r a h =
     only-good full _ (λ y. completes-good byFullBuffer 0 r (omega arith) a h) λ n.
-    record { host = h .host; terminal = h .terminal; typed = h .typed; read = h .read n }
+    record { host = h .host; terminal = h .terminal; typed = h .typed; pendingRead = h .pendingRead n }

@@ -211,8 +211,8 @@ module _ {s : State ℕ} (h : Steady BoundedRead s) where
 
   pub steps-fine : Fine (steps codes s)
   unfolding steps
-  steps-fine = stepsWhile-fine (s .read) (h .read)
+  steps-fine = stepsWhile-fine (s .pendingRead) (h .pendingRead)
 
   pub ticks-fine : Fine (ticks codes s)
   unfolding ticks
-  ticks-fine = ticksWhile-fine (s .read) (h .read)
+  ticks-fine = ticksWhile-fine (s .pendingRead) (h .pendingRead)

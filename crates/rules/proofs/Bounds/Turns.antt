@@ -27,7 +27,7 @@ pub record Steady (R : OfRead) (s : State ℕ) : Type 0 where
   pub host : BoundedHost (s .host)
   pub terminal : BoundedTerminal (s .terminal)
   pub typed : BoundedTyped (s .typed)
-  pub read : R (s .read)
+  pub pendingRead : R (s .pendingRead)
 
 pub record Good (R : OfRead) (bytes area : ℕ) (t : Turn ℕ) : Type 0 where
   pub state : Steady R (t .state)
@@ -38,16 +38,16 @@ pub record Good (R : OfRead) (bytes area : ℕ) (t : Turn ℕ) : Type 0 where
 -- One part of the state changed.
 module _ {R : OfRead} {s : State ℕ} (h : Steady R s) where
   pub rehosted : {x : Host} → BoundedHost x → Steady R (withHost x s)
-  rehosted b = record { host = b; terminal = h .terminal; typed = h .typed; read = h .read }
+  rehosted b = record { host = b; terminal = h .terminal; typed = h .typed; pendingRead = h .pendingRead }
 
   pub reset : {x : Terminal} → BoundedTerminal x → Steady R (withTerminal x s)
-  reset b = record { host = h .host; terminal = b; typed = h .typed; read = h .read }
+  reset b = record { host = h .host; terminal = b; typed = h .typed; pendingRead = h .pendingRead }
 
   pub retyped : {keys : List (Key ℕ)} {token : List ℕ} → BoundedTyped (record { typeAhead = keys; token = token }) → Steady R (withTyped keys token s)
-  retyped b = record { host = h .host; terminal = h .terminal; typed = b; read = h .read }
+  retyped b = record { host = h .host; terminal = h .terminal; typed = b; pendingRead = h .pendingRead }
 
   pub reread : {P : OfRead} (o : Option (Reading ℕ)) → P o → Steady P (withRead o s)
-  reread o b = record { host = h .host; terminal = h .terminal; typed = h .typed; read = b }
+  reread o b = record { host = h .host; terminal = h .terminal; typed = h .typed; pendingRead = b }
 
 -- One rule alone.
 module _ {R : OfRead} {bytes area : ℕ} {s : State ℕ} where

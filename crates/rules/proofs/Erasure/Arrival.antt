@@ -69,7 +69,7 @@ module _ {C D : Type 0} {f : C → D} {cs : Characters C} {ds : Characters D} (m
 
   pub erase-clearRule : (rubbing : Rubbing) → Erases f (clearRule cs rubbing) (clearRule ds rubbing)
   unfolding clearRule
-  erase-clearRule rubbing = erases-then erase-emptiesTyped (record { at = λ s. erases-here s (erase-clearsInput rubbing (s .read)) })
+  erase-clearRule rubbing = erases-then erase-emptiesTyped (record { at = λ s. erases-here s (erase-clearsInput rubbing (s .pendingRead)) })
 
   erase-clearsBy : (c : C) → Erases f (clearsBy cs c) (clearsBy ds (f c))
   unfolding clearsBy
@@ -88,7 +88,7 @@ module _ {C D : Type 0} {f : C → D} {cs : Characters C} {ds : Characters D} (m
   unfolding clearsAtOnce
   erase-clearsAtOnce c =
       erases-then (erase-sendsOutOfBand c)
-      (erases-then (erase-clearRule withoutRubbing) (record { at = λ s. erases-here s (erase-endsOutOfBand (s .read)) }))
+      (erases-then (erase-clearRule withoutRubbing) (record { at = λ s. erases-here s (erase-endsOutOfBand (s .pendingRead)) }))
 
   erase-controlled : (c : C) → Erases f (controlled cs c) (controlled ds (f c))
   unfolding controlled
@@ -107,7 +107,7 @@ module _ {C D : Type 0} {f : C → D} {cs : Characters C} {ds : Characters D} (m
             (erases-pick refl (erase-storesQuoted c)
             (erases-pick (rw (m .code)) (erase-sendsOutOfBand c)
             (erases-pick (rw (m .code)) (erase-clearsAtOnce c)
-            (erases-pick (rw (erase-areControlsOff (s .read))) (erase-stores _ _ c)
+            (erases-pick (rw (erase-areControlsOff (s .pendingRead))) (erase-stores _ _ c)
             (erase-controlled c)))));
       }
 

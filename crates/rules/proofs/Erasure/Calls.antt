@@ -27,7 +27,7 @@ module _ {C D : Type 0} {f : C → D} {cs : Characters C} {ds : Characters D} (m
 
   erase-isTimely : (kind : ℕ) (s : State C) → isTimely kind (mapState f s) ≡ isTimely kind s
   unfolding isTimely
-  erase-isTimely kind s = rw (erase-isPending (s .read))
+  erase-isTimely kind s = rw (erase-isPending (s .pendingRead))
 
   erase-carries : (s : State C) (o : Outcome (Message ℕ)) → carries (mapState f s) o ≡ carries s o
   unfolding carries isCarriedBy carriesQuestions

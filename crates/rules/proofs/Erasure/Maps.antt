@@ -37,7 +37,7 @@ module _ {C D : Type 0} (f : C → D) where
         host = s .host;
         terminal = s .terminal;
         typed = mapTyped (s .typed);
-        read = Option·map mapReading (s .read);
+        pendingRead = Option·map mapReading (s .pendingRead);
       }
 
   abbrev pub mapFate : Fate C → Fate D

@@ -55,4 +55,4 @@ module _ {C D : Type 0} {f : C → D} {cs : Characters C} {ds : Characters D} (m
 
   pub erase-unreads : (n : Message ℕ) → Erases f (unreads cs n) (unreads ds n)
   unfolding unreads
-  erase-unreads n = record { at = λ s. erases-here s (erase-unreadsWhile (s .read) n) }
+  erase-unreads n = record { at = λ s. erases-here s (erase-unreadsWhile (s .pendingRead) n) }

@@ -31,7 +31,7 @@ module _ {changed : ℕ → Bool} where
 
   keeps-agrees : (quoted : Bool) (c : Twin changed) → Agreeing (λ chars. keeps quoted c)
   unfolding keeps
-  keeps-agrees quoted c = agrees-changes (λ s l. record { token = l .token; read = level-idle (s .read) (l .read) })
+  keeps-agrees quoted c = agrees-changes (λ s l. record { token = l .token; pendingRead = level-idle (s .pendingRead) (l .pendingRead) })
 
   drops-agrees : (c : Twin changed) → Agreeing (λ chars. drops c)
   unfolding drops countsDropped
@@ -69,7 +69,7 @@ module _ {changed : ℕ → Bool} where
 
   pub clearRule-agrees : (rubbing : Rubbing) → Agreeing {changed = changed} (λ chars. clearRule chars rubbing)
   unfolding clearRule
-  clearRule-agrees rubbing = agrees-then emptiesTyped-agrees (λ s l. clearsInput-agrees rubbing (s .read) (l .read) s l)
+  clearRule-agrees rubbing = agrees-then emptiesTyped-agrees (λ s l. clearsInput-agrees rubbing (s .pendingRead) (l .pendingRead) s l)
 
   clearsBy-agrees : (c : Twin changed) → Agreeing (λ chars. clearsBy chars c)
   unfolding clearsBy
@@ -91,7 +91,7 @@ module _ {changed : ℕ → Bool} where
   unfolding clearsAtOnce
   clearsAtOnce-agrees c b =
       agrees-then (sendsOutOfBand-agrees c b)
-      (agrees-then (clearRule-agrees withoutRubbing) (λ s. endsOutOfBand-agrees (s .read) s))
+      (agrees-then (clearRule-agrees withoutRubbing) (λ s. endsOutOfBand-agrees (s .pendingRead) s))
 
   -- The rules of arrival.
 

@@ -22,7 +22,7 @@ use Rattle.rules.proofs.TwoRuns.Host.{obeys-agrees}
 module _ {changed : ℕ → Bool} where
   pub fresh-level : Level {changed = changed} fresh
   unfolding fresh allAre
-  fresh-level = record { token = refl; read = tt }
+  fresh-level = record { token = refl; pendingRead = tt }
 
 -- What is supposed of a key's arrival: a test of each of its fates, in one run.
 module _ {changed : ℕ → Bool} (arrival : (Twin changed → ℕ) → Fate (Twin changed) → Bool) where

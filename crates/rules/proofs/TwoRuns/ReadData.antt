@@ -52,4 +52,4 @@ module _ {changed : ℕ → Bool} where
 
   pub unreads-agrees : (m : Message ℕ) → Agreeing {changed = changed} (λ chars. unreads chars m)
   unfolding unreads
-  unreads-agrees m s = unreadsWhile-agrees (s .read) m s
+  unreads-agrees m s = unreadsWhile-agrees (s .pendingRead) m s

@@ -147,7 +147,7 @@ module _ {changed : ℕ → Bool} where
 
   pub steps-agrees : Agreeing {changed = changed} steps
   unfolding steps
-  steps-agrees s l = stepsWhile-agrees (s .read) (l .read) s l
+  steps-agrees s l = stepsWhile-agrees (s .pendingRead) (l .pendingRead) s l
 
   -- The tick.
 
@@ -162,4 +162,4 @@ module _ {changed : ℕ → Bool} where
 
   pub ticks-agrees : Agreeing {changed = changed} ticks
   unfolding ticks
-  ticks-agrees s l = ticksWhile-agrees (s .read) (l .read) s l
+  ticks-agrees s l = ticksWhile-agrees (s .pendingRead) (l .pendingRead) s l

@@ -70,7 +70,7 @@ module _ {changed : ℕ → Bool} where
 
   pub level-typed : {keys : List (Key (Twin changed))} {token : List (Twin changed)} {s : State (Twin changed)} →
       allAre isBoth token ≡ true → Level s → Level (withTyped keys token s)
-  level-typed e l = record { token = e; read = l .read }
+  level-typed e l = record { token = e; pendingRead = l .pendingRead }
 
   pub level-emptied : {keys : List (Key (Twin changed))} {s : State (Twin changed)} → Level s → Level (withTyped keys [] s)
   unfolding allAre
@@ -78,7 +78,7 @@ module _ {changed : ℕ → Bool} where
 
   pub level-read : {o : Option (Reading (Twin changed))} {s : State (Twin changed)} → LevelRead o → Level s →
       Level (withRead o s)
-  level-read h l = record { token = l .token; read = h }
+  level-read h l = record { token = l .token; pendingRead = h }
 
   pub agrees-changes : {f : State (Twin changed) → State (Twin changed)} →
       ((s : State (Twin changed)) → Level s → Level (f s)) → Rules (changes f) (changes f)
@@ -87,14 +87,14 @@ module _ {changed : ℕ → Bool} where
 
   -- what is set of the host or the terminal says nothing of typed characters
   pub agrees-host : (f : State (Twin changed) → Host) → Agreeing (λ chars. changes (λ s. withHost (f s) s))
-  agrees-host f = agrees-changes (λ s l. record { token = l .token; read = l .read })
+  agrees-host f = agrees-changes (λ s l. record { token = l .token; pendingRead = l .pendingRead })
 
   pub agrees-terminal : (f : State (Twin changed) → Terminal) → Agreeing (λ chars. changes (λ s. withTerminal (f s) s))
-  agrees-terminal f = agrees-changes (λ s l. record { token = l .token; read = l .read })
+  agrees-terminal f = agrees-changes (λ s l. record { token = l .token; pendingRead = l .pendingRead })
 
   pub agrees-writes : {bs bs′ : List ℕ} → bs ≡ bs′ → Rules {changed = changed} (writes bs) (writes bs′)
   unfolding writes allAre
-  agrees-writes e s l = rw (← e) (agrees-turns refl refl refl refl (record { token = l .token; read = l .read }))
+  agrees-writes e s l = rw (← e) (agrees-turns refl refl refl refl (record { token = l .token; pendingRead = l .pendingRead }))
 
   -- Choices.
 

@@ -121,7 +121,7 @@ module _ {changed : ℕ → Bool} where
 
   pub record Level (s : State (Twin changed)) : Type 0 where
     pub token : allAre isBoth (s .typed .token) ≡ true
-    pub read : LevelRead (s .read)
+    pub pendingRead : LevelRead (s .pendingRead)
 
   -- What is supposed of a fate in one run, but for a key's arrival.
   unfoldable pub spared : (Twin changed → ℕ) → Fate (Twin changed) → Bool

@@ -43,8 +43,8 @@ returns-3 c =
     let d = b .before .before in
     let s = d .before .before .before .args .s .now in
     let is = b .start-read-fields .ensures in
-    decodes-sound 2 s (is .read) (d .before .if1 .left) (whole-set s (d .byte-at .ensures) ∙ not-false _ (b .before .if2 .left))
-    (defined-as 2 s (is .read .fields) (sym (c .before .is-sound-start-read .ensures s (is .long)) ∙ c .if3 .taken))
+    decodes-sound 2 s (is .found) (d .before .if1 .left) (whole-set s (d .byte-at .ensures) ∙ not-false _ (b .before .if2 .left))
+    (defined-as 2 s (is .found .fields) (sym (c .before .is-sound-start-read .ensures s (is .long)) ∙ c .if3 .taken))
 
 returns-4 : tie.Need-returns-4
 unfolding heldIn startReadIn definedFields pick
@@ -52,7 +52,7 @@ returns-4 c =
     let b = c .before .before in
     let s = b .before .before .before .before .before .args .s .now in
     let is = b .start-read-fields .ensures in
-    field-undefined 2 s (defined-as 2 s (is .read .fields) (sym (c .before .is-sound-start-read .ensures s (is .long)) ∙ c .if3 .left))
+    field-undefined 2 s (defined-as 2 s (is .found .fields) (sym (c .before .is-sound-start-read .ensures s (is .long)) ∙ c .if3 .left))
 
 pub decode-start-read-spec : {M : Type 1} → statement M
 decode-start-read-spec =
