@@ -1,4 +1,4 @@
-//! A second console end of a command terminal line, written from document 01
+//! A second console end of a command terminal line, written from page 01
 //! alone so that another program can be compared with it byte for byte.
 
 pub mod compare;

@@ -1,4 +1,4 @@
--- The bounds of document 01: every call keeps the line in its sizes and what it writes in its areas.
+-- The bounds of page 01: every call keeps the line in its sizes and what it writes in its areas.
 pub mod Bytes
 pub mod Limits
 pub mod Screen

@@ -1,4 +1,4 @@
-// How many values a field of so many bits has, as in specs/Messages/Parameters.antt; unused bits go by taking it modulo these.
+// How many values a field of so many bits has, as in specs/Messages/Parameters.antt, two and three bits of FLAGS besides; unused bits go by taking it modulo these.
 
 pub const ONE_BIT: u8 = 2;
 

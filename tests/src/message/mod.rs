@@ -8,7 +8,7 @@ pub use writing::write;
 
 /// No message is longer, read or written.
 pub const LONGEST: usize = 256;
-/// The input buffer of document 01.
+/// The input buffer of page 01.
 pub const BUFFER: u16 = 132;
 
 pub const IGNORE_INPUT: u16 = 0x0201;
@@ -159,7 +159,7 @@ pub(crate) fn kind_of(selector: u16) -> Option<Kind> {
 }
 
 impl StartRead {
-    /// The Start Read test of document 01.
+    /// The Start Read test of page 01.
     pub(crate) fn passes(&self) -> bool {
         let end = self.end_of_data;
         self.underflow < 3
