@@ -2,5 +2,5 @@
 mod Masks
 mod Walks
 mod Obeying
-mod Answers
+mod ReportLaws
 pub mod Held

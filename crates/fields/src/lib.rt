@@ -1,4 +1,4 @@
-// Fields of a message: numbers in a slice, low byte first, and flags as numbers. All are total: past the end of a slice stands 0.
+// Fields of a message: numbers in a slice, low byte first, spans of it, and flags as numbers. All are total: past the end of a slice stands 0, and a span stops there.
 ghost use mathlib.Core.Path.{_≡_};
 ghost use Rattle.rules.specs.Choice.{bit};
 ghost use Rattle.fields.specs.Spans.{spanOf};

@@ -24,16 +24,16 @@ use Rattle.line.specs.declared.Line.{Line}
 use Rattle.line.specs.View.{view, termsOf, inputOf, promptOf}
 use Rattle.line.specs.StartRead.{Startable, termsFor, onOpened, Opens}
 
--- a text copied to the front of an array
+-- a text put to the front of an array
 module _ (s area : List ℕ) {area′ : List ℕ} {n : ℕ} (count : n ≡ length s) (e : area′ ≡ take (length s) s ++ drop (length s) area) where
   whole : area′ ≡ s ++ drop (length s) area
   whole = e ∙ ap (λ l. l ++ drop (length s) area) (take-length s)
 
-  pub copied : take n area′ ≡ s
-  copied = rw (whole, count) (take-append-seam s (drop (length s) area))
+  pub in-front : take n area′ ≡ s
+  in-front = rw (whole, count) (take-append-seam s (drop (length s) area))
 
-  pub copied-length : {size : ℕ} → length area ≡ size → length s ≤ size → length area′ ≡ size
-  copied-length same fits =
+  pub in-front-length : {size : ℕ} → length area ≡ size → length s ≤ size → length area′ ≡ size
+  in-front-length same fits =
       let sum = length-append s (drop (length s) area) in
       let rest = length-drop (length s) area in
       ap length whole ∙ omega arith

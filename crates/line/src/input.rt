@@ -146,7 +146,9 @@ impl Reading {
     // The marks and spaces on the screen for all but its first characters.
     pub(crate) fn marks(self, left: u16, text: &[u8]) -> usize
         requires { ⌜ CountedReading self (now text) ⌝ }
-        ensures { λ n. ⌜ ((t : terms.Terms) (l : Line) → n ≡ screen.marksBehind (left - bit (self .«hidden_lf»)) (self .«display_column») (rules.displayed codes (readingOf (lent t (now (text .entry)) l) self))) ⌝ }
+        ensures { λ n.
+            ⌜ ((t : terms.Terms) (l : Line) →
+            n ≡ screen.marksBehind (left - bit (self .«hidden_lf»)) (self .«display_column») (rules.displayed codes (readingOf (lent t (now (text .entry)) l) self))) ⌝ }
     {
         let start = self.first_shown();
         let end = self.input_len as usize;

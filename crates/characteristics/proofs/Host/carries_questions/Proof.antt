@@ -1,7 +1,7 @@
 use borrow.Author.Tests.{not-true, not-false}
 use Rattle.characteristics.specs.View.{hostView}
 use Rattle.rules.proofs.Numbers.{message-area}
-use Rattle.characteristics.proofs.Answers.{not-carried, carried-size}
+use Rattle.characteristics.proofs.ReportLaws.{not-carried, carried-size}
 use Rattle.characteristics.proofs.Host.carries_questions.Statement.{statement}
 use Rattle.characteristics.proofs.Host.carries_questions.Tie as tie
 

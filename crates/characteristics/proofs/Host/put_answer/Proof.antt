@@ -2,7 +2,7 @@ use mathlib.Core.Path.{ap, _∙_}
 use Rattle.rules.specs.Choice.{bit}
 use Rattle.areas.proofs.Putting.{equals}
 use Rattle.characteristics.specs.View.{hostView}
-use Rattle.characteristics.proofs.Answers.{attribute-answer, switch-answer}
+use Rattle.characteristics.proofs.ReportLaws.{attribute-answer, switch-answer}
 use Rattle.characteristics.proofs.Host.put_answer.Statement.{statement}
 use Rattle.characteristics.proofs.Host.put_answer.Tie as tie
 

@@ -4,7 +4,7 @@ use lib.ListN.{length}
 use Rattle.areas.proofs.Putting.{Left, all-left, turn, none-left}
 use Rattle.characteristics.specs.View.{hostView}
 use Rattle.characteristics.specs.Lists.{answersFrom}
-use Rattle.characteristics.proofs.Answers.{first-answer, no-answers}
+use Rattle.characteristics.proofs.ReportLaws.{first-answer, no-answers}
 use Rattle.characteristics.proofs.Host.put_answers.Statement.{statement}
 use Rattle.characteristics.proofs.Host.put_answers.Tie as tie
 

@@ -15,7 +15,7 @@ use Rattle.writing.specs.Spans.{spansOf}
 use Rattle.areas.proofs.Putting.{nothing, equals, joins}
 use Rattle.characteristics.specs.View.{hostView}
 use Rattle.characteristics.specs.Lists.{answersFrom, reportBytes}
-use Rattle.characteristics.proofs.Answers.{answer-bytes, own-size}
+use Rattle.characteristics.proofs.ReportLaws.{answer-bytes, own-size}
 use Rattle.characteristics.proofs.Host.put_report.Statement.{statement}
 use Rattle.characteristics.proofs.Host.put_report.Tie as tie
 

@@ -6,7 +6,7 @@ use Rattle.rules.specs.Numbers.{messageArea}
 use Rattle.rules.specs.State.{Host}
 use Rattle.rules.proofs.Numbers.{message-area, area-word}
 use Rattle.characteristics.specs.Lists.{answersFrom, answerTo}
-use Rattle.characteristics.proofs.Answers.{first-size, no-answers, answer-length}
+use Rattle.characteristics.proofs.ReportLaws.{first-size, no-answers, answer-length}
 use Rattle.characteristics.proofs.reports.report_size.Statement.{statement}
 use Rattle.characteristics.proofs.reports.report_size.Tie as tie
 

@@ -1,7 +1,7 @@
 use mathlib.Core.Path.{sym, ap, _∙_}
 use native.Mathlib.Omega.{arith}
 use lib.ListN.{length}
-use Rattle.characteristics.proofs.Answers.{reports-attribute, reports-switch}
+use Rattle.characteristics.proofs.ReportLaws.{reports-attribute, reports-switch}
 use Rattle.characteristics.proofs.reports.size_of_one.Statement.{statement}
 use Rattle.characteristics.proofs.reports.size_of_one.Tie as tie
 
