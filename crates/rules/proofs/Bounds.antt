@@ -14,4 +14,5 @@ pub mod StartRead
 pub mod Characteristics
 pub mod Reports
 pub mod Host
+pub mod Settings
 pub mod Calls

@@ -6,7 +6,7 @@ use mathlib.Core.List.{List, [], _∷_, _++_, map, List·Memᴰ, List·Memᴰ·h
 use lib.Dec.{leb, eqb}
 use lib.ListN.{getD, set, take, drop, take-append-drop}
 use borrow.Author.Tests.{leb-true, le-leb, eqb-true, eq-eqb}
-use Rattle.rules.specs.Choice.{pick, Row, firstOf, within, isEmpty, allAre, joined, same}
+use Rattle.rules.specs.Choice.{pick, Row, firstOf, within, isEmpty, allAre, joined, same, sameAll}
 
 -- The choice.
 module _ {A : Type 0} where
@@ -50,6 +50,11 @@ module _ {A : Type 0} where
   unfolding pick
   pick-second true no-a e = absurd (no-a e)
   pick-second false no-a e = (refl, e)
+
+-- A test goes one way or the other.
+pub test-case : (P : Type 0) (t : Bool) → (t ≡ true → P) → (t ≡ false → P) → P
+test-case P true f g = f refl
+test-case P false f g = g refl
 
 -- The first row that applies.
 pub none-left : {A : Type 0} (answer : ℕ → A) (otherwise : A) → firstOf answer otherwise [] ≡ otherwise
@@ -126,6 +131,15 @@ unfolding same
 same-itself [] = refl
 same-itself (x ∷ xs) = both (eq-eqb x x refl) (same-itself xs)
 
+pub sameAll-equal : (xs ys : List (List ℕ)) → sameAll xs ys ≡ true → xs ≡ ys
+unfolding sameAll
+sameAll-equal [] [] e = refl
+sameAll-equal [] (y ∷ ys) e = absurd (false≢true e)
+sameAll-equal (x ∷ xs) [] e = absurd (false≢true e)
+sameAll-equal (x ∷ xs) (y ∷ ys) e =
+    let h = halves (same x y) (sameAll xs ys) e in
+    λ i. same-equal x y (h .0) i ∷ sameAll-equal xs ys (h .1) i
+
 -- Lists of tests.
 module _ {A : Type 0} where
   pub isEmpty-nil : (xs : List A) → isEmpty xs ≡ true → xs ≡ []
@@ -181,7 +195,13 @@ module _ {A : Type 0} where
     all-set (x ∷ xs) zero v p e = both p (all-cons x xs e .1)
     all-set (x ∷ xs) (suc k) v p e = let h = all-cons x xs e in both (h .0) (all-set xs k v p (h .1))
 
-  -- each element that passes one test passes another, after a step
+  -- each element that passes one test passes another
+  pub all-weaken : (p q : A → Bool) → ((x : A) → p x ≡ true → q x ≡ true) → (xs : List A) → allAre p xs ≡ true → allAre q xs ≡ true
+  unfolding allAre
+  all-weaken p q h [] e = refl
+  all-weaken p q h (x ∷ xs) e = let t = all-cons p x xs e in both (h x (t .0)) (all-weaken p q h xs (t .1))
+
+  -- and so after a step
   pub all-map : {B : Type 0} (p : A → Bool) (q : B → Bool) (f : A → B) → ((x : A) → p x ≡ true → q (f x) ≡ true) →
       (xs : List A) → allAre p xs ≡ true → allAre q (map f xs) ≡ true
   unfolding allAre

@@ -9,6 +9,7 @@ pub mod RoundTrip
 pub mod Bench
 pub mod Numbers
 pub mod Bounds
+pub mod Settings
 mod Erasure
 pub mod TwoRuns
 pub mod Area

@@ -3,6 +3,7 @@ use mathlib.Core.Path.{_≡_, refl}
 use Prim.Native.Nat.{ℕ, _+_, _*_, _≤_, _<_}
 use native.Mathlib.Omega.{arith}
 use Rattle.rules.specs.Numbers.{inputSize, typeAheadSize, tokenSize, messageSize, terminalArea, messageArea, topColumn, topDropped}
+use Rattle.rules.specs.Settings.{topLargestRead}
 
 -- rubbing out a whole buffer, three bytes for each of a character's eight marks; or one echo and a byte or two
 pub rubbing-room : 24 * inputSize + 8 ≤ terminalArea
@@ -27,6 +28,11 @@ initiate-room = omega arith
 pub message-room : messageArea ≤ messageSize
 unfolding messageArea messageSize
 message-room = omega arith
+
+-- the largest read that a settings record can hold
+pub largest-read-room : topLargestRead ≤ inputSize
+unfolding inputSize
+largest-read-room = omega arith
 
 -- counts and positions fit words
 pub input-word : inputSize < 65536

@@ -1,18 +1,19 @@
 -- A sound outcome of reading or writing, and the tests that it passed.
-use mathlib.Core.Path.{_≡_, sym, ap, _∙_}
-use Prim.Native.Nat.{ℕ, _≤_}
+use mathlib.Core.Path.{_≡_, sym, ap, subst, _∙_}
+use Prim.Native.Nat.{ℕ, _+_, _≤_}
 use native.Mathlib.Omega.{arith}
-use mathlib.Core.Bool.{true, not}
+use mathlib.Core.Bool.{true, not, _&&_}
 use mathlib.Core.List.{List}
+use lib.Dec.{leb}
 use lib.ListN.{length}
 use borrow.Author.Tests.{ltb-false, le-ltb, not-false}
 use Rattle.rules.specs.Choice.{firstOf}
 use Rattle.rules.specs.Numbers.{messageSize, messageArea, unsound}
-use Rattle.rules.specs.Messages.Layout.{byteAt}
-use Rattle.rules.specs.Messages.Forms.{Message, formOf}
-use Rattle.rules.specs.Messages.Codec.{Outcome, refused, sound, definedKind, soundLength, soundAs, fieldsAs, readRefusals, read}
+use Rattle.rules.specs.Messages.Layout.{byteAt, sizeOf}
+use Rattle.rules.specs.Messages.Forms.{Message, headAt, formOf}
+use Rattle.rules.specs.Messages.Codec.{Outcome, refused, sound, definedKind, definedFields, wholeTail, behindHead, soundLength, soundAs, fieldsAs, readRefusals, read}
 use Rattle.rules.specs.Messages.Codec.{Held, kindOf, heldBytes, fitsHeld, writeRefusals, written}
-use Rattle.rules.proofs.Choice.{pick-true, pick-false, pick-first, pick-second}
+use Rattle.rules.proofs.Choice.{pick-false, pick-first, pick-second, halves}
 
 module _ {A : Type 0} where
   pub refused-sound : {k : ℕ} {x : A} → refused k ≡ sound x → ⊥
@@ -43,6 +44,14 @@ pub read-sound : (bytes : List ℕ) (m : Message ℕ) → Readable bytes m → r
 unfolding read readRefusals firstOf
 read-sound bytes m r =
     pick-false _ _ (ap not (r .length)) ∙ pick-false _ _ (ap not (r .kind)) ∙ pick-false _ _ (ap not (r .sound)) ∙ ap sound (r .fields)
+
+pub read-defined : (bytes : List ℕ) (m : Message ℕ) → read bytes ≡ sound m → definedFields m ≡ true
+unfolding soundAs
+read-defined bytes m e =
+    let r = readable bytes m e in
+    let f = formOf (byteAt bytes 0) in
+    let whole = leb (headAt + sizeOf (f .head)) (length bytes) && wholeTail (f .tail) (behindHead f bytes) in
+    subst (λ x. definedFields x ≡ true) (r .fields) (halves whole (definedFields (fieldsAs f bytes)) (r .sound) .1)
 
 -- bytes of a sound length and a defined type are refused as unsound
 pub read-refused : (bytes : List ℕ) {n : ℕ} → soundLength (length bytes) ≡ true → definedKind (byteAt bytes 0) ≡ true → read bytes ≡ refused n →

@@ -4,8 +4,8 @@ use mathlib.Core.Bool.{Bool, true, false, _&&_}
 use mathlib.Core.List.{List, [], _∷_, _++_}
 use lib.Dec.{eqb}
 use lib.ListN.{length, take, replicate}
-use Rattle.rules.specs.Choice.{pick, joined, same}
-use Rattle.rules.specs.Numbers.{terminalArea, messageArea, typeAheadSize, accepted, wrongTime, unsound}
+use Rattle.rules.specs.Choice.{pick, joined, same, sameAll}
+use Rattle.rules.specs.Numbers.{terminalArea, messageArea, typeAheadSize, accepted, wrongTime, unsound, notCarried, unsoundRecord}
 use Rattle.rules.specs.Messages.Forms.{Message, revisionSize, startRead}
 use Rattle.rules.specs.Messages.Codec as codec
 use Rattle.rules.specs.Messages.Codec.{Outcome, refused, sound, read, written}
@@ -14,7 +14,8 @@ use Rattle.rules.specs.State.{State, fresh, codes}
 use Rattle.rules.specs.Token.{ESC, BRACKET}
 use Rattle.rules.specs.Editing.{redisplayKey}
 use Rattle.rules.specs.Arrival.{quoteKey}
-use Rattle.rules.specs.Calls.{Event, key, step, tick, message, Call, Answer, answer, messageBytes}
+use Rattle.rules.specs.Settings.{foundSection}
+use Rattle.rules.specs.Calls.{Event, key, step, tick, message, load, Call, Answer, answer, messageBytes}
 
 -- a call and what it is to answer: number, terminal bytes, the message area's bytes, and the dropped count after it
 pub record Exchange : Type 0 where
@@ -29,15 +30,10 @@ pub data Case : Type 0 where
   reads : List ℕ → Message ℕ → Case
   -- these bytes, read without a line and written again, give this number and these bytes
   copies : List ℕ → ℕ → List ℕ → Case
+  -- asked for this section of an own record and a site record, these bytes are found
+  asks : ℕ → List ℕ → List ℕ → List ℕ → Case
   -- these calls, from a fresh line, answer this
   runs : List Exchange → Case
-
--- equal lists of lists
-unfoldable pub sameAll : List (List ℕ) → List (List ℕ) → Bool
-sameAll [] [] = true
-sameAll [] (y ∷ ys) = false
-sameAll (x ∷ xs) [] = false
-sameAll (x ∷ xs) (y ∷ ys) = same x y && sameAll xs ys
 
 unfoldable pub readsAs : Message ℕ → Outcome (Message ℕ) → Bool
 readsAs m (refused n) = false
@@ -70,6 +66,7 @@ runsAs s (e ∷ es) = let a = answer codes (e .call) s in answersAs e a && runsA
 unfoldable pub holds : Case → Bool
 holds (reads bytes m) = readsAs m (read bytes)
 holds (copies bytes number again) = endsIn number again (copyOf (read bytes))
+holds (asks n own site section) = same section (foundSection n own site)
 holds (runs es) = runsAs fresh es
 
 -- the places of the rows that do not hold, counted from a number
@@ -123,6 +120,26 @@ startedA = told startA accepted (0x3F ∷ 0x20 ∷ []) []
 -- Characteristics that turn escape recognition on
 abbrev pub recognising : Exchange
 recognising = told (0x0B ∷ 0x00 ∷ 0x06 ∷ 0x02 ∷ 0x01 ∷ []) accepted [] []
+
+-- a load, which is lent no areas
+abbrev pub loading : List ℕ → List ℕ → ℕ → Exchange
+loading own site number = asked 0 0 (load own site) number [] [] 0
+
+-- a record without anything, and records of one section; the first number is the section's length
+abbrev pub emptyRecord : List ℕ
+emptyRecord = 0x01 ∷ 0x00 ∷ 0x00 ∷ 0x00 ∷ 0x00 ∷ 0x00 ∷ 0x00 ∷ 0x00 ∷ 0x00 ∷ []
+
+abbrev pub switchRecord : ℕ → List ℕ → List ℕ
+switchRecord size bytes = 0x01 ∷ size ∷ 0x00 ∷ (bytes ++ (0x00 ∷ 0x00 ∷ 0x00 ∷ 0x00 ∷ 0x00 ∷ 0x00 ∷ []))
+
+abbrev pub attributeRecord : ℕ → List ℕ → List ℕ
+attributeRecord size pairs = 0x01 ∷ 0x00 ∷ 0x00 ∷ size ∷ 0x00 ∷ (pairs ++ (0x00 ∷ 0x00 ∷ 0x00 ∷ 0x00 ∷ []))
+
+abbrev pub setRecord : ℕ → List ℕ → List ℕ
+setRecord size bytes = 0x01 ∷ 0x00 ∷ 0x00 ∷ 0x00 ∷ 0x00 ∷ size ∷ 0x00 ∷ (bytes ++ (0x00 ∷ 0x00 ∷ []))
+
+abbrev pub largestReadRecord : ℕ → List ℕ
+largestReadRecord most = 0x01 ∷ 0x00 ∷ 0x00 ∷ 0x00 ∷ 0x00 ∷ 0x00 ∷ 0x00 ∷ 0x01 ∷ 0x00 ∷ most ∷ []
 
 -- the numbers of a Start Read by name, and in the order of its head
 pub record StartReadNumbers : Type 0 where
@@ -227,7 +244,7 @@ starred =
     (replicate typeAheadSize (stored 0x30) ++
     asked terminalArea messageArea (key 0x30) accepted (0x07 ∷ []) [] 1 ∷ [])) ∷ []
 
--- Rows of our own, for mistakes that the starred cases do not show: those that page 01 warns of, and some that edits of the definitions make.
+-- Rows of our own, for mistakes that the starred cases do not show: those that page 01 warns of, those that settings invite, and some that edits of the definitions make.
 unfoldable pub warned : List Case
 warned =
     -- waiting for one more key after the buffer is full
@@ -275,4 +292,45 @@ warned =
     copies (0x02 ∷ 0x01 ∷ 0x90 ∷ 0xFC ∷ 0x50 ∷ 0x00 ∷ 0x02 ∷ 0x00 ∷ 0x07 ∷ 0x00 ∷ 0x02 ∷ 0x00 ∷ 0x00 ∷ 0x00 ∷ 0x02 ∷ 0x00 ∷ 0x02 ∷ 0xFF ∷ 0x00 ∷ 0x3F ∷ 0x20 ∷ []) accepted
     (0x02 ∷ 0x01 ∷ 0x90 ∷ 0x00 ∷ 0x50 ∷ 0x00 ∷ 0x02 ∷ 0x00 ∷ 0x07 ∷ 0x00 ∷ 0x02 ∷ 0x00 ∷ 0x00 ∷ 0x00 ∷ 0x02 ∷ 0x00 ∷ 0x02 ∷ 0xFF ∷ 0x00 ∷ 0x3F ∷ 0x20 ∷ []) ∷
     copies (0x0B ∷ 0xFF ∷ 0x02 ∷ 0x02 ∷ 0x41 ∷ 0xFF ∷ 0x83 ∷ 0x09 ∷ 0x02 ∷ 0xFF ∷ 0x0A ∷ 0x02 ∷ 0xF5 ∷ []) accepted
-    (0x0B ∷ 0x00 ∷ 0x02 ∷ 0x02 ∷ 0x41 ∷ 0xFF ∷ 0x03 ∷ 0x09 ∷ 0x02 ∷ 0x01 ∷ 0x0A ∷ 0x02 ∷ 0x05 ∷ []) ∷ []
+    (0x0B ∷ 0x00 ∷ 0x02 ∷ 0x02 ∷ 0x41 ∷ 0xFF ∷ 0x03 ∷ 0x09 ∷ 0x02 ∷ 0x01 ∷ 0x0A ∷ 0x02 ∷ 0x05 ∷ []) ∷
+    -- a section's length is read low byte first
+    asks 2 (attributeRecord 2 (0x41 ∷ 0x04 ∷ [])) emptyRecord (0x41 ∷ 0x04 ∷ []) ∷
+    -- the own record's section goes before the site's
+    asks 4 (largestReadRecord 80) (largestReadRecord 72) (80 ∷ []) ∷
+    asks 4 emptyRecord (largestReadRecord 72) (72 ∷ []) ∷
+    -- unsound records: a set that ends in 0; a byte behind the last section; a code twice; deferred-clear; a largest read of 133; a switch of 2; a site record of another form
+    asks 3 (setRecord 2 (0x01 ∷ 0x00 ∷ [])) emptyRecord [] ∷
+    asks 4 (largestReadRecord 80 ++ (0x00 ∷ [])) emptyRecord [] ∷
+    asks 2 (attributeRecord 4 (0x41 ∷ 0x04 ∷ 0x41 ∷ 0x08 ∷ [])) emptyRecord [] ∷
+    asks 2 (attributeRecord 2 (0x41 ∷ 0x02 ∷ [])) emptyRecord [] ∷
+    asks 4 (largestReadRecord 132) emptyRecord (132 ∷ []) ∷
+    asks 4 (largestReadRecord 133) emptyRecord [] ∷
+    asks 1 (switchRecord 12 (0x04 ∷ 0x02 ∷ 0x00 ∷ 0x05 ∷ 0x02 ∷ 0x02 ∷ 0x06 ∷ 0x02 ∷ 0x00 ∷ 0x09 ∷ 0x02 ∷ 0x00 ∷ [])) emptyRecord [] ∷
+    asks 4 (largestReadRecord 80) (0x02 ∷ []) [] ∷
+    -- loaded attributes are all of them: a code that is not listed has 0
+    runs
+    (initiated ∷ told (0x0B ∷ 0x00 ∷ 0x02 ∷ 0x02 ∷ 0x41 ∷ 0xFF ∷ 0x04 ∷ []) accepted [] [] ∷
+    loading (attributeRecord 2 (0x42 ∷ 0x04 ∷ [])) emptyRecord accepted ∷
+    told (0x0A ∷ 0x00 ∷ 0x02 ∷ 0x02 ∷ 0x41 ∷ 0x02 ∷ 0x02 ∷ 0x42 ∷ []) accepted []
+    (0x0C ∷ 0x00 ∷ 0x0B ∷ 0x00 ∷ 0x02 ∷ 0x02 ∷ 0x41 ∷ 0x7F ∷ 0x00 ∷ 0x02 ∷ 0x02 ∷ 0x42 ∷ 0x7F ∷ 0x04 ∷ []) ∷ []) ∷
+    -- a largest read, loaded before Initiate: one more is 5, before V's 6, and as many are taken
+    runs
+    (loading (largestReadRecord 80) emptyRecord accepted ∷ initiated ∷
+    told (0x02 ∷ 0x11 ∷ 0x90 ∷ 0x00 ∷ 0x51 ∷ 0x00 ∷ 0x02 ∷ 0x00 ∷ 0x00 ∷ 0x00 ∷ 0x02 ∷ 0x00 ∷ 0x00 ∷ 0x00 ∷ 0x02 ∷ 0x00 ∷ 0x00 ∷ 0x3F ∷ 0x20 ∷ []) unsound [] [] ∷
+    told (0x02 ∷ 0x11 ∷ 0x90 ∷ 0x00 ∷ 0x50 ∷ 0x00 ∷ 0x02 ∷ 0x00 ∷ 0x00 ∷ 0x00 ∷ 0x02 ∷ 0x00 ∷ 0x00 ∷ 0x00 ∷ 0x02 ∷ 0x00 ∷ 0x00 ∷ 0x3F ∷ 0x20 ∷ []) notCarried [] [] ∷
+    startedA ∷ []) ∷
+    -- a loaded set is the one that ZZ 0 looks at: "A" ends the read
+    runs
+    (initiated ∷ loading (setRecord 9 (replicate 8 0x00 ++ (0x02 ∷ []))) emptyRecord accepted ∷
+    told (0x02 ∷ 0x01 ∷ 0x10 ∷ 0x00 ∷ 0x50 ∷ 0x00 ∷ 0x02 ∷ 0x00 ∷ 0x00 ∷ 0x00 ∷ 0x02 ∷ 0x00 ∷ 0x00 ∷ 0x00 ∷ 0x02 ∷ 0x00 ∷ 0x00 ∷ 0x3F ∷ 0x20 ∷ []) accepted (0x3F ∷ 0x20 ∷ []) [] ∷
+    typed 0x41 (0x41 ∷ []) (0x09 ∷ 0x00 ∷ 0x03 ∷ 0x00 ∷ 0x02 ∷ 0x00 ∷ 0x00 ∷ 0x03 ∷ 0x00 ∷ 0x00 ∷ 0x41 ∷ [])) ∷
+    -- echo turned off in mid read: the read keeps its own, and the next one does not echo
+    runs
+    (initiated ∷ startedA ∷
+    loading (switchRecord 12 (0x04 ∷ 0x02 ∷ 0x00 ∷ 0x05 ∷ 0x02 ∷ 0x00 ∷ 0x06 ∷ 0x02 ∷ 0x00 ∷ 0x09 ∷ 0x02 ∷ 0x00 ∷ [])) emptyRecord accepted ∷
+    (typed 0x31 (0x31 ∷ []) [] ++
+    typed 0x0D (0x0D ∷ 0x0A ∷ []) (0x0A ∷ 0x00 ∷ 0x03 ∷ 0x00 ∷ 0x02 ∷ 0x00 ∷ 0x01 ∷ 0x00 ∷ 0x01 ∷ 0x00 ∷ 0x31 ∷ 0x0D ∷ []) ++
+    (startedA ∷ typed 0x31 [] []))) ∷
+    -- a refused load, which is no record or one of another form, leaves the line as it was
+    runs
+    (initiated ∷ loading emptyRecord [] unsoundRecord ∷ loading (largestReadRecord 1) (0x02 ∷ []) unsoundRecord ∷ startedA ∷ []) ∷ []

@@ -1,7 +1,7 @@
 -- What holds of every state from a fresh line on, and of what a call writes, over the names of the sizes.
 use Prim.Native.Nat.{ℕ, _≤_, _<_}
 use mathlib.Core.Path.{_≡_}
-use mathlib.Core.Bool.{Bool, true}
+use mathlib.Core.Bool.{Bool, true, _&&_}
 use mathlib.Core.List.{List, [], _∷_, map}
 use mathlib.Core.Option.{Option, none, some}
 use lib.Dec.{ltb}
@@ -16,7 +16,7 @@ use Rattle.rules.specs.StartRead.{lastUnderflow, lastDisable}
 use Rattle.rules.specs.Screen.{positions}
 use Rattle.rules.specs.State.{Host, Terminal, Typed, Terms, Reading, State, codes}
 use Rattle.rules.specs.Editing.{endOf}
-use Rattle.rules.specs.Calls.{Event, key, step, tick, message, Answer, sentBytes, messageBytes}
+use Rattle.rules.specs.Calls.{Event, key, step, tick, message, load, Answer, sentBytes, messageBytes}
 
 -- an attribute has seven bits
 unfoldable pub isAttribute : ℕ → Bool
@@ -27,6 +27,7 @@ pub record BoundedHost (h : Host) : Type 0 where
   pub attributes : allAre isAttribute (h .attributes) ≡ true
   pub setLength : length (h .lastSet) ≤ setSize
   pub setBytes : allBytes (h .lastSet) ≡ true
+  pub largestRead : h .largestRead ≤ inputSize
 
 pub record BoundedTerminal (t : Terminal) : Type 0 where
   pub column : t .screen .column ≤ topColumn
@@ -73,6 +74,7 @@ isByteEvent (key c) = ltb c byteValues
 isByteEvent step = true
 isByteEvent tick = true
 isByteEvent (message bytes) = allBytes bytes
+isByteEvent (load own site) = allBytes own && allBytes site
 
 -- every message sent reads as what was meant
 abbrev pub AllMeant : List (Message ℕ) → Type 0

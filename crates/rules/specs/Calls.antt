@@ -1,4 +1,4 @@
--- The four calls with their refusals, and a list of calls run from a fresh line.
+-- The calls with their refusals, and a list of calls run from a fresh line.
 use Prim.Native.Nat.{ℕ}
 use mathlib.Core.Bool.{Bool, true, false, not, _&&_, _||_}
 use mathlib.Core.List.{List, [], _∷_, _++_, map}
@@ -6,28 +6,30 @@ use mathlib.Core.Option.{Option, none, some}
 use lib.Dec.{leb, eqb}
 use lib.ListN.{length, drop}
 use Rattle.rules.specs.Choice.{pick, Row, _when_, firstOf, isOff, allAre, joined}
-use Rattle.rules.specs.Numbers.{terminalArea, messageArea, accepted, smallArea, wrongLength, wrongType, wrongTime, unsound, notCarried}
-use Rattle.rules.specs.Messages.Layout.{wordBytes, bytesOf}
+use Rattle.rules.specs.Numbers.{terminalArea, messageArea, accepted, smallArea, wrongLength, wrongType, wrongTime, unsound, notCarried, unsoundRecord}
+use Rattle.rules.specs.Messages.Layout.{framed}
 use Rattle.rules.specs.Messages.Parameters.{selector}
 use Rattle.rules.specs.Messages.Forms as forms
 use Rattle.rules.specs.Messages.Forms.{Message, typeIn, formOf}
 use Rattle.rules.specs.Messages.Codec.{Outcome, refused, sound, soundLength, definedKind, read, bytesAs}
 use Rattle.rules.specs.Messages.Fields.{noLock, noFix, lock, newline, prefix, postfix, transparent}
-use Rattle.rules.specs.StartRead.{startOfDisplay, continues, vertical}
+use Rattle.rules.specs.StartRead.{startOfDisplay, continues, vertical, soundStartRead}
 use Rattle.rules.specs.State.{Characters, Reading, State, fresh}
 use Rattle.rules.specs.Turns.{Turn, Rule, still}
 use Rattle.rules.specs.Arrival.{arrives}
 use Rattle.rules.specs.Steps.{steps, ticks}
 use Rattle.rules.specs.Characteristics.{isCarried, carriesSettings, report}
 use Rattle.rules.specs.Host.{obeys}
+use Rattle.rules.specs.Settings.{areSound, loads}
 
--- an incoming event: a key, a step, a tick, or a host message's bytes
+-- an incoming event: a key, a step, a tick, a host message's bytes, or the line's own settings record and the site's
 pub data Event (C : Type 0) : Type 0 where
   key : C → Event C
   step tick : Event C
   message : List ℕ → Event C
+  load : List ℕ → List ℕ → Event C
 
--- a call, with the lengths of the two lent areas
+-- a call, with the lengths of the two lent areas; a load is lent none
 pub record Call (C : Type 0) : Type 0 where
   pub terminal : ℕ
   pub messages : ℕ
@@ -37,10 +39,6 @@ pub record Call (C : Type 0) : Type 0 where
 pub record Answer (C : Type 0) : Type 0 where
   pub number : ℕ
   pub turn : Turn C
-
--- In the message area each message stands behind its length, in the order sent.
-unfoldable pub framed : List ℕ → List ℕ
-framed bytes = bytesOf wordBytes (length bytes) ++ bytes
 
 -- an area after a call that wrote these bytes to its front
 unfoldable pub areaAfter : List ℕ → List ℕ → List ℕ
@@ -69,11 +67,6 @@ isServers kind =
 unfoldable pub isHosts : ℕ → Bool
 isHosts kind = definedKind kind && not (isServers kind)
 
--- 5: behind rows 2 and 3, this is all that reading refuses for
-unfoldable pub isRefused : {A : Type 0} → Outcome A → Bool
-isRefused (refused n) = true
-isRefused (sound x) = false
-
 -- 6, by type
 unfoldable pub carriesStartRead : Message ℕ → Bool
 carriesStartRead m = eqb (startOfDisplay m) 0 && isOff (continues m) && isOff (vertical m)
@@ -100,6 +93,15 @@ module _ {C : Type 0} where
       allAre (λ p. isCarried (selector p)) (m .parameters) &&
       leb (length (framed (sentBytes (report (s .host) m)))) messageArea
 
+  -- the Start Read test of a line has the line's largest read
+  unfoldable pub passesTest : State C → Message ℕ → Bool
+  passesTest s m = pick (eqb (m .kind) forms.startRead) (soundStartRead (s .host .largestRead) m) true
+
+  -- 5: behind rows 2 and 3 reading refuses for nothing else; or the line's test is not passed
+  unfoldable pub isUnsound : State C → Outcome (Message ℕ) → Bool
+  isUnsound s (refused n) = true
+  isUnsound s (sound m) = not (passesTest s m)
+
   unfoldable pub isCarriedBy : State C → Message ℕ → Bool
   isCarriedBy s m =
       pick (eqb (m .kind) forms.startRead) (carriesStartRead m)
@@ -113,13 +115,13 @@ module _ {C : Type 0} where
   carries s (refused n) = true
   carries s (sound m) = isCarriedBy s m
 
-  -- The table of refusals for a host message's bytes, behind row 1, which every call has.
+  -- The table of refusals for a host message's bytes, behind row 1.
   unfoldable pub refusals : State C → List ℕ → List Row
   refusals s bytes =
       wrongLength when not (soundLength (length bytes)) ∷
       wrongType when not (isHosts (typeIn bytes)) ∷
       wrongTime when not (isTimely (typeIn bytes) s) ∷
-      unsound when isRefused (read bytes) ∷
+      unsound when isUnsound s (read bytes) ∷
       notCarried when not (carries s (read bytes)) ∷
       []
 
@@ -134,6 +136,21 @@ module _ {C : Type 0} where
   unfoldable pub does : Rule C → State C → Answer C
   does f s = record { number = accepted; turn = f s }
 
+  -- 7: either record is unsound
+  unfoldable pub answersLoad : List ℕ → List ℕ → State C → Answer C
+  answersLoad own site = firstOf refuses (does (loads own site)) (unsoundRecord when not (areSound own site) ∷ [])
+
+  -- 1 is asked of every event that is lent areas
+  abbrev pub isLent : Event C → Bool
+  isLent (key c) = true
+  isLent step = true
+  isLent tick = true
+  isLent (message bytes) = true
+  isLent (load own site) = false
+
+  abbrev pub isCramped : Call C → Bool
+  isCramped c = isLent (c .event) && not (areRoomy (c .terminal) (c .messages))
+
 module _ {C : Type 0} (chars : Characters C) where
   unfoldable pub answersMessage : Outcome (Message ℕ) → State C → Answer C
   answersMessage (refused n) = refuses n
@@ -144,12 +161,13 @@ module _ {C : Type 0} (chars : Characters C) where
   answers step s = does (steps chars) s
   answers tick s = does (ticks chars) s
   answers (message bytes) s = answersMessage (received s bytes) s
+  answers (load own site) s = answersLoad own site s
 
-  -- row 1 comes first, whatever the event
+  -- row 1 comes first
   unfoldable pub answer : Call C → State C → Answer C
-  answer c s = firstOf refuses (answers (c .event)) (smallArea when not (areRoomy (c .terminal) (c .messages)) ∷ []) s
+  answer c s = firstOf refuses (answers (c .event)) (smallArea when isCramped c ∷ []) s
 
-  -- the message area's bytes
+  -- the message area's bytes: each message behind its length, in the order sent
   unfoldable pub messageBytes : Turn C → List ℕ
   messageBytes t = joined (map (λ m. framed (sentBytes (mapText (chars .code) m))) (t .messages))
 

@@ -67,3 +67,9 @@ same [] [] = true
 same [] (y ∷ ys) = false
 same (x ∷ xs) [] = false
 same (x ∷ xs) (y ∷ ys) = eqb x y && same xs ys
+
+unfoldable pub sameAll : List (List ℕ) → List (List ℕ) → Bool
+sameAll [] [] = true
+sameAll [] (y ∷ ys) = false
+sameAll (x ∷ xs) [] = false
+sameAll (x ∷ xs) (y ∷ ys) = same x y && sameAll xs ys

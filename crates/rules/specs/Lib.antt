@@ -12,6 +12,7 @@ pub mod Arrival
 pub mod Steps
 pub mod Characteristics
 pub mod Host
+pub mod Settings
 pub mod Calls
 pub mod Area
 pub mod Bounds

@@ -62,3 +62,7 @@ unsound = 5
 -- sound, but not carried
 abbrev pub notCarried : ℕ
 notCarried = 6
+
+-- a settings record that breaks a rule (M-100)
+abbrev pub unsoundRecord : ℕ
+unsoundRecord = 7

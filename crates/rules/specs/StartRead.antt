@@ -128,9 +128,9 @@ lastSetChoice = choosesUniversal
 abbrev pub lastDisable : ℕ
 lastDisable = disablesControls
 
--- The Start Read test, but for the count of set bytes, which reading tests. The largest read is an argument.
-unfoldable pub soundStartRead : {D : Type 0} → ℕ → Message D → Bool
-soundStartRead largest m =
+-- The Start Read test, but for the count of set bytes, which reading tests: its values and places, and the largest read, which is an argument.
+unfoldable pub soundFields : {D : Type 0} → Message D → Bool
+soundFields m =
     leb (underflow m) lastUnderflow &&
     leb (raises m) lastSwitch &&
     leb (setChoice m) lastSetChoice &&
@@ -140,8 +140,10 @@ soundStartRead largest m =
     leb (lowWater m) (endOfData m) &&
     leb (startOfDisplay m) (endOfData m) &&
     leb (endOfData m) (maxLength m) &&
-    leb (maxLength m) largest &&
     eqb (length (m .text)) (endOfData m - startOfDisplay m)
+
+unfoldable pub soundStartRead : {D : Type 0} → ℕ → Message D → Bool
+soundStartRead largest m = soundFields m && leb (maxLength m) largest
 
 -- code c is in the set when bit c mod 8 of byte c div 8 is 1
 unfoldable pub inSet : List ℕ → ℕ → Bool
@@ -151,6 +153,6 @@ inSet set c = isOn (byteAt set (c / byteBits) / 2 ^ (c % byteBits) % 2)
 unfoldable pub universal : List ℕ
 universal = 0b11111111 ∷ 0b11111100 ∷ 0b01011011 ∷ 0b11111111 ∷ []
 
--- ZZ 0: the last set given with ZZ 1; 1: this set; 2: universal
+-- ZZ 0: the last set given with ZZ 1 or loaded; 1: this set; 2: universal
 unfoldable pub chosenSet : {D : Type 0} → List ℕ → Message D → List ℕ
 chosenSet last m = pick (eqb (setChoice m) choosesLast) last (pick (eqb (setChoice m) choosesThis) (m .set) universal)

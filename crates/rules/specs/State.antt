@@ -5,7 +5,7 @@ use mathlib.Core.List.{List, []}
 use mathlib.Core.Option.{Option, none}
 use lib.ListN.{replicate}
 use Rattle.rules.specs.Choice.{pick, within}
-use Rattle.rules.specs.Numbers.{codeCount}
+use Rattle.rules.specs.Numbers.{inputSize, codeCount}
 use Rattle.rules.specs.StartRead.{universal}
 use Rattle.rules.specs.Screen.{Screen}
 
@@ -44,15 +44,17 @@ pub record Switches : Type 0 where
   pub recognising : Bool
   pub prompting : Bool
 
--- what the host has set
+-- what is set of the line, by the host or by loading
 pub record Host : Type 0 where
   -- Initiate was accepted
   pub initiated : Bool
   pub switches : Switches
   -- an attribute for each character code
   pub attributes : List ℕ
-  -- the last set given with ZZ 1, universal if none was
+  -- the last set given with ZZ 1 or loaded, universal if none was
   pub lastSet : List ℕ
+  -- the largest MAX-LENGTH that a Start Read may have
+  pub largestRead : ℕ
 
 -- what is known of the terminal
 pub record Terminal : Type 0 where
@@ -117,7 +119,8 @@ unfoldable pub freshSwitches : Switches
 freshSwitches = record { raising = false; echoing = true; recognising = false; prompting = false }
 
 unfoldable pub freshHost : Host
-freshHost = record { initiated = false; switches = freshSwitches; attributes = replicate codeCount 0; lastSet = universal }
+freshHost =
+    record { initiated = false; switches = freshSwitches; attributes = replicate codeCount 0; lastSet = universal; largestRead = inputSize }
 
 unfoldable pub freshTerminal : Terminal
 freshTerminal =
@@ -128,16 +131,20 @@ fresh = record { host = freshHost; terminal = freshTerminal; typed = record { ty
 
 -- One part changed.
 abbrev pub withSwitches : Switches → Host → Host
-withSwitches x h = record { initiated = h .initiated; switches = x; attributes = h .attributes; lastSet = h .lastSet }
+withSwitches x h =
+    record { initiated = h .initiated; switches = x; attributes = h .attributes; lastSet = h .lastSet; largestRead = h .largestRead }
 
 abbrev pub withAttributes : List ℕ → Host → Host
-withAttributes x h = record { initiated = h .initiated; switches = h .switches; attributes = x; lastSet = h .lastSet }
+withAttributes x h =
+    record { initiated = h .initiated; switches = h .switches; attributes = x; lastSet = h .lastSet; largestRead = h .largestRead }
 
 abbrev pub withLastSet : List ℕ → Host → Host
-withLastSet x h = record { initiated = h .initiated; switches = h .switches; attributes = h .attributes; lastSet = x }
+withLastSet x h =
+    record { initiated = h .initiated; switches = h .switches; attributes = h .attributes; lastSet = x; largestRead = h .largestRead }
 
 abbrev pub withInitiated : Bool → Host → Host
-withInitiated x h = record { initiated = x; switches = h .switches; attributes = h .attributes; lastSet = h .lastSet }
+withInitiated x h =
+    record { initiated = x; switches = h .switches; attributes = h .attributes; lastSet = h .lastSet; largestRead = h .largestRead }
 
 module _ {C : Type 0} where
   abbrev pub withHost : Host → State C → State C

@@ -6,7 +6,7 @@ use mathlib.Core.Bool.{Bool, true, false, not, Bool·beq, _&&_}
 use mathlib.Core.List.{List, [], _∷_, map}
 use lib.Dec.{eqb}
 use lib.ListN.{length}
-use Rattle.rules.specs.Choice.{pick, within, allAre, joined, same}
+use Rattle.rules.specs.Choice.{pick, within, allAre, joined, sameAll}
 use Rattle.rules.specs.Messages.Forms.{Message, readData}
 use Rattle.rules.specs.Screen.{lastMark}
 use Rattle.rules.specs.StartRead.{inSet}
@@ -14,7 +14,8 @@ use Rattle.rules.specs.Editing.{isWord}
 use Rattle.rules.specs.State.{Characters, Terms, raised, codes}
 use Rattle.rules.specs.Turns.{Control, quote, clear, discard, outOfBand, edit}
 use Rattle.rules.specs.Turns.{Fate, arrived, control, crowdedOut, taken, tokened, cleared, lost, edited}
-use Rattle.rules.specs.Calls.{Event, key, step, tick, message, Call, Answer, mapText, sentBytes, framed, messageBytes, run}
+use Rattle.rules.specs.Messages.Layout.{framed}
+use Rattle.rules.specs.Calls.{Event, key, step, tick, message, load, Call, Answer, mapText, sentBytes, messageBytes, run}
 
 -- Two lists of calls.
 
@@ -30,17 +31,23 @@ tickEvent = 2
 abbrev pub messageEvent : ℕ
 messageEvent = 3
 
+abbrev pub loadEvent : ℕ
+loadEvent = 4
+
 unfoldable pub eventKind : {C : Type 0} → Event C → ℕ
 eventKind (key c) = keyEvent
 eventKind step = stepEvent
 eventKind tick = tickEvent
 eventKind (message bytes) = messageEvent
+eventKind (load own site) = loadEvent
 
-unfoldable pub eventBytes : {C : Type 0} → Event C → List ℕ
+-- the lists of bytes that come with it
+unfoldable pub eventBytes : {C : Type 0} → Event C → List (List ℕ)
 eventBytes (key c) = []
 eventBytes step = []
 eventBytes tick = []
-eventBytes (message bytes) = bytes
+eventBytes (message bytes) = bytes ∷ []
+eventBytes (load own site) = own ∷ site ∷ []
 
 -- a key's code; no other event has one
 unfoldable pub codeOf : Event ℕ → ℕ
@@ -48,6 +55,7 @@ codeOf (key n) = n
 codeOf step = 0
 codeOf tick = 0
 codeOf (message bytes) = 0
+codeOf (load own site) = 0
 
 -- calls that agree but for a key's code; lent areas have the same lengths
 unfoldable pub agree : Call ℕ → Call ℕ → Bool
@@ -55,7 +63,7 @@ agree c d =
     eqb (c .terminal) (d .terminal) &&
     eqb (c .messages) (d .messages) &&
     eqb (eventKind (c .event)) (eventKind (d .event)) &&
-    same (eventBytes (c .event)) (eventBytes (d .event))
+    sameAll (eventBytes (c .event)) (eventBytes (d .event))
 
 -- the runs differ only in some typed characters
 unfoldable pub alike : List (Call ℕ) → List (Call ℕ) → Bool
@@ -116,6 +124,7 @@ placedEvent place (key n) = key (typedAt place n)
 placedEvent place step = step
 placedEvent place tick = tick
 placedEvent place (message bytes) = message bytes
+placedEvent place (load own site) = load own site
 
 -- the same calls, each key with its place, counted from a number
 unfoldable pub placed : ℕ → List (Call ℕ) → List (Call Placed)

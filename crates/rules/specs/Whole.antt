@@ -19,13 +19,14 @@ use Rattle.rules.specs.StartRead.Acceptance
 use Rattle.rules.specs.Steps
 use Rattle.rules.specs.Characteristics
 use Rattle.rules.specs.Host
+use Rattle.rules.specs.Settings
 use Rattle.rules.specs.Calls
 use Rattle.rules.specs.Bench
 use Rattle.rules.specs.TwoRuns
 use Rattle.rules.specs.TwoRuns.Examples
 
 unfoldable pub openChoice : Unit {0}
-unfolding Choice.pick Choice.firstOf Choice.within Choice.bit Choice.isEmpty Choice.allAre Choice.anyIs Choice.joined Choice.same
+unfolding Choice.pick Choice.firstOf Choice.within Choice.bit Choice.isEmpty Choice.allAre Choice.anyIs Choice.joined Choice.same Choice.sameAll
 openChoice = tt
 
 unfoldable pub openNumbers : Unit {0}
@@ -33,7 +34,7 @@ unfolding Numbers.inputSize Numbers.typeAheadSize Numbers.tokenSize Numbers.mess
 openNumbers = tt
 
 unfoldable pub openLayout : Unit {0}
-unfolding Layout.fieldsIn Layout.numberOf Layout.fits Layout.sizeOf Layout.widthsOf Layout.readGroups Layout.writeGroups
+unfolding Layout.fieldsIn Layout.numberOf Layout.fits Layout.sizeOf Layout.widthsOf Layout.readGroups Layout.writeGroups Layout.framed
 openLayout = tt
 
 unfoldable pub openParameters : Unit {0}
@@ -53,7 +54,7 @@ unfolding Unused.bitsOf Unused.zeroGroups Unused.zeroTail Unused.zeroAs Unused.u
 openUnused = tt
 
 unfoldable pub openStartRead : Unit {0}
-unfolding StartRead.soundStartRead StartRead.inSet StartRead.universal StartRead.chosenSet
+unfolding StartRead.soundFields StartRead.soundStartRead StartRead.inSet StartRead.universal StartRead.chosenSet
 openStartRead = tt
 
 unfoldable pub openScreen : Unit {0}
@@ -100,12 +101,16 @@ unfoldable pub openHost : Unit {0}
 unfolding Host.ourInitiate Host.initiates Host.completion Host.stopsDiscarding Host.writesUnlessDiscarding Host.sendsCompletion Host.writesOut Host.reports Host.setsCharacteristics Host.obeys
 openHost = tt
 
+unfoldable pub openSettings : Unit {0}
+unfolding Settings.frontSection Settings.behindSection Settings.areWhole Settings.sectionBehind Settings.sectionIn Settings.isSwitch Settings.soundSwitches Settings.isListed Settings.soundPairs Settings.soundSet Settings.soundLargestRead Settings.isSound Settings.switchesIn Settings.withPairs Settings.tableIn Settings.unlessEmpty Settings.meaningOf Settings.areSound Settings.foundSection Settings.foundOr Settings.loaded Settings.loads Settings.attributeParametersFrom Settings.switchParameters Settings.switchBytes Settings.pairsFrom Settings.bitsWhere Settings.unlessTrailing Settings.setWhere Settings.orEmpty Settings.sectionsOf Settings.recordOf Settings.isSayable
+openSettings = tt
+
 unfoldable pub openCalls : Unit {0}
-unfolding Calls.framed Calls.areaAfter Calls.mapText Calls.sentBytes Calls.isServers Calls.isHosts Calls.isRefused Calls.carriesStartRead Calls.carriesWrite Calls.isPending Calls.isTimely Calls.carriesQuestions Calls.isCarriedBy Calls.carries Calls.refusals Calls.received Calls.refuses Calls.does Calls.answersMessage Calls.answers Calls.answer Calls.messageBytes Calls.runFrom Calls.run
+unfolding Calls.areaAfter Calls.mapText Calls.sentBytes Calls.isServers Calls.isHosts Calls.carriesStartRead Calls.carriesWrite Calls.isPending Calls.isTimely Calls.carriesQuestions Calls.passesTest Calls.isUnsound Calls.isCarriedBy Calls.carries Calls.refusals Calls.received Calls.refuses Calls.does Calls.answersLoad Calls.answersMessage Calls.answers Calls.answer Calls.messageBytes Calls.runFrom Calls.run
 openCalls = tt
 
 unfoldable pub openBench : Unit {0}
-unfolding Bench.sameAll Bench.readsAs Bench.endsIn Bench.copyOf Bench.answersAs Bench.runsAs Bench.holds Bench.failures Bench.starred Bench.warned
+unfolding Bench.readsAs Bench.endsIn Bench.copyOf Bench.answersAs Bench.runsAs Bench.holds Bench.failures Bench.starred Bench.warned
 openBench = tt
 
 unfoldable pub openTwoRuns : Unit {0}
@@ -117,5 +122,5 @@ unfolding Examples.sameSeen Examples.looksSame Examples.hostReads Examples.conve
 openExamples = tt
 
 unfoldable pub whole : Unit {0}
-unfolding openChoice openNumbers openLayout openParameters openForms openCodec openUnused openStartRead openScreen openState openTurns openToken openReadData openEditing openArrival openAcceptance openSteps openCharacteristics openHost openCalls openBench openTwoRuns openExamples
+unfolding openChoice openNumbers openLayout openParameters openForms openCodec openUnused openStartRead openScreen openState openTurns openToken openReadData openEditing openArrival openAcceptance openSteps openCharacteristics openHost openSettings openCalls openBench openTwoRuns openExamples
 whole = tt

@@ -9,3 +9,6 @@ pub const THREE_BITS: u8 = 8;
 pub const FOUR_BITS: u8 = 16;
 
 pub const SEVEN_BITS: u8 = 128;
+
+// The used bits of an attribute, as a mask.
+pub const WHOLE_MASK: u8 = SEVEN_BITS - 1;

@@ -2,6 +2,8 @@
 pub mod bits;
 pub mod characters;
 pub mod forms;
+pub mod out_of_band;
+pub mod selectors;
 
 pub const INPUT_SIZE: usize = 132;
 
@@ -43,6 +45,8 @@ pub const WRONG_TIME: u8 = 4;
 pub const UNSOUND: u8 = 5;
 
 pub const NOT_CARRIED: u8 = 6;
+
+pub const UNSOUND_RECORD: u8 = 7;
 
 // MSGTYPE, as in specs/Messages/Forms.antt.
 

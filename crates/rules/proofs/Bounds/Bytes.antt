@@ -1,13 +1,17 @@
--- Lists of bytes: one byte, two lists, a part of a list.
+-- Lists of bytes: one byte, two lists, a part of a list, a number.
 use mathlib.Core.Path.{_≡_, refl}
-use Prim.Native.Nat.{ℕ, _<_}
+use Prim.Native.Nat.{ℕ, zero, suc, _/_, _%_, _≤_, _<_}
+use native.Mathlib.Nat.{mod-lt}
+use native.Mathlib.Omega.{arith}
 use mathlib.Core.Bool.{true}
 use mathlib.Core.List.{List, [], _∷_, _++_}
-use lib.ListN.{take, drop}
+use lib.ListN.{length, take, drop, replicate, take-append-drop}
 use borrow.Author.Tests.{lt-ltb}
 use Rattle.rules.specs.Choice.{allAre}
+use Rattle.rules.specs.Messages.Layout.{byteBits, byteValues, fieldsIn, fits, numberAt, bytesOf}
 use Rattle.rules.specs.Messages.Codec.{allBytes}
-use Rattle.rules.proofs.Choice.{both, all-append, all-split}
+use Rattle.rules.proofs.Choice.{both, all-cons, all-append, all-split}
+use Rattle.rules.proofs.Fields.{fields-back}
 
 pub no-bytes : allBytes [] ≡ true
 unfolding allBytes allAre
@@ -28,3 +32,19 @@ bytes-take n ns h = all-split _ n ns h .0
 pub bytes-drop : (n : ℕ) (ns : List ℕ) → allBytes ns ≡ true → allBytes (drop n ns) ≡ true
 unfolding allBytes
 bytes-drop n ns h = all-split _ n ns h .1
+
+-- a number is written in bytes
+pub number-bytes : (n v : ℕ) → allBytes (bytesOf n v) ≡ true
+unfolding fieldsIn allBytes allAre
+number-bytes zero v = refl
+number-bytes (suc n) v = both (lt-ltb (v % byteValues) byteValues (mod-lt v (omega arith))) (number-bytes n (v / byteValues))
+
+-- and the bytes in front of a list are those of the number in them
+bytes-fit : (n : ℕ) (bytes : List ℕ) → allBytes bytes ≡ true → n ≤ length bytes → fits (replicate n byteBits) (take n bytes) ≡ true
+unfolding fits allBytes allAre
+bytes-fit zero bytes e h = refl
+bytes-fit (suc n) [] e h = absurd (omega arith)
+bytes-fit (suc n) (b ∷ bytes) e h = let t = all-cons _ b bytes e in both (t .0) (bytes-fit n bytes (t .1) (omega arith))
+
+pub front-bytes : (n : ℕ) (bytes : List ℕ) → allBytes bytes ≡ true → n ≤ length bytes → bytesOf n (numberAt n 0 bytes) ≡ take n bytes
+front-bytes n bytes e h = rw take-append-drop at (fields-back (drop n bytes) (replicate n byteBits) (take n bytes) (bytes-fit n bytes e h))

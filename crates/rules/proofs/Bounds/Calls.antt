@@ -11,22 +11,23 @@ use Rattle.rules.specs.Messages.Codec.{Outcome, refused, sound, read, al
 use Rattle.rules.specs.State.{State, codes, freshHost, freshTerminal, fresh}
 use Rattle.rules.specs.StartRead.{universal}
 use Rattle.rules.specs.Characteristics.{isDeferredClear}
-use Rattle.rules.specs.Calls.{Event, key, step, tick, message, Call, Answer, isCarriedBy, carries, refusals, received}
-use Rattle.rules.specs.Calls.{refuses, does, answersMessage, answers, answer, messageBytes, runFrom, run}
+use Rattle.rules.specs.Calls.{Event, key, step, tick, message, load, Call, Answer, isCarriedBy, carries, refusals, received}
+use Rattle.rules.specs.Calls.{refuses, does, answersMessage, answersLoad, answers, answer, messageBytes, runFrom, run}
 use Rattle.rules.specs.Bounds.{isAttribute, BoundedRead, Bounded, isByteEvent, Within, AllWithin}
-use Rattle.rules.proofs.Choice.{pick-case, pick-second, all-cons}
+use Rattle.rules.proofs.Choice.{pick-case, pick-second, halves, all-cons}
 use Rattle.rules.proofs.Outcomes.{refused-sound}
 use Rattle.rules.proofs.Bounds.Sent.{area-meant, read-sent}
 use Rattle.rules.proofs.Bounds.Turns.{Steady, Fine, still-good}
 use Rattle.rules.proofs.Bounds.Arrival.{arrives-fine}
 use Rattle.rules.proofs.Bounds.Steps.{steps-fine, ticks-fine}
 use Rattle.rules.proofs.Bounds.Host.{obeys-fine}
+use Rattle.rules.proofs.Bounds.Settings.{loads-fine}
 
 pub fresh-bounded : Bounded fresh
 unfolding fresh freshHost freshTerminal universal allBytes allAre isAttribute isDeferredClear
 fresh-bounded =
     record {
-      host = record { table = refl; attributes = refl; setLength = omega arith; setBytes = refl };
+      host = record { table = refl; attributes = refl; setLength = omega arith; setBytes = refl; largestRead = omega arith };
       terminal = record { column = omega arith; line = omega arith; dropped = omega arith };
       typed = record { typeAhead = omega arith; token = omega arith; keyBytes = refl; tokenBytes = refl };
       pendingRead = tt;
@@ -71,12 +72,18 @@ module _ {s : State ℕ} (h : Steady BoundedRead s) where
       let c = received-sound s bytes m e in
       fine-within _ (obeys-fine h m (read-sent bytes m small (c .0)) (c .1))
 
+  answersLoad-within : (own site : List ℕ) → allBytes own ≡ true → allBytes site ≡ true → Within (answersLoad own site s)
+  unfolding answersLoad firstOf does
+  answersLoad-within own site ours theirs =
+      pick-case (λ (f : State ℕ → Answer ℕ). Within (f s)) _ (λ y. refuses-within _) (λ n. fine-within _ (loads-fine own site ours theirs h))
+
   answers-within : (e : Event ℕ) → isByteEvent e ≡ true → Within (answers codes e s)
   unfolding answers does isByteEvent
   answers-within (key c) byte = fine-within _ (arrives-fine h c (ltb-true c 256 byte))
   answers-within step byte = fine-within _ (steps-fine h)
   answers-within tick byte = fine-within _ (ticks-fine h)
   answers-within (message bytes) small = answersMessage-within bytes small (received s bytes) refl
+  answers-within (load own site) small = let h = halves (allBytes own) (allBytes site) small in answersLoad-within own site (h .0) (h .1)
 
 pub call-within : (c : Call ℕ) (s : State ℕ) → isByteEvent (c .event) ≡ true → Bounded s → Within (answer codes c s)
 unfolding answer firstOf

@@ -9,6 +9,7 @@ use lib.Dec.{ltb, eqb}
 use lib.ListN.{length, getD, length-set}
 use borrow.Author.Tests.{lt-ltb}
 use Rattle.rules.specs.Choice.{allAre}
+use Rattle.rules.specs.Numbers.{inputSize}
 use Rattle.rules.specs.Messages.Layout.{byteAt}
 use Rattle.rules.specs.Messages.Codec.{allBytes}
 use Rattle.rules.specs.Messages.Forms.{Message}
@@ -29,12 +30,13 @@ masked-under (suc width) mask old new =
     let low = pick-case (λ (n : ℕ). n < 2) (eqb (mask % 2) 1) {a = new % 2} {b = old % 2} (λ y. omega arith) (λ n. omega arith) in
     omega arith
 
--- What parameters keep, whatever they hold: 256 places of seven bits, and the set.
+-- What parameters keep, whatever they hold: 256 places of seven bits, the set, and the largest read.
 record Seven (h : Host) : Type 0 where
   table : length (h .attributes) ≡ 256
   seven : allAre (λ a. ltb a 128) (h .attributes) ≡ true
   setLength : length (h .lastSet) ≤ 32
   setBytes : allBytes (h .lastSet) ≡ true
+  largestRead : h .largestRead ≤ inputSize
 
 parameter-seven : (p : List ℕ) (h : Host) → Seven h → Seven (withParameter p h)
 unfolding withParameter withAttribute
@@ -48,8 +50,9 @@ parameter-seven p h k =
       seven = all-set (λ a. ltb a 128) (h .attributes) (byteAt p 2) _ (lt-ltb (masked 7 (byteAt p 3) old (byteAt p 4)) 128 under) (k .seven);
       setLength = k .setLength;
       setBytes = k .setBytes;
+      largestRead = k .largestRead;
     })
-    (λ n. record { table = k .table; seven = k .seven; setLength = k .setLength; setBytes = k .setBytes })
+    (λ n. record { table = k .table; seven = k .seven; setLength = k .setLength; setBytes = k .setBytes; largestRead = k .largestRead })
 
 parameters-seven : (ps : List (List ℕ)) (h : Host) → Seven h → Seven (withParameters ps h)
 unfolding withParameters
@@ -59,8 +62,8 @@ parameters-seven (p ∷ ps) h k = parameters-seven ps (withParameter p h) (param
 settings-bounded : (m : Message ℕ) (h : Host) → BoundedHost h → BoundedHost (withParameters (m .parameters) h)
 unfolding isAttribute
 settings-bounded m h b =
-    let k = parameters-seven (m .parameters) h (record { table = b .table; seven = b .attributes; setLength = b .setLength; setBytes = b .setBytes }) in
-    record { table = k .table; attributes = k .seven; setLength = k .setLength; setBytes = k .setBytes }
+    let k = parameters-seven (m .parameters) h (record { table = b .table; seven = b .attributes; setLength = b .setLength; setBytes = b .setBytes; largestRead = b .largestRead }) in
+    record { table = k .table; attributes = k .seven; setLength = k .setLength; setBytes = k .setBytes; largestRead = k .largestRead }
 
 pub settings-fine : {s : State ℕ} (m : Message ℕ) → Steady BoundedRead s → Fine (setsCharacteristics m s)
 unfolding setsCharacteristics

@@ -35,7 +35,7 @@ module _ {s : State ℕ} (h : Steady BoundedRead s) where
       let room = initiate-room in
       changes-then _ _
       (sends-good ourInitiate initiate-sent (omega arith)
-      (rehosted h (record { table = h .host .table; attributes = h .host .attributes; setLength = h .host .setLength; setBytes = h .host .setBytes })))
+      (rehosted h (record { table = h .host .table; attributes = h .host .attributes; setLength = h .host .setLength; setBytes = h .host .setBytes; largestRead = h .host .largestRead })))
 
   checksInput-fine : Fine (checksInput s)
   unfolding checksInput waitingCount

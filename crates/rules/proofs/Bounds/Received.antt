@@ -1,5 +1,5 @@
 -- What is known of a message that was received and fits: its head, its lists, its values.
-use mathlib.Core.Path.{_≡_, refl, sym, subst, _∙_}
+use mathlib.Core.Path.{_≡_, refl, sym, ap, subst, _∙_}
 use Prim.Native.Nat.{ℕ, zero, suc, _+_, _-_, _≤_, _<_}
 use native.Mathlib.Omega.{arith}
 use mathlib.Core.Bool.{Bool, true, _&&_}
@@ -12,9 +12,10 @@ use Rattle.rules.specs.Numbers.{inputSize, messageSize}
 use Rattle.rules.specs.Messages.Layout.{fits, sizeOf, widthsOf}
 use Rattle.rules.specs.Messages.Forms.{Message, forms, formOf, startRead, write}
 use Rattle.rules.specs.Messages.Codec.{allBytes, definedFields, tailBytes, fitsTail, fitsAs, setSize}
-use Rattle.rules.specs.StartRead.{soundStartRead, underflow, vertical, continues, raises, disables, setChoice, escapes}
+use Rattle.rules.specs.StartRead.{soundFields, soundStartRead, underflow, vertical, continues, raises, disables, setChoice, escapes}
 use Rattle.rules.specs.StartRead.{maxLength, endOfData, timeout, endOfPrompt, startOfDisplay, lowWater}
-use Rattle.rules.specs.Calls.{carriesStartRead, sentBytes}
+use Rattle.rules.specs.State.{State}
+use Rattle.rules.specs.Calls.{passesTest, carriesStartRead, sentBytes}
 use Rattle.rules.proofs.Choice.{pick-true, halves, thirds, quarters}
 use Rattle.rules.proofs.Bounds.Limits.{fits-at}
 use Rattle.rules.proofs.Bounds.Sent.{Fit, Sent, sent-length}
@@ -47,6 +48,14 @@ write-text m e h =
     let l = h .size in
     omega arith
 
+-- A line's Start Read test, of one that passes without a line: its largest read alone.
+pub start-passes : (s : State ℕ) (m : Message ℕ) → m .kind ≡ startRead → definedFields m ≡ true → passesTest s m ≡ leb (maxLength m) (s .host .largestRead)
+unfolding passesTest definedFields soundStartRead
+start-passes s m e d =
+    let is = eq-eqb (m .kind) startRead e in
+    let h = halves (soundFields m) (leb (maxLength m) inputSize) (sym (pick-true _ _ is) ∙ d) in
+    pick-true _ _ is ∙ ap (λ fields. fields && leb (maxLength m) (s .host .largestRead)) (h .0)
+
 -- A Start Read that is carried.
 pub record AcceptedStartRead (m : Message ℕ) : Type 0 where
   pub underflow : underflow m ≤ 2
@@ -62,7 +71,7 @@ pub record AcceptedStartRead (m : Message ℕ) : Type 0 where
   pub textBytes : allBytes (m .text) ≡ true
 
 pub accepted-start-read : (m : Message ℕ) → m .kind ≡ startRead → carriesStartRead m ≡ true → Fit m → AcceptedStartRead m
-unfolding formOf forms widthsOf fitsTail definedFields soundStartRead carriesStartRead
+unfolding formOf forms widthsOf fitsTail definedFields soundFields soundStartRead carriesStartRead
 accepted-start-read m e carried h =
     let parts = fit-parts m startRead e h in
     let tail = quarters (leb (length (m .set)) setSize) (allBytes (m .set)) (isEmpty (m .parameters)) (allBytes (m .text)) (parts .1) in
@@ -71,16 +80,16 @@ accepted-start-read m e carried h =
     let test = joint-at (leb (underflow m) 2)
     (leb (raises m) 2 ∷ leb (setChoice m) 2 ∷ leb (escapes m) 2 ∷ leb (disables m) 3 ∷
     leb (endOfPrompt m) (endOfData m) ∷ leb (lowWater m) (endOfData m) ∷ leb (startOfDisplay m) (endOfData m) ∷
-    leb (endOfData m) (maxLength m) ∷ leb (maxLength m) inputSize ∷
-    eqb (length (m .text)) (endOfData m - startOfDisplay m) ∷ []) passed in
-    let text = eqb-true (length (m .text)) (endOfData m - startOfDisplay m) (test 10) in
+    leb (endOfData m) (maxLength m) ∷ eqb (length (m .text)) (endOfData m - startOfDisplay m) ∷
+    leb (maxLength m) inputSize ∷ []) passed in
+    let text = eqb-true (length (m .text)) (endOfData m - startOfDisplay m) (test 9) in
     record {
       underflow = leb-true (underflow m) 2 (test 0);
       disables = leb-true (disables m) 3 (test 4);
       prompt = leb-true (endOfPrompt m) (endOfData m) (test 5);
       lowWater = leb-true (lowWater m) (endOfData m) (test 6);
       room = leb-true (endOfData m) (maxLength m) (test 8);
-      largest = leb-true (maxLength m) inputSize (test 9);
+      largest = leb-true (maxLength m) inputSize (test 10);
       text = omega arith;
       timeout = fits-at (widthsOf (formOf startRead .head)) (m .numbers) 14 (parts .0) (omega arith);
       setLength = leb-true (length (m .set)) setSize (tail .0);

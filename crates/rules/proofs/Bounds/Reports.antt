@@ -10,7 +10,7 @@ use lib.ListN.{length, getD}
 use borrow.Author.Tests.{ltb-true, leb-true, eqb-true, eq-eqb}
 use Rattle.rules.specs.Choice.{pick, within, bit, isEmpty, allAre}
 use Rattle.rules.specs.Numbers.{messageArea}
-use Rattle.rules.specs.Messages.Layout.{byteAt, fits, widthsOf}
+use Rattle.rules.specs.Messages.Layout.{byteAt, fits, widthsOf, framed}
 use Rattle.rules.specs.Messages.Parameters.{selector, characterAttributes, raiseInput, normalEcho, escapeRecognition, autoPrompt, inputCountState}
 use Rattle.rules.specs.Messages.Parameters.{definedSelector, questionLimits, valueLimits, definedValue, question, setting}
 use Rattle.rules.specs.Messages.Parameters.{under, limitsOf, parameterSize, soundParameter, fitsParameter}
@@ -19,7 +19,7 @@ use Rattle.rules.specs.Messages.Codec.{definedKind, definedFields, fitsT
 use Rattle.rules.specs.State.{Host, State}
 use Rattle.rules.specs.Characteristics.{isCarried, switchOf, reported, report}
 use Rattle.rules.specs.Host.{reports}
-use Rattle.rules.specs.Calls.{framed, sentBytes, carriesQuestions}
+use Rattle.rules.specs.Calls.{sentBytes, carriesQuestions}
 use Rattle.rules.specs.Bounds.{isAttribute, BoundedHost, BoundedRead}
 use Rattle.rules.proofs.Choice.{both, halves, or-case, quarters, pick-true, pick-false, pick-case, all-at, all-both, all-map}
 use Rattle.rules.proofs.Bounds.Limits.{under-true, under-at, under-length}

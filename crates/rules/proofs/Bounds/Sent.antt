@@ -8,12 +8,12 @@ use mathlib.Core.List.{List, [], _∷_, _++_, map}
 use lib.ListN.{length, length-append}
 use Rattle.rules.specs.Choice.{joined}
 use Rattle.rules.specs.Numbers.{messageSize, messageArea}
-use Rattle.rules.specs.Messages.Layout.{sizeOf, writeGroups, bytesOf}
+use Rattle.rules.specs.Messages.Layout.{sizeOf, writeGroups, bytesOf, framed}
 use Rattle.rules.specs.Messages.Forms.{Message, formOf}
 use Rattle.rules.specs.Messages.Codec as codec
 use Rattle.rules.specs.Messages.Codec.{sound, definedKind, read, allBytes, tailBytes, bytesAs, fitsAs, message, kindOf, fitsHeld}
 use Rattle.rules.specs.State.{codes}
-use Rattle.rules.specs.Calls.{framed, mapText, sentBytes}
+use Rattle.rules.specs.Calls.{mapText, sentBytes}
 use Rattle.rules.specs.Bounds.{AllMeant}
 use Rattle.rules.proofs.Fields.{length-bytesOf, length-writeGroups}
 use Rattle.rules.proofs.Outcomes.{writable, written-sound}

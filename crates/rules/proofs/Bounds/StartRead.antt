@@ -115,5 +115,6 @@ module _ (m : Message ℕ) (known : AcceptedStartRead m) {s : State ℕ} (h : St
         attributes = h₁ .host .attributes;
         setLength = known .setLength;
         setBytes = known .setBytes;
+        largestRead = h₁ .host .largestRead;
       })))
       (λ n. h₁))

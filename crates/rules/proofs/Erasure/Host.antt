@@ -1,11 +1,13 @@
--- Erasure of what an accepted host message does.
+-- Erasure of what an accepted host message does, and of loading.
 use mathlib.Core.Path.{refl}
 use Prim.Native.Nat.{ℕ}
+use mathlib.Core.List.{List}
 use Rattle.rules.specs.Messages.Forms.{Message}
 use Rattle.rules.specs.State.{Characters}
 use Rattle.rules.specs.Characteristics.{report}
 use Rattle.rules.specs.Arrival.{rubbingOut}
 use Rattle.rules.specs.Host.{ourInitiate, initiates, completion, stopsDiscarding, writesUnlessDiscarding, sendsCompletion, writesOut, reports, setsCharacteristics, obeys}
+use Rattle.rules.specs.Settings.{loads}
 use Rattle.rules.specs.Calls.{mapText}
 use Rattle.rules.proofs.Erasure.Maps.{Maps}
 use Rattle.rules.proofs.Erasure.Turns.{Erases, erases-here, erases-writes, erases-sends, erases-plain, erases-changes}
@@ -37,6 +39,10 @@ module _ {C D : Type 0} {f : C → D} {cs : Characters C} {ds : Characters D} (m
   erase-setsCharacteristics : (n : Message ℕ) → Erases f (setsCharacteristics n) (setsCharacteristics n)
   unfolding setsCharacteristics
   erase-setsCharacteristics n = erases-changes _ _ (λ s. refl)
+
+  pub erase-loads : (own site : List ℕ) → Erases f (loads own site) (loads own site)
+  unfolding loads
+  erase-loads own site = erases-changes _ _ (λ s. refl)
 
   pub erase-obeys : (n : Message ℕ) → Erases f (obeys cs n) (obeys ds n)
   unfolding obeys

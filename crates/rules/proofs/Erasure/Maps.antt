@@ -5,7 +5,7 @@ use mathlib.Core.List.{map}
 use mathlib.Core.Option.{Option·map}
 use Rattle.rules.specs.State.{Characters, Key, Typed, Reading, State}
 use Rattle.rules.specs.Turns.{Fate, Turn, arrived, control, crowdedOut, taken, tokened, cleared, lost, edited}
-use Rattle.rules.specs.Calls.{Event, Call, Answer, key, step, tick, message, mapText}
+use Rattle.rules.specs.Calls.{Event, Call, Answer, key, step, tick, message, load, mapText}
 
 -- the map goes from the one reading of characters to the other
 pub record Maps {C D : Type 0} (f : C → D) (cs : Characters C) (ds : Characters D) : Type 0 where
@@ -64,6 +64,7 @@ module _ {C D : Type 0} (f : C → D) where
   mapEvent step = step
   mapEvent tick = tick
   mapEvent (message bytes) = message bytes
+  mapEvent (load own site) = load own site
 
   abbrev pub mapCall : Call C → Call D
   mapCall c = record { terminal = c .terminal; messages = c .messages; event = mapEvent (c .event) }

@@ -9,7 +9,7 @@ use Rattle.rules.specs.Messages.Codec.{Outcome, refused, sound}
 use Rattle.rules.specs.State.{Characters, State, fresh}
 use Rattle.rules.specs.Turns.{Fate, Rule}
 use Rattle.rules.specs.Arrival.{arrives}
-use Rattle.rules.specs.Calls.{Event, key, step, tick, message, Call, Answer, refuses, does, received, answersMessage, answers, answer}
+use Rattle.rules.specs.Calls.{Event, key, step, tick, message, load, Call, Answer, refuses, does, received, answersMessage, answersLoad, answers, answer}
 use Rattle.rules.proofs.Choice.{pick-both}
 use Rattle.rules.proofs.TwoRuns.Twins.{Twin, isBoth, code₁, code₂, first-chars, second-chars, Level}
 use Rattle.rules.proofs.TwoRuns.Twins.{Spared, Agree, Rules}
@@ -17,7 +17,7 @@ use Rattle.rules.proofs.TwoRuns.Turns.{agrees-still}
 use Rattle.rules.proofs.TwoRuns.Bands.{Passed, Initiated}
 use Rattle.rules.proofs.TwoRuns.Arrival.{arrives-agrees}
 use Rattle.rules.proofs.TwoRuns.Steps.{steps-agrees, ticks-agrees}
-use Rattle.rules.proofs.TwoRuns.Host.{obeys-agrees}
+use Rattle.rules.proofs.TwoRuns.Host.{obeys-agrees, loads-agrees}
 
 module _ {changed : ℕ → Bool} where
   pub fresh-level : Level {changed = changed} fresh
@@ -57,6 +57,11 @@ module _ {changed : ℕ → Bool} (arrival : (Twin changed → ℕ) → Fate (Tw
   answersMessage-same (refused n) = refuses-same n
   answersMessage-same (sound m) = does-same (obeys-agrees m)
 
+  -- both runs load the same records
+  answersLoad-same : (own site : List ℕ) → SameAnswers (answersLoad own site) (answersLoad own site)
+  unfolding answersLoad firstOf
+  answersLoad-same own site = pick-both SameAnswers _ (refuses-same _) (does-same (loads-agrees own site))
+
   key-same : Heeded → (c : Twin changed) → SameAnswers (does (arrives first-chars c)) (does (arrives second-chars c))
   unfolding does
   key-same heeded c s l =
@@ -77,6 +82,7 @@ module _ {changed : ℕ → Bool} (arrival : (Twin changed → ℕ) → Fate (Tw
   answers-same heeded step s l = does-same steps-agrees s l
   answers-same heeded tick s l = does-same ticks-agrees s l
   answers-same heeded (message bytes) s l = answersMessage-same (received s bytes) s l
+  answers-same heeded (load own site) s l = answersLoad-same own site s l
 
   pub agree-answer : Heeded → (c : Call (Twin changed)) (s : State (Twin changed)) → Level s →
       Supposed code₁ (answer first-chars c s .turn .fates) →

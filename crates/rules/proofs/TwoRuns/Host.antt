@@ -1,12 +1,14 @@
--- Agreement of two runs: what an accepted host message does.
+-- Agreement of two runs: what an accepted host message does, and loading.
 use Prim.Native.Nat.{ℕ}
 use mathlib.Core.Path.{refl}
 use mathlib.Core.Bool.{Bool}
+use mathlib.Core.List.{List}
 use Rattle.rules.specs.Messages.Forms.{Message}
 use Rattle.rules.specs.Arrival.{rubbingOut}
 use Rattle.rules.specs.ReadData.{checksInput}
 use Rattle.rules.specs.Characteristics.{report}
 use Rattle.rules.specs.Host.{ourInitiate, initiates, completion, stopsDiscarding, writesUnlessDiscarding, sendsCompletion, writesOut, reports, setsCharacteristics, obeys}
+use Rattle.rules.specs.Settings.{loads}
 use Rattle.rules.proofs.TwoRuns.Twins.{isGuarded, Agreeing}
 use Rattle.rules.proofs.TwoRuns.Turns.{agrees-terminal, agrees-host, agrees-then, agrees-writes, agrees-sends, agrees-pick, agrees-only}
 use Rattle.rules.proofs.TwoRuns.ReadData.{unreads-agrees}
@@ -32,6 +34,10 @@ module _ {changed : ℕ → Bool} where
   setsCharacteristics-agrees : (m : Message ℕ) → Agreeing {changed = changed} (λ chars. setsCharacteristics m)
   unfolding setsCharacteristics
   setsCharacteristics-agrees m = agrees-host _
+
+  pub loads-agrees : (own site : List ℕ) → Agreeing {changed = changed} (λ chars. loads own site)
+  unfolding loads
+  loads-agrees own site = agrees-host _
 
   checksInput-agrees : Agreeing {changed = changed} (λ chars. checksInput)
   unfolding checksInput isGuarded

@@ -10,7 +10,8 @@ use Rattle.rules.specs.Messages.Forms.{Message, Tail, nothing, text, set
 use Rattle.rules.specs.Messages.Codec.{tailBytes, bytesAs}
 use Rattle.rules.specs.State.{codes}
 use Rattle.rules.specs.Turns.{Turn}
-use Rattle.rules.specs.Calls.{Answer, framed, mapText, sentBytes, messageBytes}
+use Rattle.rules.specs.Messages.Layout.{framed}
+use Rattle.rules.specs.Calls.{Answer, mapText, sentBytes, messageBytes}
 use Rattle.rules.specs.TwoRuns.{blanked, seen}
 use Rattle.rules.proofs.Choice.{pick-cases, all-cons}
 use Rattle.rules.proofs.Erasure.Maps.{mapTurn, mapAnswer}

@@ -5,29 +5,32 @@ use mathlib.Core.Bool.{Bool, true, false, not, false≢true}
 use mathlib.Core.List.{List, [], _∷_, map}
 use native.Mathlib.Omega.{arith}
 use lib.Dec.{eqb}
+use lib.ListN.{getD}
 use borrow.Author.Tests.{eqb-true}
-use Rattle.rules.specs.Choice.{pick, same}
-use Rattle.rules.specs.Calls.{Event, key, step, tick, message, Call}
+use Rattle.rules.specs.Choice.{pick, sameAll}
+use Rattle.rules.specs.Calls.{Event, key, step, tick, message, load, Call}
 use Rattle.rules.specs.TwoRuns.{eventKind, eventBytes, codeOf, agree, alike, changedAt, eachChanged, isPrinting, bothPrinting, sameClass}
 use Rattle.rules.specs.TwoRuns.{Placed, typedAt, placedEvent, placed}
-use Rattle.rules.proofs.Choice.{pick-false, halves, quarters, same-equal}
+use Rattle.rules.proofs.Choice.{pick-false, halves, quarters, sameAll-equal}
 use Rattle.rules.proofs.Erasure.Maps.{mapEvent, mapCall}
 use Rattle.rules.proofs.TwoRuns.Twins.{Twin, both, apart, firstOf, secondOf, Hidden}
 
 -- An event by its parts.
 
-eventOf : {C : Type 0} → C → ℕ → List ℕ → Event C
+eventOf : {C : Type 0} → C → ℕ → List (List ℕ) → Event C
 eventOf c zero bytes = key c
 eventOf c (suc zero) bytes = step
 eventOf c (suc (suc zero)) bytes = tick
-eventOf c (suc (suc (suc kind))) bytes = message bytes
+eventOf c (suc (suc (suc zero))) bytes = message (getD bytes 0 [])
+eventOf c (suc (suc (suc (suc kind)))) bytes = load (getD bytes 0 []) (getD bytes 1 [])
 
-map-parts : {C D : Type 0} (f : C → D) (c : C) (kind : ℕ) (bytes : List ℕ) → mapEvent f (eventOf c kind bytes) ≡ eventOf (f c) kind bytes
+map-parts : {C D : Type 0} (f : C → D) (c : C) (kind : ℕ) (bytes : List (List ℕ)) → mapEvent f (eventOf c kind bytes) ≡ eventOf (f c) kind bytes
 unfolding eventOf
 map-parts f c zero bytes = refl
 map-parts f c (suc zero) bytes = refl
 map-parts f c (suc (suc zero)) bytes = refl
-map-parts f c (suc (suc (suc kind))) bytes = refl
+map-parts f c (suc (suc (suc zero))) bytes = refl
+map-parts f c (suc (suc (suc (suc kind)))) bytes = refl
 
 placed-parts : (place : ℕ) (e : Event ℕ) → eventOf (typedAt place (codeOf e)) (eventKind e) (eventBytes e) ≡ placedEvent place e
 unfolding eventOf codeOf eventKind eventBytes placedEvent
@@ -35,6 +38,7 @@ placed-parts place (key n) = refl
 placed-parts place step = refl
 placed-parts place tick = refl
 placed-parts place (message bytes) = refl
+placed-parts place (load own site) = refl
 
 -- Two calls.
 
@@ -50,12 +54,12 @@ unfolding agree
 agree-like c d e =
     let h =
     quarters (eqb (c .terminal) (d .terminal)) (eqb (c .messages) (d .messages))
-    (eqb (eventKind (c .event)) (eventKind (d .event))) (same (eventBytes (c .event)) (eventBytes (d .event))) e in
+    (eqb (eventKind (c .event)) (eventKind (d .event))) (sameAll (eventBytes (c .event)) (eventBytes (d .event))) e in
     record {
       terminal = eqb-true _ _ (h .0);
       messages = eqb-true _ _ (h .1);
       kind = eqb-true _ _ (h .2);
-      bytes = same-equal _ _ (h .3);
+      bytes = sameAll-equal _ _ (h .3);
     }
 
 like-itself : (c : Call ℕ) → Like c c

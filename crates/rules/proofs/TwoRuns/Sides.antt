@@ -4,7 +4,7 @@ use mathlib.Core.Path.{_≡_, refl, sym, ap, _∙_}
 use mathlib.Core.Bool.{Bool}
 use mathlib.Core.List.{List, [], _∷_, map}
 use Rattle.rules.specs.State.{raised, codes}
-use Rattle.rules.specs.Calls.{Event, key, step, tick, message, Call, run}
+use Rattle.rules.specs.Calls.{Event, key, step, tick, message, load, Call, run}
 use Rattle.rules.specs.TwoRuns.{Placed, typedAt, preloaded, codeIn, raisedIn, placedCodes, placedEvent, placed}
 use Rattle.rules.proofs.Erasure.Maps.{Maps, mapEvent, mapCall, mapAnswer}
 use Rattle.rules.proofs.Erasure.Calls.{erase-run}
@@ -18,6 +18,7 @@ event-unplaced place (key n) = refl
 event-unplaced place step = refl
 event-unplaced place tick = refl
 event-unplaced place (message bytes) = refl
+event-unplaced place (load own site) = refl
 
 unplaced : (place : ℕ) (cs : List (Call ℕ)) → map (mapCall codeIn) (placed place cs) ≡ cs
 unfolding placed
@@ -38,6 +39,7 @@ module _ {C : Type 0} (f : C → Placed) where
   event-twice step = refl
   event-twice tick = refl
   event-twice (message bytes) = refl
+  event-twice (load own site) = refl
 
   calls-twice : (calls : List (Call C)) → map (mapCall codeIn) (map (mapCall f) calls) ≡ map (mapCall (λ c. codeIn (f c))) calls
   calls-twice [] = refl

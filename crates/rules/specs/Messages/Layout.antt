@@ -81,3 +81,7 @@ readGroups (g ∷ gs) at bytes = fieldsIn (g .widths) (numberAt (g .bytes) at by
 unfoldable pub writeGroups : List Group → List ℕ → List ℕ
 writeGroups [] vs = []
 writeGroups (g ∷ gs) vs = bytesOf (g .bytes) (numberOf (g .widths) vs) ++ writeGroups gs (drop (length (g .widths)) vs)
+
+-- bytes behind their length, in two bytes
+unfoldable pub framed : List ℕ → List ℕ
+framed bytes = bytesOf wordBytes (length bytes) ++ bytes
