@@ -9,13 +9,13 @@ use lib.ListN.{length, getD, length-append}
 use borrow.Author.Tests.{eq-eqb, ne-eqb, leb-true, leb-false, le-leb, lt-leb}
 use Rattle.rules.specs.Choice.{bit, joined}
 use Rattle.rules.specs.Numbers.{messageArea}
-use Rattle.rules.specs.Messages.Layout.{byteAt, fieldsIn, numberOf, writeGroups, bytesOf}
+use Rattle.rules.specs.Messages.Layout.{byteAt, fieldsIn, numberOf, writeGroups, bytesOf, framed}
 use Rattle.rules.specs.Messages.Parameters.{selector, characterAttributes}
 use Rattle.rules.specs.Messages.Forms.{forms, formOf}
 use Rattle.rules.specs.Messages.Codec.{bytesAs, tailBytes}
 use Rattle.rules.specs.State.{Host, State, withHost}
 use Rattle.rules.specs.Characteristics.{switchOf, reported, report}
-use Rattle.rules.specs.Calls.{framed, sentBytes, carriesQuestions}
+use Rattle.rules.specs.Calls.{sentBytes, carriesQuestions}
 use Rattle.rules.proofs.Choice.{halves, pick-true, pick-false}
 use Rattle.rules.proofs.Bounds.Sent.{framed-length}
 use Rattle.parameters.specs.declared.Parameter.{Parameter}

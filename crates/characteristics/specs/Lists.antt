@@ -7,7 +7,8 @@ use Rattle.rules.specs.Messages.Forms.{Message}
 use Rattle.rules.specs.Messages.Parameters.{parameterHead, longestValue}
 use Rattle.rules.specs.State.{Host, fresh, withHost}
 use Rattle.rules.specs.Characteristics.{reported, report}
-use Rattle.rules.specs.Calls.{framed, sentBytes, carriesQuestions}
+use Rattle.rules.specs.Messages.Layout.{framed}
+use Rattle.rules.specs.Calls.{sentBytes, carriesQuestions}
 use Rattle.parameters.specs.Lists.{parametersFrom}
 
 -- the bytes of the longest answer to one question: SELECTOR, CHARACTER, MASK and ATTRIBUTES

@@ -1,4 +1,4 @@
--- What the host has set, as the rules have it; and what a line keeps of the struct: its arrays' lengths, which their types say.
+-- What is set, as the rules have it; and what a line keeps of the struct: its arrays' lengths, which their types say.
 use mathlib.Core.Path.{_≡_}
 use lib.ListN.{length}
 use Rattle.rules.specs.Numbers.{codeCount}
@@ -13,7 +13,13 @@ switchesOf s =
 
 abbrev pub hostView : Host → rules.Host
 hostView h =
-    record { initiated = h .initiated; switches = switchesOf (h .switches); attributes = h .attributes; lastSet = setOf (h .«last_set») }
+    record {
+      initiated = h .initiated;
+      switches = switchesOf (h .switches);
+      attributes = h .attributes;
+      lastSet = setOf (h .«last_set»);
+      largestRead = h .«largest_read»;
+    }
 
 pub record CountedHost (h : Host) : Type 0 where
   pub table : length (h .attributes) ≡ codeCount

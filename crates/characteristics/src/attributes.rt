@@ -4,11 +4,8 @@ ghost use lib.ListN.{getD, set};
 ghost use Rattle.rules.specs.Choice.{anyIs};
 ghost use Rattle.rules.specs.Characteristics as rules;
 use crate::Host;
-use crate::out_of_band;
 use rules::bits;
-
-// The used bits of an attribute.
-pub(crate) const WHOLE_MASK: u8 = bits::SEVEN_BITS - 1;
+use rules::out_of_band;
 
 impl Host {
     // What a character's attribute is.
@@ -24,7 +21,7 @@ impl Host {
 fn masked(mask: u8, old: u8, new: u8) -> u8
     ensures { λ r. ⌜ r ≡ rules.masked rules.attributeBits mask old new ⌝ }
 {
-    ((old & !mask) | (new & mask)) & WHOLE_MASK
+    ((old & !mask) | (new & mask)) & bits::WHOLE_MASK
 }
 
 // CHARACTER, MASK and ATTRIBUTES act on one place of the table.

@@ -1,8 +1,7 @@
-// What the host sets: characteristics and character attributes; and the last termination set that it gave.
+// What is set of a line: characteristics and character attributes, the last termination set, and the largest read.
 use sets::Set;
 
 mod attributes;
-pub mod out_of_band;
 mod reports;
 mod settings;
 
@@ -14,12 +13,14 @@ pub struct Switches {
     pub prompting: bool,
 }
 
-// What the host has set.
+// What is set, by the host or by loading.
 pub struct Host {
     // Initiate was accepted
     pub initiated: bool,
     pub switches: Switches,
     pub attributes: [u8; rules::CODE_COUNT],
-    // the last set given with ZZ 1
+    // the last set given with ZZ 1 or loaded
     pub last_set: Set,
+    // the largest MAX-LENGTH that a Start Read may have
+    pub largest_read: u16,
 }

@@ -16,14 +16,14 @@ ghost use Rattle.characteristics.specs.View.{switchesOf, hostView};
 ghost use Rattle.characteristics.specs.Lists.{longestAnswer, questionsIn, answersFrom, answerTo, reportBytes};
 use crate::Host;
 use crate::Switches;
-use crate::attributes::WHOLE_MASK;
 use crate::settings::all_carried;
 use crate::settings::chosen;
 use fields::Span;
 use message::Message;
 use parameters::Parameter;
-use parameters::selectors;
+use rules::bits;
 use rules::forms;
+use rules::selectors;
 
 // Bytes of an answer for character attributes, and of a switch.
 const ATTRIBUTE_ANSWER: usize = parameters::HEAD + parameters::LONGEST_VALUE;
@@ -102,7 +102,7 @@ impl Host {
             return parameters::put_setting(
                 p.selector,
                 p.first,
-                WHOLE_MASK,
+                bits::WHOLE_MASK,
                 attributes,
                 parameters::LONGEST_VALUE,
                 area,

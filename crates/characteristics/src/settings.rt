@@ -14,7 +14,7 @@ use crate::Switches;
 use crate::attributes::any_deferred_clear;
 use crate::attributes::with_attribute;
 use parameters::Parameter;
-use parameters::selectors;
+use rules::selectors;
 
 // One of the five.
 fn is_carried(selector: u16) -> bool

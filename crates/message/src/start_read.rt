@@ -132,8 +132,8 @@ pub fn is_sound_start_read(f: StartReadFields) -> bool
         & (f.low_water <= f.end_of_data)
         & (f.start_of_display <= f.end_of_data)
         & (f.end_of_data <= f.max_length)
-        & (largest <= rules::INPUT_SIZE)
         & (text.len == shown)
+        & (largest <= rules::INPUT_SIZE)
 }
 
 pub(crate) fn decode_start_read(s: &[u8]) -> Found

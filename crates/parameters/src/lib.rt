@@ -10,10 +10,10 @@ use crate::limits::limits_at;
 use fields::byte_at;
 use fields::word_at;
 use rules::forms;
+use rules::selectors;
 
 mod limits;
 mod put;
-pub mod selectors;
 
 pub use crate::put::put_setting;
 

@@ -4,11 +4,11 @@ ghost use Prim.Native.Nat.{_<_};
 ghost use lib.ListN.{length, getD, drop, replicate};
 ghost use Rattle.rules.specs.Messages.Parameters.{allBits, definedSelector, questionLimits, valueLimits, limitsOf};
 ghost use Rattle.parameters.specs.Lists.{noBits, LimitsAre, shapeOf};
-use crate::selectors;
 use fields::byte_at;
 use fields::word_at;
 use rules::bits;
 use rules::forms;
+use rules::selectors;
 
 // Limits of a byte, by how many of its bits are used.
 const ALL_BITS: u16 = forms::BYTE_VALUES as u16;

@@ -1,5 +1,8 @@
 // Termination sets.
 ghost use mathlib.Core.Path.{_≡_};
+ghost use Prim.Native.Nat.{_≤_};
+ghost use lib.ListN.{length, take};
+ghost use Rattle.rules.specs.Messages.Codec.{setSize};
 ghost use Rattle.rules.specs.StartRead as sets;
 ghost use Rattle.rules.specs.StartRead.{inSet};
 ghost use Rattle.sets.specs.View.{setOf, CountedSet};
@@ -17,7 +20,27 @@ pub struct Set {
     pub len: u8,
 }
 
+// As many bytes as a set can have.
+fn front(given: &[u8]) -> &[u8]
+    ensures { λ r. ⌜ (now r ≡ take setSize (now (given .entry))) × (length (now r) ≤ setSize) ⌝ }
+{
+    if given.len() <= rules::SET_SIZE {
+        return given;
+    }
+    &given[..rules::SET_SIZE]
+}
+
 impl Set {
+    // The set that these bytes are.
+    pub fn of(given: &[u8]) -> Set
+        ensures { λ r. ⌜ (setOf r ≡ take setSize (now (given .entry))) × CountedSet r ⌝ }
+    {
+        let kept = front(given);
+        let mut held = [0u8; rules::SET_SIZE];
+        let len = bytes::copy(kept, &mut held) as u8;
+        Set { bytes: held, len }
+    }
+
     // The universal set: codes 0 to 31 except 8, 9, 18, 21, 23.
     pub fn universal() -> Set
         ensures { λ r. ⌜ (setOf r ≡ sets.universal) × CountedSet r ⌝ }

@@ -10,9 +10,9 @@ use lib.ListN.{length, take, drop, length-append, length-take, length-drop}
 use lib.Seq.{length-take-le}
 use borrow.Author.Tests.{le-leb, leb-true}
 use Rattle.rules.specs.Choice.{allAre, joined}
-use Rattle.rules.specs.Calls.{framed, sentBytes}
+use Rattle.rules.specs.Calls.{sentBytes}
 use Rattle.rules.specs.Messages.Layout as layout
-use Rattle.rules.specs.Messages.Layout.{writeGroups}
+use Rattle.rules.specs.Messages.Layout.{writeGroups, framed}
 use Rattle.rules.specs.Messages.Parameters.{Shape, initiation, question, setting, limitsOf, parameterSize, cleaned, cut}
 use Rattle.rules.specs.Messages.Forms as forms
 use Rattle.rules.specs.Messages.Forms.{Tail, nothing, text, setAndText, list, Form, formOf}

@@ -4,8 +4,8 @@ use mathlib.Core.Path.{_≡_}
 use mathlib.Core.Bool.{true}
 use mathlib.Core.List.{List, [], _++_}
 use lib.ListN.{length}
-use Rattle.rules.specs.Calls.{framed, sentBytes}
-use Rattle.rules.specs.Messages.Layout.{wordBytes, bytesOf}
+use Rattle.rules.specs.Calls.{sentBytes}
+use Rattle.rules.specs.Messages.Layout.{wordBytes, bytesOf, framed}
 use Rattle.rules.specs.Messages.Forms as forms
 use Rattle.rules.specs.Messages.Codec.{message, setSize}
 use Rattle.message.specs.declared.Message.{Message}

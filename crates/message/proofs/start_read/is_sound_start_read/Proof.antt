@@ -1,5 +1,5 @@
 use borrow.Author.Needs.{needs}
-use Rattle.rules.specs.StartRead.{soundStartRead}
+use Rattle.rules.specs.StartRead.{soundFields, soundStartRead}
 use Rattle.rules.proofs.Numbers.{input-size}
 use Rattle.message.specs.Found.{startReadIn}
 use Rattle.message.proofs.start_read.is_sound_start_read.Statement.{statement}
@@ -12,7 +12,7 @@ less-requires : tie.Need-less-requires
 less-requires c κs = search needs
 
 returns : tie.Need-returns
-unfolding soundStartRead startReadIn
+unfolding soundFields soundStartRead startReadIn
 returns c = λ s e. rw (input-size, e, c .before .before .before .before .before .before .before .before .before .before .less .ensures)
 
 pub is-sound-start-read-spec : {M : Type 1} → statement M
