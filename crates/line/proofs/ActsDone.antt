@@ -36,7 +36,7 @@ use Rattle.line.specs.Promise.{Progress, on, Does}
 use Rattle.line.specs.Acts.{actRule, callKindsOf, Ready, Doable, Done, Meets}
 use Rattle.line.proofs.acts.Act.{the-type}
 use Rattle.line.proofs.ReceivedMessage.{true-false}
-use Rattle.line.proofs.EventRules.{eventOf, AcceptedEvent}
+use Rattle.line.proofs.EventRules.{eventOf, AcceptedEvent, event-lent}
 use Rattle.line.proofs.KeyArrays.{after-length}
 use Rattle.line.proofs.Answers.{begun, begunWork, refused, cramped}
 use Rattle.line.proofs.HostAccepted.{startables}
@@ -202,7 +202,7 @@ module _ (e : Event) (l : Line) (b : Bounded l) (t m : List ℕ) (acceptance : A
         let answer : told keys′ text′ r 1 ≡ refusal 1 l = λ i. told (keys i) (same n .1 i) (same n .0 i) 1 in
         subst (λ z. Answers (eventOf [] e) l t m (told keys′ text′ r smallArea) z m′) (sym (areas .0))
         (subst (λ z. Answers (eventOf [] e) l t m (told keys′ text′ r smallArea) t z) (sym (areas .1))
-        (refused (eventOf [] e) l t m smallArea b (cramped (eventOf [] e) l t m (sym size ∙ y)) answer))
+        (refused (eventOf [] e) l t m smallArea b (cramped (eventOf [] e) l t m (event-lent [] e) (sym size ∙ y)) answer))
 
     pub keyed-answers : Answers (eventOf [] e) l t m (told keys′ text′ r (rowOf roomy)) t′ m′
     keyed-answers = acted roomy refl

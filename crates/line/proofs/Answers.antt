@@ -2,7 +2,7 @@
 use mathlib.Core.Path.{_≡_, refl, sym, ap, _∙_, subst}
 use Prim.Native.Nat.{ℕ, _≤_}
 use native.Mathlib.Omega.{arith}
-use mathlib.Core.Bool.{true, false, not}
+use mathlib.Core.Bool.{true, false, not, _&&_, and-false}
 use mathlib.Core.List.{List, []}
 use lib.ListN.{length}
 use Rattle.rules.specs.Choice.{joined}
@@ -11,10 +11,10 @@ use Rattle.rules.specs.State.{State, codes}
 use Rattle.rules.specs.Turns.{Rule, still}
 use Rattle.rules.specs.Area.{puts, spot}
 use Rattle.rules.specs.Calls as rules
-use Rattle.rules.specs.Calls.{Event, Call, areRoomy, answer, answers, does, refuses, messageBytes, areaAfter}
+use Rattle.rules.specs.Calls.{Event, Call, areRoomy, isLent, answer, answers, does, refuses, messageBytes, areaAfter}
 use Rattle.rules.specs.Bounds as bounds
 use Rattle.rules.specs.Bounds.{isByteEvent, Within}
-use Rattle.rules.proofs.Choice.{none-left, row-applies, row-passed, halves}
+use Rattle.rules.proofs.Choice.{none-left, row-applies, row-passed, both, halves}
 use Rattle.rules.proofs.Area.{puts-front}
 use Rattle.rules.proofs.Bounds.Calls.{call-within}
 use borrow.Author.Tests.{leb-true}
@@ -51,7 +51,7 @@ module _ (e : Event ℕ) (l : Line) (t m : List ℕ) (b : Bounded l) where
     roomy : answer codes call (view l) ≡ does p (view l)
     unfolding answer
     roomy =
-        ap (λ (f : State ℕ → rules.Answer ℕ). f (view l)) (row-passed refuses _ _ [] (ap not room) ∙ none-left refuses _) ∙ event
+        ap (λ (f : State ℕ → rules.Answer ℕ). f (view l)) (row-passed refuses _ _ [] (ap (λ b. isLent e && not b) room ∙ and-false (isLent e)) ∙ none-left refuses _) ∙ event
 
     areas : (sizes.terminalArea ≤ length t) × (sizes.messageArea ≤ length m)
     areas = let h = halves _ _ room in (leb-true _ _ (h .0), leb-true _ _ (h .1))
@@ -102,6 +102,6 @@ refused e l t m n b h {r} k =
     }
 
 -- row 1: an area too small
-pub cramped : (e : Event ℕ) (l : Line) (t m : List ℕ) → areRoomy (length t) (length m) ≡ false → ruled e l t m ≡ refuses sizes.smallArea (view l)
+pub cramped : (e : Event ℕ) (l : Line) (t m : List ℕ) → isLent e ≡ true → areRoomy (length t) (length m) ≡ false → ruled e l t m ≡ refuses sizes.smallArea (view l)
 unfolding answer
-cramped e l t m h = ap (λ (f : State ℕ → rules.Answer ℕ). f (view l)) (row-applies refuses _ _ [] (ap not h))
+cramped e l t m lent h = ap (λ (f : State ℕ → rules.Answer ℕ). f (view l)) (row-applies refuses _ _ [] (both lent (ap not h)))

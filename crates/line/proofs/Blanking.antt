@@ -9,10 +9,10 @@ use lib.ListN.{length, length-append, length-map}
 use borrow.Author.Tests.{eqb-true, eq-eqb}
 use Rattle.rules.specs.Choice.{pick, joined}
 use Rattle.rules.specs.State.{codes}
-use Rattle.rules.specs.Messages.Layout.{fieldsIn, sizeOf, bytesOf, writeGroups}
+use Rattle.rules.specs.Messages.Layout.{fieldsIn, sizeOf, bytesOf, writeGroups, framed}
 use Rattle.rules.specs.Messages.Forms.{Message, forms, formOf, readData}
 use Rattle.rules.specs.Messages.Codec.{tailBytes, bytesAs}
-use Rattle.rules.specs.Calls.{framed, mapText, sentBytes}
+use Rattle.rules.specs.Calls.{mapText, sentBytes}
 use Rattle.rules.specs.TwoRuns.{blanked}
 use Rattle.rules.proofs.Choice.{pick-true, pick-false, pick-case}
 use Rattle.rules.proofs.Fields.{length-writeGroups}

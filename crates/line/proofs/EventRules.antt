@@ -6,7 +6,7 @@ use mathlib.Core.List.{List}
 use borrow.Author.Tests.{lt-ltb}
 use Rattle.rules.specs.State.{codes}
 use Rattle.rules.specs.Calls as rules
-use Rattle.rules.specs.Calls.{answers, answersMessage, does}
+use Rattle.rules.specs.Calls.{isLent, answers, answersMessage, does}
 use Rattle.rules.specs.Bounds.{isByteEvent}
 use Rattle.line.specs.declared.events.Event.{Event}
 use Rattle.line.specs.declared.events.Event.the-variants.{Key, Tick, Step, Host}
@@ -46,6 +46,14 @@ module _ (l : Line) (s : List ℕ) where
   event-bytes Tick a = refl
   event-bytes Step a = refl
   event-bytes (Host m) a = a .bytes
+
+-- every event of the program is lent areas
+pub event-lent : (s : List ℕ) (e : Event) → isLent (eventOf s e) ≡ true
+unfolding eventOf
+event-lent s (Key c) = refl
+event-lent s Tick = refl
+event-lent s Step = refl
+event-lent s (Host m) = refl
 
 -- events of different cases are different
 pub key-host : {c : ℕ} {m : HostMessage} → Key c ≡ Host m → ⊥

@@ -4,13 +4,15 @@ use Prim.Native.Nat.{ℕ}
 use native.Mathlib.Omega.{arith}
 use mathlib.Core.Bool.{Bool, true}
 use mathlib.Core.List.{List, [], _∷_}
+use lib.Dec.{leb}
 use types.Run.{OneOf, miss}
 use denote.Enum.Declared.{tagOf}
 use Rattle.rules.specs.Choice.{pick}
 use Rattle.rules.specs.Messages.Forms as forms
 use Rattle.rules.specs.Messages.Codec as codec
 use Rattle.rules.specs.State.{State}
-use Rattle.rules.specs.Calls.{isCarriedBy, carriesQuestions}
+use Rattle.rules.specs.Messages.Codec.{definedFields}
+use Rattle.rules.specs.Calls.{passesTest, isCarriedBy, carriesQuestions}
 use Rattle.rules.proofs.Bounds.Sent.{Fit, read-sent}
 use Rattle.rules.proofs.Bounds.Received as received
 use Rattle.rules.proofs.Bounds.Calls.{received-sound}
@@ -140,6 +142,31 @@ module _ (s : List ℕ) (state : State ℕ) where
   other-carried (Write f) h x g = absurd (miss carriedAll 4 tt h)
   other-carried (ReadCharacteristics p) h x g = absurd (miss carriedAll 5 tt h)
   other-carried (Characteristics p) h x g = absurd (miss carriedAll 6 tt h)
+
+-- Whether it passes the line's test, which is asked of a Start Read alone.
+pub start-passed : (l : Line) (f : StartReadFields) {m : HostMessage} → m ≡ StartRead f → (s : List ℕ) (x : forms.Message ℕ) →
+    heldIn s (messageOf m) ≡ codec.message x → definedFields x ≡ true → leb (f .«max_length») (l .«largest_read») ≡ passesTest (view l) x
+unfolding heldIn startReadIn
+start-passed l f e s x h d =
+    let same = held-same (ap (λ k. heldIn s (messageOf k)) (sym e) ∙ h) in
+    let passes = received.start-passes (view l) (startReadIn s f) refl (subst (λ y. definedFields y ≡ true) (sym same) d) in
+    sym passes ∙ ap (passesTest (view l)) same
+
+module _ (state : State ℕ) where
+  abbrev passedAll : List ℕ
+  passedAll = 0 ∷ 2 ∷ 3 ∷ 4 ∷ 5 ∷ 6 ∷ 7 ∷ []
+
+  pub other-passed : (m : HostMessage) → OneOf passedAll (tagOf host-type m) → (s : List ℕ) (x : forms.Message ℕ) → heldIn s (messageOf m) ≡ codec.message x →
+      true ≡ passesTest state x
+  unfolding heldIn passesTest pick
+  other-passed (Initiate f) h s x g = ap (passesTest state) (held-same g)
+  other-passed (Unread condition) h s x g = ap (passesTest state) (held-same g)
+  other-passed ClearInput h s x g = ap (passesTest state) (held-same g)
+  other-passed (Write f) h s x g = ap (passesTest state) (held-same g)
+  other-passed (ReadCharacteristics p) h s x g = ap (passesTest state) (held-same g)
+  other-passed (Characteristics p) h s x g = ap (passesTest state) (held-same g)
+  other-passed CheckInput h s x g = ap (passesTest state) (held-same g)
+  other-passed (StartRead f) h s x g = absurd (miss passedAll 1 tt h)
 
 -- what no message but some set, and report
 abbrev unset : List ℕ

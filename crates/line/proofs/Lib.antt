@@ -17,7 +17,7 @@ mod HostLaws
 mod Unread
 mod HostAccepted
 mod ActsDone
-mod Answers
+pub mod Answers
 mod EventRules
 mod ReceivedMessage
 mod Blanking

@@ -5,10 +5,10 @@ use mathlib.Core.List.{List, _++_}
 use lib.ListN.{replicate}
 use Rattle.rules.specs.Numbers.{messageSize, inputSize}
 use Rattle.rules.specs.Choice.{joined}
-use Rattle.rules.specs.Messages.Layout.{fieldsIn, numberOf, bytesOf, writeGroups}
+use Rattle.rules.specs.Messages.Layout.{fieldsIn, numberOf, bytesOf, writeGroups, framed}
 use Rattle.rules.specs.Messages.Forms.{forms, formOf}
 use Rattle.rules.specs.Messages.Codec.{tailBytes, bytesAs}
-use Rattle.rules.specs.Calls.{framed, sentBytes}
+use Rattle.rules.specs.Calls.{sentBytes}
 use Rattle.rules.specs.Host.{ourInitiate}
 use Rattle.message.specs.declared.Message.{Message}
 use Rattle.message.specs.declared.Message.the-variants.{Initiate}

@@ -9,14 +9,14 @@ use Rattle.rules.specs.Choice.{pick, Row, _when_, firstOf}
 use Rattle.rules.specs.Numbers.{accepted, smallArea, wrongLength, wrongType, wrongTime, unsound, notCarried}
 use Rattle.rules.specs.Messages.Forms as forms
 use Rattle.rules.specs.Messages.Codec as codec
-use Rattle.rules.specs.Messages.Codec.{Outcome, refused, sound, soundLength, definedKind, allBytes, fieldsAs, read}
+use Rattle.rules.specs.Messages.Codec.{Outcome, refused, sound, soundLength, definedKind, definedFields, allBytes, fieldsAs, read}
 use Rattle.rules.specs.State.{Reading, State, codes}
 use Rattle.rules.specs.Calls as rules
-use Rattle.rules.specs.Calls.{Answer, areRoomy, isPending, isServers, isHosts, isRefused, isCarriedBy, carries, refusals, received, refuses, answersMessage, answers, answer}
+use Rattle.rules.specs.Calls.{Answer, areRoomy, isPending, isServers, isHosts, passesTest, isUnsound, isCarriedBy, carries, refusals, received, refuses, answersMessage, answers, answer}
 use Rattle.rules.proofs.Choice.{none-left, row-applies, row-passed, halves}
 use borrow.Author.Tests.{not-true}
 use Rattle.rules.specs.Messages.Layout.{byteAt}
-use Rattle.rules.proofs.Outcomes.{refused-sound, sound-same, refused-same, readable, read-refused}
+use Rattle.rules.proofs.Outcomes.{refused-sound, sound-same, refused-same, readable, read-defined, read-refused}
 use Rattle.message.specs.declared.Message.{Message}
 use Rattle.message.specs.declared.Message.the-variants as found-message
 use Rattle.message.specs.declared.Found.the-variants as found
@@ -24,7 +24,7 @@ use Rattle.message.specs.Found.{heldIn, asHeld, foundIn}
 use Rattle.line.specs.declared.Line.{Line}
 use Rattle.line.specs.View.{pendingOf, view}
 use Rattle.line.specs.Answers.{ruled}
-use Rattle.line.specs.Refusals.{firstRow, earlyRow}
+use Rattle.line.specs.Refusals.{firstRow, earlyRow, lastRow, lateRow}
 use Rattle.line.specs.Host.{messageOf, senderOf, Accepted}
 use Rattle.line.specs.declared.events.HostMessage.{HostMessage}
 use Rattle.line.specs.declared.events.Sender.the-variants as sender
@@ -36,7 +36,7 @@ is-pending false r = refl
 
 -- rows 5 and 6, of what was read
 abbrev lateRows : State ℕ → Outcome (forms.Message ℕ) → List Row
-lateRows s o = unsound when isRefused o ∷ notCarried when not (carries s o) ∷ []
+lateRows s o = unsound when isUnsound s o ∷ notCarried when not (carries s o) ∷ []
 
 abbrev late : State ℕ → Outcome (forms.Message ℕ) → Outcome (forms.Message ℕ)
 late s o = firstOf refused o (lateRows s o)
@@ -67,6 +67,22 @@ module _ (s : State ℕ) (o : Outcome (forms.Message ℕ)) where
   passed-early true true true false e = absurd (omega arith)
   passed-early true true true true e = (refl, refl, refl, refl)
 
+-- rows 5 and 6, by their tests
+module _ (o : Outcome (forms.Message ℕ)) where
+  refused-late : (passes carried : Bool) → (lastRow passes carried ≡ accepted → ⊥) →
+      firstOf refused o (unsound when not passes ∷ notCarried when not carried ∷ []) ≡ refused (lastRow passes carried)
+  unfolding lastRow firstOf pick
+  refused-late false carried h = refl
+  refused-late true false h = refl
+  refused-late true true h = absurd (h refl)
+
+  passed-late : (passes carried : Bool) → lastRow passes carried ≡ accepted →
+      firstOf refused o (unsound when not passes ∷ notCarried when not carried ∷ []) ≡ o
+  unfolding lastRow firstOf pick
+  passed-late false carried e = absurd (omega arith)
+  passed-late true false e = absurd (omega arith)
+  passed-late true true e = refl
+
 module _ (l : Line) (t m bytes : List ℕ) {row : ℕ} (e : row ≡ earlyRow (length t) (length m) bytes (view l)) where
   pub early-refused : (row ≡ 0 → ⊥) → ruled (rules.message bytes) l t m ≡ refuses row (view l)
   unfolding answer answers received refusals
@@ -93,7 +109,7 @@ module _ (l : Line) (bytes : List ℕ) where
   -- 5: behind rows 2 and 3 reading refuses for nothing else
   module _ (sized : soundLength (length bytes) ≡ true) (hosts : isHosts (byteAt bytes 0) ≡ true) where
     refuses-number : (o : Outcome (forms.Message ℕ)) {n : ℕ} → read bytes ≡ o → refused n ≡ asHeld o → late (view l) o ≡ refused n
-    unfolding asHeld isHosts isRefused
+    unfolding asHeld isHosts isUnsound
     refuses-number (refused k) r e =
         let kind = halves (definedKind (byteAt bytes 0)) (not (isServers (byteAt bytes 0))) hosts .0 in
         row-applies refused (refused k) (unsound when true) _ refl ∙
@@ -104,25 +120,25 @@ module _ (l : Line) (bytes : List ℕ) where
     unfolding foundIn
     found-refused e = refuses-number (read bytes) refl e
 
-  module _ (m : Message) (h : HostMessage) (sent : m ≡ messageOf h) {carry : Bool} (found : foundIn bytes (found.Message m) ≡ asHeld (read bytes))
-      (judges : (x : forms.Message ℕ) → heldIn bytes (messageOf h) ≡ codec.message x → carry ≡ isCarriedBy (view l) x) where
-    judge : (x : forms.Message ℕ) → heldIn bytes m ≡ codec.message x → carry ≡ isCarriedBy (view l) x
-    judge x e = judges x (ap (heldIn bytes) (sym sent) ∙ e)
+  module _ (m : Message) (h : HostMessage) (sent : m ≡ messageOf h) {row : ℕ} (found : foundIn bytes (found.Message m) ≡ asHeld (read bytes))
+      (judges : (x : forms.Message ℕ) → heldIn bytes (messageOf h) ≡ codec.message x → definedFields x ≡ true → row ≡ lateRow (view l) x) where
+    judge : (x : forms.Message ℕ) → read bytes ≡ sound x → heldIn bytes m ≡ codec.message x → row ≡ lateRow (view l) x
+    judge x r e = judges x (ap (heldIn bytes) (sym sent) ∙ e) (read-defined bytes x r)
 
-    refuses-carrying : carry ≡ false → (o : Outcome (forms.Message ℕ)) → sound (heldIn bytes m) ≡ asHeld o → late (view l) o ≡ refused notCarried
-    unfolding asHeld carries isRefused
-    refuses-carrying e (refused n) h = absurd (refused-sound (sym h))
-    refuses-carrying e (sound x) h =
-        row-passed refused (sound x) (unsound when false) _ refl ∙
-        row-applies refused (sound x) _ [] (ap not (sym (judge x (sound-same h)) ∙ e))
+    refuses-late : (row ≡ accepted → ⊥) → (o : Outcome (forms.Message ℕ)) → read bytes ≡ o → sound (heldIn bytes m) ≡ asHeld o → late (view l) o ≡ refused row
+    unfolding asHeld carries isUnsound
+    refuses-late e (refused n) r h = absurd (refused-sound (sym h))
+    refuses-late e (sound x) r h =
+        let same = judge x r (sound-same h) in
+        refused-late (sound x) (passesTest (view l) x) (isCarriedBy (view l) x) (λ z. e (same ∙ z)) ∙ ap refused (sym same)
 
-    pub not-carried : carry ≡ false → late (view l) (read bytes) ≡ refused notCarried
+    pub late-refused : (row ≡ accepted → ⊥) → late (view l) (read bytes) ≡ refused row
     unfolding foundIn
-    not-carried e = refuses-carrying e (read bytes) found
+    late-refused e = refuses-late e (read bytes) refl found
 
-    module _ (e : carry ≡ true) (small : allBytes bytes ≡ true) (passed : received (view l) bytes ≡ late (view l) (read bytes)) where
+    module _ (e : row ≡ accepted) (small : allBytes bytes ≡ true) (passed : received (view l) bytes ≡ late (view l) (read bytes)) where
       accepts : (o : Outcome (forms.Message ℕ)) → read bytes ≡ o → sound (heldIn bytes m) ≡ asHeld o → Accepted l bytes h
-      unfolding asHeld carries isRefused
+      unfolding asHeld carries isUnsound
       accepts (refused n) r k = absurd (refused-sound (sym k))
       accepts (sound x) r k =
           record {
@@ -130,9 +146,7 @@ module _ (l : Line) (bytes : List ℕ) where
             held = ap (heldIn bytes) (sym sent) ∙ sound-same k;
             taken =
                 passed ∙ ap (late (view l)) r ∙
-                row-passed refused (sound x) (unsound when false) _ refl ∙
-                row-passed refused (sound x) _ [] (ap not (sym (judge x (sound-same k)) ∙ e)) ∙
-                none-left refused (sound x);
+                passed-late (sound x) (passesTest (view l) x) (isCarriedBy (view l) x) (sym (judge x r (sound-same k)) ∙ e);
             bytes = small;
           }
 

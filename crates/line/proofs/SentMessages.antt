@@ -12,7 +12,8 @@ use Rattle.rules.specs.Choice.{joined}
 use Rattle.rules.specs.Area.{puts, spot}
 use Rattle.rules.specs.Messages.Forms as forms
 use Rattle.rules.specs.Turns.{sends}
-use Rattle.rules.specs.Calls.{framed, sentBytes, mapText, messageBytes}
+use Rattle.rules.specs.Messages.Layout.{framed}
+use Rattle.rules.specs.Calls.{sentBytes, mapText, messageBytes}
 use Rattle.writing.specs.Spans as spans
 use Rattle.writing.specs.Spans.{inside}
 use Rattle.areas.specs.Puts.{Puts}

@@ -6,15 +6,17 @@ use native.Mathlib.Omega.{arith}
 use mathlib.Core.Bool.{_&&_}
 use lib.Dec.{eqb}
 use mathlib.Core.List.{List, [], _∷_, _++_, append-nil}
-use lib.ListN.{length, getD, take, drop, set, length-append, length-take, length-drop, drop-of-length-le}
-use lib.Seq.{sets, sets-eq, length-sets, take-suc, take-take, take-length, take-append-le, take-append-seam, drop-at, length-take-le}
+use lib.ListN.{length, getD, take, drop, set, length-take, length-drop, drop-of-length-le}
+use lib.Seq.{take-all, sets, sets-eq, length-sets, take-suc, take-take, take-append-le, take-append-seam, drop-at, length-take-le}
 use Rattle.rules.specs.Numbers.{inputSize}
 use Rattle.rules.specs.Choice.{pick, bit}
+use Rattle.rules.specs.Messages.Codec.{setSize}
 use Rattle.rules.specs.State.{codes}
 use Rattle.rules.specs.StartRead.Acceptance as rules
 use Rattle.rules.specs.StartRead.Acceptance.{hidesLF}
 use Rattle.rules.specs.StartRead.{chosenSet}
 use Rattle.message.specs.declared.StartReadFields.{StartReadFields}
+use Rattle.fields.specs.declared.Span.{Span}
 use Rattle.fields.specs.Spans.{spanOf}
 use Rattle.message.specs.Found.{startReadIn}
 use Rattle.sets.specs.declared.Set.{Set}
@@ -24,19 +26,10 @@ use Rattle.line.specs.declared.Line.{Line}
 use Rattle.line.specs.View.{view, termsOf, inputOf, promptOf}
 use Rattle.line.specs.StartRead.{Startable, termsFor, onOpened, Opens}
 
--- a text put to the front of an array
-module _ (s area : List ℕ) {area′ : List ℕ} {n : ℕ} (count : n ≡ length s) (e : area′ ≡ take (length s) s ++ drop (length s) area) where
-  whole : area′ ≡ s ++ drop (length s) area
-  whole = e ∙ ap (λ l. l ++ drop (length s) area) (take-length s)
-
-  pub in-front : take n area′ ≡ s
-  in-front = rw (whole, count) (take-append-seam s (drop (length s) area))
-
-  pub in-front-length : {size : ℕ} → length area ≡ size → length s ≤ size → length area′ ≡ size
-  in-front-length same fits =
-      let sum = length-append s (drop (length s) area) in
-      let rest = length-drop (length s) area in
-      ap length whole ∙ omega arith
+-- the set that a Start Read's bytes are: there are no more than a set can have
+pub set-given : (s : List ℕ) (p : Span) {given r : List ℕ} → given ≡ spanOf s p → length (spanOf s p) ≤ setSize → r ≡ take setSize given →
+    r ≡ spanOf s p
+set-given s p e short k = k ∙ ap (take setSize) e ∙ take-all setSize (spanOf s p) short
 
 -- one byte more of a piece
 sets-more : (text : List ℕ) (at : ℕ) (bs : List ℕ) (b : ℕ) → sets text at (bs ++ b ∷ []) ≡ set (sets text at bs) (at + length bs) b

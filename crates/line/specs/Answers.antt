@@ -1,4 +1,4 @@
--- What a call promises, all four alike: number, counts, both areas whole, the view of the next line, and its bounds.
+-- What a call promises, all alike: number, counts, both areas whole, the view of the next line, and its bounds.
 use Prim.Native.Nat.{ℕ}
 use mathlib.Core.Path.{_≡_}
 use mathlib.Core.List.{List}

@@ -28,7 +28,7 @@ pub record Link : Type 0 where
   pub messages′ : List ℕ
   pub dropped : ℕ
 
--- made on this line, it kept the calls' promise; its key is a byte, or its message is bytes, as the calls' types have it
+-- made on this line, it kept the calls' promise; its key is a byte, and its message or its records are bytes, as the calls' types have it
 pub record Kept (l : Line) (k : Link) : Type 0 where
   pub byte : isByteEvent (k .event) ≡ true
   pub promise : Answers (k .event) l (k .terminal) (k .messages) (k .answer) (k .terminal′) (k .messages′)

@@ -117,6 +117,7 @@ onInitiated l =
       text = l .text;
       set = l .set;
       «last_set» = l .«last_set»;
+      «largest_read» = l .«largest_read»;
       initiated = true;
       switches = l .switches;
       terms = l .terms;
@@ -131,13 +132,14 @@ onHost h l =
       text = l .text;
       set = l .set;
       «last_set» = h .«last_set»;
+      «largest_read» = h .«largest_read»;
       initiated = h .initiated;
       switches = h .switches;
       terms = l .terms;
       flow = l .flow;
     }
 
--- what the host has set, as the parameters of a Characteristics message leave it
+-- what is set, as the parameters of a Characteristics message leave it
 pub record Sets (parameters : List ℕ) (l next : Line) : Type 0 where
   pub host : Host
   pub same : next ≡ onHost host l
@@ -170,7 +172,13 @@ Reported s (ReadCharacteristics p) l before place after =
 Reported s (Characteristics p) l before place after = NoReport before place after
 Reported s CheckInput l before place after = NoReport before place after
 
--- what the host has set, as the characteristics look at it
+-- what is set, as the characteristics look at it
 abbrev pub hostIn : Line → Host
 hostIn l =
-    record { initiated = l .initiated; switches = l .switches; attributes = l .attributes; «last_set» = l .«last_set» }
+    record {
+      initiated = l .initiated;
+      switches = l .switches;
+      attributes = l .attributes;
+      «last_set» = l .«last_set»;
+      «largest_read» = l .«largest_read»;
+    }

@@ -62,7 +62,7 @@ termsFor f switches cursor size =
       line = cursor .line;
     }
 
--- a line with a read's terms, set and text, and the last set given with ZZ 1
+-- a line with a read's terms, set and text, and the last set given
 abbrev pub onOpened : Terms → Set → List ℕ → Set → Line → Line
 onOpened terms set text last l =
     record {
@@ -71,6 +71,7 @@ onOpened terms set text last l =
       text = text;
       set = set;
       «last_set» = last;
+      «largest_read» = l .«largest_read»;
       initiated = l .initiated;
       switches = l .switches;
       terms = terms;

@@ -85,7 +85,13 @@ pendingOf false r = none
 
 abbrev pub hostOf : Line → rules.Host
 hostOf l =
-    record { initiated = l .initiated; switches = switchesOf (l .switches); attributes = l .attributes; lastSet = setOf (l .«last_set») }
+    record {
+      initiated = l .initiated;
+      switches = switchesOf (l .switches);
+      attributes = l .attributes;
+      lastSet = setOf (l .«last_set»);
+      largestRead = l .«largest_read»;
+    }
 
 abbrev pub view : Line → rules.State ℕ
 view l =

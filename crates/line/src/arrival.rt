@@ -21,9 +21,9 @@ use crate::Work;
 use crate::acts::Act;
 use crate::read_data;
 use crate::read_data::NO_ENDING;
-use characteristics::out_of_band;
 use message::Message;
 use rules::characters;
+use rules::out_of_band;
 
 // Codes that are controls, by arrival rule 3.
 const DISCARD_KEY: u8 = 15;

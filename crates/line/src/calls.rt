@@ -193,8 +193,9 @@ impl Line {
         let Sender::Host(h) = sender else {
             return self.refuse(rules::WRONG_TYPE);
         };
-        if !self.carries(h, s) {
-            return self.refuse(rules::NOT_CARRIED);
+        let late = self.late_row(h, s);
+        if late != rules::ACCEPTED {
+            return self.refuse(late);
         }
         self.obeys(h, s, terminal, messages)
     }

@@ -1,8 +1,8 @@
 // Initiate, and the answer to it.
 ghost use Prim.Native.Nat.{ℕ};
 ghost use mathlib.Core.List.{List, _++_};
-ghost use Rattle.rules.specs.Messages.Layout.{wordBytes, bytesOf};
-ghost use Rattle.rules.specs.Calls.{framed, sentBytes};
+ghost use Rattle.rules.specs.Messages.Layout.{wordBytes, bytesOf, framed};
+ghost use Rattle.rules.specs.Calls.{sentBytes};
 ghost use Rattle.rules.specs.Host as rules;
 ghost use Rattle.areas.specs.Puts.{Puts};
 ghost use Rattle.rules.specs.Turns.{sends};

@@ -90,9 +90,11 @@ pub struct Line {
     pub keys: [u16; rules::TYPE_AHEAD_SIZE],
     // what stands after the read's prompt, from the front; the prompt as it is displayed, at the end
     pub text: [u8; rules::INPUT_SIZE],
-    // the read's termination set, and the last given with ZZ 1
+    // the read's termination set, and the last given with ZZ 1 or loaded
     pub set: Set,
     pub last_set: Set,
+    // the largest MAX-LENGTH that a Start Read may have
+    pub largest_read: u16,
     // Initiate was accepted
     pub initiated: bool,
     pub switches: Switches,

@@ -1,10 +1,11 @@
-// The table of refusals: row 1 for every call, the others for a host message.
+// The table of refusals: row 1 for a call that is lent areas, the others for a host message.
 ghost use Prim.Native.Nat.{ℕ};
 ghost use mathlib.Core.Path.{_≡_};
 ghost use mathlib.Core.List.{List};
 ghost use Rattle.rules.specs.Messages.Forms as forms;
 ghost use Rattle.rules.specs.Messages.Codec as codec;
-ghost use Rattle.rules.specs.Messages.Codec.{soundLength};
+ghost use mathlib.Core.Bool.{true};
+ghost use Rattle.rules.specs.Messages.Codec.{soundLength, definedFields};
 ghost use Rattle.rules.specs.State.{State};
 ghost use Rattle.rules.specs.Calls as rules;
 ghost use Rattle.rules.specs.Calls.{areRoomy, isHosts, isPending};
@@ -13,7 +14,7 @@ ghost use Rattle.line.specs.View.{view};
 ghost use Rattle.line.specs.Bounded.{Counted};
 ghost use Rattle.line.specs.Host.{messageOf};
 ghost use Rattle.line.specs.Answers.{refusal};
-ghost use Rattle.line.specs.Refusals.{rowOf, firstRow, earlyRow};
+ghost use Rattle.line.specs.Refusals.{rowOf, firstRow, earlyRow, lastRow, lateRow};
 use crate::Answer;
 use crate::Line;
 use crate::events::HostMessage;
@@ -125,6 +126,19 @@ pub(crate) fn early_row(
     first_row(roomy, sized, hosts, timely)
 }
 
+// Rows 5 and 6, in order; 0 if none applies.
+fn last_row(passes: bool, carries: bool) -> u8
+    ensures { λ r. ⌜ r ≡ lastRow passes carries ⌝ }
+{
+    if !passes {
+        return rules::UNSOUND;
+    }
+    if !carries {
+        return rules::NOT_CARRIED;
+    }
+    rules::ACCEPTED
+}
+
 impl Line {
     // A refusal writes nothing and hands the line back as it was.
     pub(crate) fn refuse(self, number: u8) -> Answer
@@ -138,8 +152,18 @@ impl Line {
         }
     }
 
+    // A Start Read that was read asks for no more than this line's largest read.
+    fn passes_test(self, m: HostMessage) -> bool
+        ensures { λ r. ⌜ ((s : List ℕ) (x : forms.Message ℕ) → heldIn s (messageOf m) ≡ codec.message x → definedFields x ≡ true → r ≡ rules.passesTest (view self) x) ⌝ }
+    {
+        match m {
+            HostMessage::StartRead(f) => f.max_length <= self.largest_read,
+            _ => true,
+        }
+    }
+
     // Row 6 does not apply.
-    pub(crate) fn carries(self, m: HostMessage, s: &[u8]) -> bool
+    fn carries(self, m: HostMessage, s: &[u8]) -> bool
         requires { ⌜ Counted self ⌝ }
         ensures { λ r. ⌜ ((x : forms.Message ℕ) → heldIn (now (s .entry)) (messageOf m) ≡ codec.message x → r ≡ rules.isCarriedBy (view self) x) ⌝ }
     {
@@ -158,5 +182,15 @@ impl Line {
             }
             _ => true,
         }
+    }
+
+    // The row that applies to a message that was read, or 0.
+    pub(crate) fn late_row(self, m: HostMessage, s: &[u8]) -> u8
+        requires { ⌜ Counted self ⌝ }
+        ensures { λ r. ⌜ ((x : forms.Message ℕ) → heldIn (now (s .entry)) (messageOf m) ≡ codec.message x → definedFields x ≡ true → r ≡ lateRow (view self) x) ⌝ }
+    {
+        let passes = self.passes_test(m);
+        let carries = self.carries(m, s);
+        last_row(passes, carries)
     }
 }

@@ -9,7 +9,7 @@ use characteristics::Host;
 use fields::Span;
 
 impl Line {
-    // What the host has set, as the characteristics look at it.
+    // What is set, as the characteristics look at it.
     pub(crate) fn host_in(self) -> Host
         ensures { λ r. ⌜ r ≡ hostIn self ⌝ }
     {
@@ -21,6 +21,7 @@ impl Line {
             switches,
             attributes,
             last_set,
+            largest_read: self.largest_read,
         }
     }
 
@@ -33,6 +34,7 @@ impl Line {
         let mut next = self;
         next.attributes = attributes;
         next.last_set = last_set;
+        next.largest_read = h.largest_read;
         next.initiated = h.initiated;
         next.switches = switches;
         next

@@ -58,17 +58,7 @@ fn chosen(n: u8, characteristic: bool) -> bool
     n == SWITCHED_ON
 }
 
-// The set that these bytes are.
-fn set_of(given: &[u8]) -> Set
-    requires { ⌜ length (now given) ≤ setSize ⌝ }
-    ensures { λ r. ⌜ (setOf r ≡ now (given .entry)) × CountedSet r ⌝ }
-{
-    let mut held = [0u8; rules::SET_SIZE];
-    let len = bytes::copy(given, &mut held) as u8;
-    Set { bytes: held, len }
-}
-
-// ZZ 0: the last set given with ZZ 1; 1: this set; 2: universal.
+// ZZ 0: the last set given with ZZ 1 or loaded; 1: this set; 2: universal.
 fn chosen_set(last: Set, f: StartReadFields, s: &[u8]) -> Set
     requires { ⌜ CountedSet last ⌝ }
     requires { ⌜ length (spanOf (now s) (f .set)) ≤ setSize ⌝ }
@@ -81,7 +71,7 @@ fn chosen_set(last: Set, f: StartReadFields, s: &[u8]) -> Set
     if choice == CHOOSES_THIS {
         let span = f.set;
         let given = fields::span_of(s, span);
-        return set_of(given);
+        return Set::of(given);
     }
     Set::universal()
 }
@@ -95,7 +85,7 @@ fn last_set(last: Set, f: StartReadFields, s: &[u8]) -> Set
     if f.set_choice == CHOOSES_THIS {
         let span = f.set;
         let given = fields::span_of(s, span);
-        return set_of(given);
+        return Set::of(given);
     }
     last
 }

@@ -1,7 +1,5 @@
 use mathlib.Core.Path.{refl, sym, ap, _∙_}
 use native.Mathlib.Omega.{arith}
-use borrow.Author.Tests.{not-true, not-false}
-use Rattle.rules.specs.Numbers.{notCarried}
 use Rattle.rules.specs.Calls as rules
 use Rattle.rules.specs.Calls.{refuses}
 use Rattle.message.specs.Found.{foundIn, foundNumber}
@@ -9,13 +7,13 @@ use Rattle.writing.proofs.Fitting.{bytes-all}
 use Rattle.line.specs.View.{view, readingOf}
 use Rattle.line.proofs.HostAccepted.{host-sends}
 use Rattle.line.proofs.Answers.{refused}
-use Rattle.line.proofs.ReceivedMessage.{is-pending, early-refused, early-passed, outcome-refused, found-refused, server-found, not-carried, is-accepted}
+use Rattle.line.proofs.ReceivedMessage.{is-pending, early-refused, early-passed, outcome-refused, found-refused, server-found, late-refused, is-accepted}
 use borrow.Author.Needs.{needs}
 use Rattle.line.proofs.Line.host.Statement.{statement}
 use Rattle.line.proofs.Line.host.Tie as tie
 use Rattle.line.proofs.Line.host.Reads as reads
 use Rattle.line.proofs.Line.host.Lts as lts
-use Rattle.line.proofs.Line.carries.Reads as carries-reads
+use Rattle.line.proofs.Line.late_row.Reads as late-row-reads
 use Rattle.line.proofs.Line.obeys.Reads as obeys-reads
 use Rattle.line.proofs.Line.refuse.Reads as refuse-reads
 use Rattle.line.proofs.events.sender_of.Reads as sender-of-reads
@@ -95,39 +93,49 @@ returns-3 c =
     let found = ap (foundIn s) (sym (c .before .before .before .before .before .f .given .1)) ∙ c .before .before .before .before .before .before .before .decode .ensures .fields in
     absurd (server-found s (passed .2) _ (sym (c .before .before .before .sender-of .ensures) ∙ c .before .enum-told2 .given .1) found)
 
-carries-requires : tie.Need-carries-requires
-carries-requires c κs = search needs
+late-row-requires : tie.Need-late-row-requires
+late-row-requires c κs = search needs
 
 refuse-requires-4 : tie.Need-refuse-requires-4
 refuse-requires-4 c κs = search needs
 
 returns-4 : tie.Need-returns-4
 returns-4 c =
-    let start = c .before .before .before .before .before .before .before .before .before .before .before .before .before .before .before .before .before in
+    let told = c .before .before .before .before in
+    let read = told .before .before .before .before in
+    let early = read .before .before .before .before in
+    let start = early .before .before .before .before .before in
     let a = start .args in
     let l = a .self in
     let s = a .s .now in
     let t = a .terminal .now in
     let m = a .messages .now in
-    let row = c .before .before .before .before .before .before .before .before .before .before .before .before .early-row .ensures (view l) refl (is-pending (l .flow .pending) (readingOf l (l .flow .reading))) in
-    let found = ap (foundIn s) (sym (c .before .before .before .before .before .before .before .before .f .given .1)) ∙ c .before .before .before .before .before .before .before .before .before .before .decode .ensures .fields in
-    let sent = host-sends (c .before .before .before .before .before .before .before .before .f .given .0 .0) (c .before .before .before .before .sender .given .0 .0) (sym (c .before .before .before .before .before .before .sender-of .ensures) ∙ c .before .before .before .before .sender .given .1) in
-    refused (rules.message s) l t m notCarried (start .pre)
-    (outcome-refused l t m s row (c .before .before .before .before .before .before .before .before .before .before .before .if1 .left) (not-carried l s (c .before .before .before .before .before .before .before .before .f .given .0 .0) (c .before .before .before .before .sender .given .0 .0) sent found (c .before .before .carries .ensures) (not-true _ (c .before .if2 .taken))))
-    (c .refuse4 .ensures)
+    let row = early .early-row .ensures (view l) refl (is-pending (l .flow .pending) (readingOf l (l .flow .reading))) in
+    let message = read .f .given .0 .0 in
+    let host = told .sender .given .0 .0 in
+    let found = ap (foundIn s) (sym (read .f .given .1)) ∙ read .before .before .decode .ensures .fields in
+    let sent = host-sends message host (sym (told .before .before .sender-of .ensures) ∙ told .sender .given .1) in
+    let late = late-refused l s message host sent found (c .before .before .late-row .ensures) (c .before .if2 .taken) in
+    refused (rules.message s) l t m _ (start .pre) (outcome-refused l t m s row (read .before .before .before .if1 .left) late) (c .refuse4 .ensures)
 
 obeys-requires : tie.Need-obeys-requires
 obeys-requires c κs =
-    let start = c .before .before .before .before .before .before .before .before .before .before .before .before .before .before .before .before .before .before in
+    let told = c .before .before .before .before .before in
+    let read = told .before .before .before .before in
+    let early = read .before .before .before .before in
+    let start = early .before .before .before .before .before in
     let a = start .args in
     let l = a .self in
     let s = a .s .now in
-    let row = c .before .before .before .before .before .before .before .before .before .before .before .before .before .early-row .ensures (view l) refl (is-pending (l .flow .pending) (readingOf l (l .flow .reading))) in
-    let passed = early-passed l (a .terminal .now) (a .messages .now) s row (c .before .before .before .before .before .before .before .before .before .before .before .before .if1 .left) in
-    let found = ap (foundIn s) (sym (c .before .before .before .before .before .before .before .before .before .f .given .1)) ∙ c .before .before .before .before .before .before .before .before .before .before .before .decode .ensures .fields in
-    let sent = host-sends (c .before .before .before .before .before .before .before .before .before .f .given .0 .0) (c .before .before .before .before .before .sender .given .0 .0) (sym (c .before .before .before .before .before .before .before .sender-of .ensures) ∙ c .before .before .before .before .before .sender .given .1) in
-    let bytes = bytes-all s (λ i. omega (arith, c .before .before .before .before .before .before .before .before .before .before .before .before .before .before .before .before .before .shared-slice-known .given i)) in
-    (start .pre, (is-accepted l s (c .before .before .before .before .before .before .before .before .before .f .given .0 .0) (c .before .before .before .before .before .sender .given .0 .0) sent found (c .before .before .before .carries .ensures) (not-false _ (c .before .before .if2 .left)) bytes (passed .1), passed .0))
+    let row = early .early-row .ensures (view l) refl (is-pending (l .flow .pending) (readingOf l (l .flow .reading))) in
+    let passed = early-passed l (a .terminal .now) (a .messages .now) s row (read .before .before .before .if1 .left) in
+    let message = read .f .given .0 .0 in
+    let host = told .sender .given .0 .0 in
+    let found = ap (foundIn s) (sym (read .f .given .1)) ∙ read .before .before .decode .ensures .fields in
+    let sent = host-sends message host (sym (told .before .before .sender-of .ensures) ∙ told .sender .given .1) in
+    let bytes = bytes-all s (λ i. omega (arith, early .before .before .before .before .shared-slice-known .given i)) in
+    let accepted = is-accepted l s message host sent found (c .before .before .before .late-row .ensures) (c .before .before .if2 .left) bytes (passed .1) in
+    (start .pre, (accepted, passed .0))
 
 same-length : tie.Need-same-length
 same-length c = search needs
@@ -156,7 +164,7 @@ host-spec =
     enum-told-2
     refuse-requires-3
     returns-3
-    carries-requires
+    late-row-requires
     refuse-requires-4
     returns-4
     obeys-requires

@@ -1,11 +1,10 @@
-use mathlib.Core.Path.{sym, ap, _∙_}
-use lib.ListN.{length}
-use native.Mathlib.Omega.{arith}
+use mathlib.Core.Path.{sym, _∙_}
 use borrow.Author.Needs.{needs}
 use borrow.Author.Tests.{eq-eqb, ne-eqb}
 use Rattle.rules.specs.StartRead.{chosenSet}
 use Rattle.rules.proofs.Choice.{pick-true, pick-false}
 use Rattle.message.specs.Found.{startReadIn}
+use Rattle.line.proofs.StartRead.{set-given}
 use Rattle.line.proofs.start_read.chosen_set.Statement.{statement}
 use Rattle.line.proofs.start_read.chosen_set.Tie as tie
 
@@ -16,19 +15,18 @@ returns c = (sym (pick-true _ _ (eq-eqb _ _ (c .if1 .taken))), c .before .before
 span-of-requires : tie.Need-span-of-requires
 span-of-requires c κs = search needs
 
-set-of-requires : tie.Need-set-of-requires
-set-of-requires c κs =
-    let start = c .before .before .before .before .before in
-    let same = ap length (c .span-of .ensures) in
-    omega (arith, start .pre .1)
+of-requires : tie.Need-of-requires
+of-requires c κs = search needs
 
 returns-2 : tie.Need-returns-2
 unfolding chosenSet startReadIn
 returns-2 c =
-    let given = c .set-of .ensures in
+    let start = c .before .before .before .before .before .before in
+    let given = c .of .ensures in
+    let same = set-given (start .args .s .now) (start .args .f .set) (c .before .span-of .ensures) (start .pre .1) (given .0) in
     let other = pick-false _ _ (ne-eqb _ _ (c .before .before .before .before .if1 .left)) in
     let this = pick-true _ _ (eq-eqb _ _ (c .before .before .before .if2 .taken)) in
-    (given .0 ∙ c .before .span-of .ensures ∙ sym (other ∙ this), given .1)
+    (same ∙ sym (other ∙ this), given .1)
 
 universal-requires : tie.Need-universal-requires
 universal-requires c κs = search needs
@@ -43,4 +41,4 @@ returns-3 c =
 pub chosen-set-spec : {M : Type 1} → statement M
 chosen-set-spec =
     tie.close
-    (tie.spec returns span-of-requires set-of-requires returns-2 universal-requires returns-3)
+    (tie.spec returns span-of-requires of-requires returns-2 universal-requires returns-3)
