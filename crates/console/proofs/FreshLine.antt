@@ -6,6 +6,7 @@ use mathlib.Core.Bool.{true, false}
 use mathlib.Core.List.{List}
 use lib.ListN.{length, take, replicate}
 use Rattle.rules.specs.Numbers.{inputSize, typeAheadSize}
+use Rattle.rules.proofs.Numbers.{inputNumeral, input-size}
 use Rattle.rules.specs.StartRead.{universal}
 use Rattle.rules.specs.State.{fresh, freshHost, freshSwitches}
 use Rattle.rules.specs.Bounds as bounds
@@ -28,6 +29,7 @@ module _ (keys text : List ℕ) (set : Set) (terms : Terms) (flow : Flow) where
         text = text;
         set = set;
         «last_set» = set;
+        «largest_read» = inputNumeral;
         initiated = false;
         switches = record { raising = false; echoing = true; recognising = false; prompting = false };
         terms = terms;
@@ -39,7 +41,7 @@ module _ (keys text : List ℕ) (set : Set) (terms : Terms) (flow : Flow) where
     unfolding fresh freshHost freshSwitches keysOf tokenOf
     fresh-view = λ i.
         record {
-          host = record { initiated = false; switches = freshSwitches; attributes = replicate 256 0; lastSet = universal-set .0 i };
+          host = record { initiated = false; switches = freshSwitches; attributes = replicate 256 0; lastSet = universal-set .0 i; largestRead = sym input-size i };
           terminal = f .terminal i;
           typed = record { typeAhead = keysOf (f .keysLength i) keys; token = take (f .token i) (flow .typed .token) };
           pendingRead = pendingOf (f .pending i) (readingOf lineOf (flow .reading));

@@ -1,1 +1,2 @@
 mod FreshLine
+mod LoadedLine

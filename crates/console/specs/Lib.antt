@@ -1,1 +1,2 @@
 pub mod FreshFlow
+pub mod Loading

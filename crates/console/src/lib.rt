@@ -1,4 +1,4 @@
-// A line between its calls: how a console begins, and the count that can be asked of it.
+// What is done with a line besides its four calls: how a console begins, what it is loaded with, and the count that can be asked of it.
 ghost use mathlib.Core.Path.{_≡_};
 ghost use Rattle.line.specs.View.{view};
 ghost use Rattle.line.specs.Bounded.{IsFresh};
@@ -12,6 +12,10 @@ use line::Terms;
 use line::Typed;
 use screen::Screen;
 use sets::Set;
+
+mod loading;
+
+pub use crate::loading::load;
 
 // The terms of a line that has no read pending.
 fn no_terms() -> Terms
@@ -88,6 +92,7 @@ pub fn fresh() -> Line
         text: [0u8; rules::INPUT_SIZE],
         set,
         last_set: set,
+        largest_read: rules::INPUT_SIZE as u16,
         initiated: false,
         switches,
         terms,

@@ -6,8 +6,9 @@ use mathlib.Core.List.{List, [], _∷_, _++_}
 use borrow.Author.Tests.{lt-ltb}
 use Rattle.rules.specs.State.{fresh}
 use Rattle.rules.specs.Messages.Codec.{allBytes}
-use Rattle.rules.specs.Calls.{Event, key, step, tick, message}
+use Rattle.rules.specs.Calls.{Event, key, step, tick, message, load}
 use Rattle.rules.specs.Bounds.{isByteEvent}
+use Rattle.rules.proofs.Choice.{both}
 use Rattle.line.specs.declared.Line.{Line}
 use Rattle.line.specs.declared.Answer.{Answer}
 use Rattle.line.specs.View.{view}
@@ -90,3 +91,7 @@ module _ {l : Line} {r : Answer} {terminal messages terminal′ messages′ : Li
   pub played-host : (s : List ℕ) → allBytes s ≡ true → Answers (message s) l terminal messages r terminal′ messages′ → Played (r .line)
   unfolding isByteEvent
   played-host s h = played-more (message s) h
+
+  pub played-load : (own site : List ℕ) → allBytes own ≡ true → allBytes site ≡ true → Answers (load own site) l terminal messages r terminal′ messages′ → Played (r .line)
+  unfolding isByteEvent
+  played-load own site h k = played-more (load own site) (both h k)

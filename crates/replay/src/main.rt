@@ -3,24 +3,28 @@ ghost use Prim.Native.Nat.{_≤_};
 ghost use mathlib.Core.Path.{_≡_};
 ghost use mathlib.Core.Bool.{true};
 ghost use Rattle.rules.specs.Messages.Codec.{allBytes};
+ghost use Rattle.line.specs.Bounded.{Bounded};
 ghost use Rattle.replay.specs.Areas.{longest, Areas};
 ghost use Rattle.replay.specs.Played.{Played, IsCount};
 use crate::answers::Told;
 use crate::output::front;
 use crate::run::Run;
 use crate::text::Call;
+use fields::Span;
+use line::Answer;
 use line::Line;
 
 mod answers;
 mod hex;
 mod number;
 mod output;
+mod records;
 mod run;
 mod script;
 mod text;
 
-// Of a longer message one byte more than the longest is kept: it is refused all the same.
-const KEPT: usize = rules::MESSAGE_SIZE + 1;
+// Room for two settings records. A message that is longer is too long: the front of it is refused all the same.
+const KEPT: usize = 2 * records::ROOM as usize;
 
 // The longest area.
 const AREA: usize = 65_535;
@@ -37,6 +41,22 @@ fn message(kept: &[u8], count: usize) -> &[u8]
     ensures { λ r. ⌜ allBytes (now r) ≡ true ⌝ }
 {
     front(kept, count)
+}
+
+// A settings record's bytes.
+fn record_at(kept: &[u8], start: u16, len: u16) -> &[u8]
+    ensures { λ r. ⌜ allBytes (now r) ≡ true ⌝ }
+{
+    let span = Span { start, len };
+    fields::span_of(kept, span)
+}
+
+// The line loaded with the own record and the site's, which is kept behind it.
+fn load(line: Line, kept: &[u8], own: u16, site: u16) -> Answer
+    requires { ⌜ Bounded line ⌝ }
+    ensures { λ r. ⌜ (Played line → Played (r .line)) ⌝ }
+{
+    console::load(line, record_at(kept, 0, own), record_at(kept, own, site))
 }
 
 // Keys dropped so far.
@@ -78,6 +98,11 @@ fn replay(input: &mut [u8], terminal: &mut [u8], messages: &mut [u8], buffer: &m
                 let a = line.host(message(&kept, n), t, m);
                 line = a.line;
                 run = run.telling(Told::Answer(a.number, a.terminal, a.messages));
+            }
+            Call::Load(own, site) => {
+                let a = load(line, &kept, own, site);
+                line = a.line;
+                run = run.telling(Told::Number(a.number));
             }
             Call::Fresh => line = console::fresh(),
             Call::Dropped => run = run.telling(Told::Count(dropped(line))),

@@ -2,7 +2,10 @@
 ghost use mathlib.Core.Path.{_≡_};
 ghost use Prim.Native.Nat.{_≤_, _<_};
 use crate::answers::Told;
+use crate::hex::value_of;
+use crate::number::Length;
 use crate::output::flush;
+use crate::records::Record;
 use crate::script::Script;
 use crate::text::Call;
 use crate::text::Order;
@@ -92,6 +95,19 @@ impl Run {
         self
     }
 
+    // Two settings records are to be loaded, or a section of them is asked for.
+    fn settings(self, own: u16, r: Record) -> Run
+        ensures { λ r. ⌜ r .turns ≡ self .turns ⌝ }
+    {
+        let Length::Of(site) = r.length() else {
+            return self.telling(Told::Unknown);
+        };
+        if r.asked == b'L' {
+            return self.with(Call::Load(own, site), Told::Nothing);
+        }
+        self.telling(Told::Section(value_of(r.asked), own, site))
+    }
+
     // With what the script says next.
     fn ordered(mut self, script: Script) -> Run
         ensures { λ r. ⌜ r .turns ≡ self .turns ⌝ }
@@ -111,6 +127,7 @@ impl Run {
                 self.telling(Told::Nothing)
             }
             Order::Read(count) => self.telling(Told::Copy(count)),
+            Order::Settings(own, r) => self.settings(own, r),
             Order::Unknown => self.telling(Told::Unknown),
             Order::More => self.telling(Told::Nothing),
         }

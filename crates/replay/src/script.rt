@@ -29,10 +29,8 @@ fn count(got: isize, input: &[u8]) -> usize
 }
 
 impl Script {
-    // The next piece.
-    pub(crate) fn read(self, input: &mut [u8]) -> Script {
+    fn with_piece(self, to: usize) -> Script {
         let text = self.text;
-        let to = count(libc::read(STDIN_FILENO, input), input);
         Script {
             text,
             from: 0,
@@ -40,6 +38,19 @@ impl Script {
             ended: to == 0,
             order: Order::More,
         }
+    }
+
+    // The next piece. The last line may lack its newline: one is put behind it.
+    pub(crate) fn read(self, input: &mut [u8]) -> Script {
+        let text = self.text;
+        let to = count(libc::read(STDIN_FILENO, input), input);
+        if (to == 0) & text.is_begun() {
+            if 0 < input.len() {
+                input[0] = b'\n';
+                return self.with_piece(1);
+            }
+        }
+        self.with_piece(to)
     }
 
     // Behind a line that says this.
@@ -53,7 +64,7 @@ impl Script {
         }
     }
 
-    // One line on, or to the end of the piece. The last line may lack its newline.
+    // One line on, or to the end of the piece.
     pub(crate) fn next(self, input: &[u8], kept: &mut [u8]) -> Script {
         let piece = front(input, self.to);
         let mut text = self.text;
@@ -65,9 +76,6 @@ impl Script {
                 return self.behind(i, text.order(kept));
             }
             text = text.with(byte, kept);
-        }
-        if self.ended & text.is_begun() {
-            return self.behind(i, text.order(kept));
         }
         Script {
             text,

@@ -19,6 +19,9 @@ no-terms-requires c κs = search needs
 fresh-flow-requires : tie.Need-fresh-flow-requires
 fresh-flow-requires c κs = search needs
 
+cast-t8 : tie.Need-cast-t8
+cast-t8 c = search needs
+
 returns : tie.Need-returns
 returns c =
     let flow = c .fresh-flow in
@@ -27,4 +30,4 @@ returns c =
     is-fresh _ _ (set .result) (terms .result) (flow .result) (flow .ensures) (set .ensures) (sym type-ahead-size) (sym input-size) (terms .ensures)
 
 pub fresh-spec : {M : Type 1} → statement M
-fresh-spec = tie.close (tie.spec universal-requires no-terms-requires fresh-flow-requires returns)
+fresh-spec = tie.close (tie.spec universal-requires no-terms-requires fresh-flow-requires cast-t8 returns)

@@ -12,10 +12,14 @@ use Rattle.replay.proofs.Playing.{played-fresh, played-bounded, played-
 use Rattle.replay.proofs.replay.Statement.{statement}
 use Rattle.replay.proofs.replay.Tie as tie
 
+-- two records
+abbrev keptSize : ℕ
+keptSize = 1202
+
 abbrev Inv-loop : tie.InvT-loop
 Inv-loop input₀ terminal₀ messages₀ buffer₀ kept₀ line₀ run₀ input terminal messages buffer kept line run =
     Played line × (length input ≡ length input₀) × (length terminal ≡ length terminal₀) × (length messages ≡ length messages₀)
-    × (length buffer ≡ length buffer₀) × (length kept ≡ 257)
+    × (length buffer ≡ length buffer₀) × (length kept ≡ keptSize)
 
 abbrev μ-loop : tie.MeasureT-loop
 μ-loop input₀ terminal₀ messages₀ buffer₀ kept₀ line₀ run₀ input terminal messages buffer kept line run = run .turns
@@ -59,7 +63,7 @@ again : (c : Here) {l : Line} (ts ms : List ℕ) → Played l → length ts ≡ 
     Played l × (length (left .1 .0) ≡ length (start c .args .input .now))
     × (length (putMid 0 (shown c) (head c .loop .terminal) ts) ≡ length (start c .args .terminal .now))
     × (length (putMid 0 (sent c) (head c .loop .messages) ms) ≡ length (start c .args .messages .now))
-    × (length (left .1 .1 .1 .1 .1 .0) ≡ length (start c .args .buffer .now)) × (length (left .1 .1 .0) ≡ 257)
+    × (length (left .1 .1 .1 .1 .1 .0) ≡ length (start c .args .buffer .now)) × (length (left .1 .1 .0) ≡ keptSize)
 again c ts ms p t m =
     let kept = ordered c .next .kept in
     let inv = head c .loop .inv in (
@@ -201,17 +205,38 @@ loop-again-4 c =
     again here (done .host .last .1 .1 .0) (done .host .last .1 .1 .1 .0) (played-host (head here .loop .inv .0) _ (done .before .message .ensures) (done .host .ensures))
     (done .host .kept .1 .1 .0) (done .host .kept .1 .1 .1 .0)
 
+enum-known-own : tie.Need-enum-known-own Inv-loop μ-loop
+enum-known-own c = search needs
+
+slice-aggregate-load : tie.Need-slice-aggregate-load Inv-loop μ-loop
+slice-aggregate-load c = search needs
+
+load-requires : tie.Need-load-requires Inv-loop μ-loop
+load-requires c κs = bounded (c .before .before .before .before .before .before .before .before)
+
+telling-requires-5 : tie.Need-telling-requires-5 Inv-loop μ-loop
+telling-requires-5 c κs = search needs
+
+loop-less-5 : tie.Need-loop-less-5 Inv-loop μ-loop
+loop-less-5 c = omega (arith, c .telling5 .ensures, turned (c .before .before .before .before .before .before .before .before .before .before .before))
+
+loop-again-5 : tie.Need-loop-again-5 Inv-loop μ-loop
+loop-again-5 c =
+    let done = c .before .before in
+    let here = done .before .before .before .before .before .before .before .before .before in
+    again here (lentTerminal here) (lentMessages here) (done .load .ensures (head here .loop .inv .0)) refl refl
+
 enum-told-3 : tie.Need-enum-told-3 Inv-loop μ-loop
 enum-told-3 c = search needs
 
 fresh-requires-2 : tie.Need-fresh-requires-2 Inv-loop μ-loop
 fresh-requires-2 c κs = search needs
 
-loop-less-5 : tie.Need-loop-less-5 Inv-loop μ-loop
-loop-less-5 c = turned (c .before .before .before .before .before .before .before)
+loop-less-6 : tie.Need-loop-less-6 Inv-loop μ-loop
+loop-less-6 c = turned (c .before .before .before .before .before .before .before)
 
-loop-again-5 : tie.Need-loop-again-5 Inv-loop μ-loop
-loop-again-5 c =
+loop-again-6 : tie.Need-loop-again-6 Inv-loop μ-loop
+loop-again-6 c =
     let here = c .before .before .before .before .before .before .before in
     again here (lentTerminal here) (lentMessages here) (played-fresh (c .fresh2 .ensures)) refl refl
 
@@ -221,25 +246,25 @@ enum-told-4 c = search needs
 dropped-requires : tie.Need-dropped-requires Inv-loop μ-loop
 dropped-requires c κs = search needs
 
-telling-requires-5 : tie.Need-telling-requires-5 Inv-loop μ-loop
-telling-requires-5 c κs = search needs
+telling-requires-6 : tie.Need-telling-requires-6 Inv-loop μ-loop
+telling-requires-6 c κs = search needs
 
-loop-less-6 : tie.Need-loop-less-6 Inv-loop μ-loop
-loop-less-6 c = omega (arith, c .telling5 .ensures, turned (c .before .before .before .before .before .before .before .before))
+loop-less-7 : tie.Need-loop-less-7 Inv-loop μ-loop
+loop-less-7 c = omega (arith, c .telling6 .ensures, turned (c .before .before .before .before .before .before .before .before))
 
-loop-again-6 : tie.Need-loop-again-6 Inv-loop μ-loop
-loop-again-6 c =
+loop-again-7 : tie.Need-loop-again-7 Inv-loop μ-loop
+loop-again-7 c =
     let here = c .before .before .before .before .before .before .before .before in
     again here (lentTerminal here) (lentMessages here) (head here .loop .inv .0) refl refl
 
 enum-told-5 : tie.Need-enum-told-5 Inv-loop μ-loop
 enum-told-5 c = search needs
 
-loop-less-7 : tie.Need-loop-less-7 Inv-loop μ-loop
-loop-less-7 c = turned (c .before .before .before .before .before .before)
+loop-less-8 : tie.Need-loop-less-8 Inv-loop μ-loop
+loop-less-8 c = turned (c .before .before .before .before .before .before)
 
-loop-again-7 : tie.Need-loop-again-7 Inv-loop μ-loop
-loop-again-7 c =
+loop-again-8 : tie.Need-loop-again-8 Inv-loop μ-loop
+loop-again-8 c =
     let here = c .before .before .before .before .before .before in
     again here (lentTerminal here) (lentMessages here) (head here .loop .inv .0) refl refl
 
@@ -300,18 +325,24 @@ replay-spec =
     telling-requires-4
     loop-less-4
     loop-again-4
-    enum-told-3
-    fresh-requires-2
+    enum-known-own
+    slice-aggregate-load
+    load-requires
+    telling-requires-5
     loop-less-5
     loop-again-5
-    enum-told-4
-    dropped-requires
-    telling-requires-5
+    enum-told-3
+    fresh-requires-2
     loop-less-6
     loop-again-6
-    enum-told-5
+    enum-told-4
+    dropped-requires
+    telling-requires-6
     loop-less-7
     loop-again-7
+    enum-told-5
+    loop-less-8
+    loop-again-8
     same-length
     same-length-2
     same-length-3

@@ -44,26 +44,11 @@ loop-less c = search needs
 loop-again : tie.Need-loop-again Inv-loop μ-loop
 loop-again c = search needs
 
-is-begun-requires : tie.Need-is-begun-requires Inv-loop μ-loop
-is-begun-requires c κs = search needs
-
-order-requires-2 : tie.Need-order-requires-2 Inv-loop μ-loop
-order-requires-2 c κs = search needs
-
-behind-requires-2 : tie.Need-behind-requires-2 Inv-loop μ-loop
-behind-requires-2 c κs = search needs
-
 same-length-2 : tie.Need-same-length-2 Inv-loop μ-loop
 same-length-2 c = search needs
 
 returns-2 : tie.Need-returns-2 Inv-loop μ-loop
 returns-2 c = search needs
-
-same-length-3 : tie.Need-same-length-3 Inv-loop μ-loop
-same-length-3 c = search needs
-
-returns-3 : tie.Need-returns-3 Inv-loop μ-loop
-returns-3 c = search needs
 
 pub next-spec : {M : Type 1} → statement M
 next-spec =
@@ -82,10 +67,5 @@ next-spec =
     with-requires
     loop-less
     loop-again
-    is-begun-requires
-    order-requires-2
-    behind-requires-2
     same-length-2
-    returns-2
-    same-length-3
-    returns-3)
+    returns-2)
