@@ -2,6 +2,7 @@
 //! repository holds a copy of `rules` and a crate that states each script as
 //! rows of the bench table's form, and that all of them hold.
 
+use crate::line::Areas;
 use crate::script::{lines, parse, Order, Runner};
 use std::fmt::Write as _;
 use std::fs;
@@ -19,8 +20,8 @@ const HEADER: &str = "\
 use Prim.Native.Nat.{ℕ}
 use mathlib.Core.Path.{_≡_, refl}
 use mathlib.Core.List.{List, [], _∷_}
-use Rattle.rules.specs.Calls.{key, step, tick, message}
-use Rattle.rules.specs.Bench.{Case, runs, copies, failures, asked}
+use Rattle.rules.specs.Calls.{key, step, tick, message, load}
+use Rattle.rules.specs.Bench.{Case, runs, copies, asks, failures, asked}
 use Rattle.rules.specs.Whole.{whole}
 
 ";
@@ -30,49 +31,80 @@ use Rattle.rules.specs.Whole.{whole}
 /// implementation, which answers each `D` too.
 fn rows(script: &Script) -> (String, usize) {
     let mut answers = lines(&script.answers);
-    let (mut rows, mut calls) = (String::new(), 0);
-    let mut run = String::new();
+    let mut rows = Rows::default();
     let mut runner = Runner::default();
-    let mut areas = (4096, 256);
     for text in lines(&script.orders) {
         let mut ours = Vec::new();
         runner.run(text, &mut ours);
         let answer = if ours.is_empty() { Vec::new() } else { words(answers.next()) };
         match parse(text) {
-            Some(Order::Lengths(next)) => areas = (next.terminal, next.message),
-            Some(Order::Fresh) => {
-                end_run(&mut run, &mut rows);
-                areas = (4096, 256);
-            }
-            Some(Order::Read(bytes)) => {
-                let (number, again) = (&answer[0], list(&hex(&answer[1])));
-                writeln!(rows, "    copies {} {number} {again} ∷", list(&bytes)).unwrap();
-                calls += 1;
-            }
-            Some(Order::Dropped) => assert_eq!(answer[0], runner.line().dropped().to_string()),
+            Some(order) => rows.add(&order, &answer, runner.line().dropped()),
             None => assert_eq!(answer[0], "?"),
-            Some(order) => {
-                let (terminal, messages) = (list(&hex(&answer[1])), list(&hex(&answer[2])));
-                let (event, dropped) = (event(&order), runner.line().dropped());
-                let (a, b) = areas;
-                writeln!(
-                    run,
-                    "    asked {a} {b} {event} {} {terminal} {messages} {dropped} ∷",
-                    answer[0]
-                )
-                .unwrap();
-                calls += 1;
+        }
+    }
+    rows.end_run();
+    (rows.text, rows.calls)
+}
+
+/// The rows so far, and the calls since the last fresh line.
+#[derive(Default)]
+struct Rows {
+    text: String,
+    run: String,
+    areas: Areas,
+    calls: usize,
+}
+
+impl Rows {
+    fn add(&mut self, order: &Order, answer: &[String], dropped: u16) {
+        match order {
+            Order::Lengths(next) => self.areas = *next,
+            Order::Fresh => {
+                self.end_run();
+                self.areas = Areas::default();
+            }
+            Order::Dropped => assert_eq!(answer[0], dropped.to_string()),
+            Order::Read(bytes) => {
+                let (number, again) = (&answer[0], list(&hex(&answer[1])));
+                self.case(&format!("copies {} {number} {again}", list(bytes)));
+            }
+            Order::Ask(number, records) => {
+                let (own, site) = (list(&records.own), list(&records.site));
+                let section = list(&hex(&answer[0]));
+                self.case(&format!("asks {number} {own} {site} {section}"));
+            }
+            Order::Load(_) => {
+                // A load is lent no areas, and writes nothing.
+                let none = Areas { terminal: 0, message: 0 };
+                let answer = [answer[0].clone(), "-".into(), "-".into()];
+                self.call(none, order, &answer, dropped);
+            }
+            Order::Key(_) | Order::Step | Order::Tick | Order::Host(_) => {
+                self.call(self.areas, order, answer, dropped);
             }
         }
     }
-    end_run(&mut run, &mut rows);
-    (rows, calls)
-}
 
-fn end_run(run: &mut String, rows: &mut String) {
-    if !run.is_empty() {
-        write!(rows, "    runs (\n{run}    []) ∷\n").unwrap();
-        run.clear();
+    /// One row that needs no line.
+    fn case(&mut self, row: &str) {
+        writeln!(self.text, "    {row} ∷").unwrap();
+        self.calls += 1;
+    }
+
+    fn call(&mut self, areas: Areas, order: &Order, answer: &[String], dropped: u16) {
+        let Areas { terminal: a, message: b } = areas;
+        let (number, event) = (&answer[0], event(order));
+        let (terminal, messages) = (list(&hex(&answer[1])), list(&hex(&answer[2])));
+        let row = format!("asked {a} {b} {event} {number} {terminal} {messages} {dropped}");
+        writeln!(self.run, "    {row} ∷").unwrap();
+        self.calls += 1;
+    }
+
+    fn end_run(&mut self) {
+        if !self.run.is_empty() {
+            write!(self.text, "    runs (\n{}    []) ∷\n", self.run).unwrap();
+            self.run.clear();
+        }
     }
 }
 
@@ -80,6 +112,7 @@ fn event(order: &Order) -> String {
     match order {
         Order::Key(code) => format!("(key {code})"),
         Order::Host(bytes) => format!("(message {})", list(bytes)),
+        Order::Load(records) => format!("(load {} {})", list(&records.own), list(&records.site)),
         Order::Step => "step".into(),
         _ => "tick".into(),
     }

@@ -1,6 +1,7 @@
 //! What occurred while scripts ran: how often each completion code, refusal
-//! number, message type and rule of page 01 was met.
+//! number, message type and rule of page 01 and of M-100 was met.
 
+use crate::settings::{self, Flaw, Source, FLAWS, SECTIONS};
 use std::fmt;
 
 macro_rules! rules {
@@ -17,7 +18,7 @@ rules! {
     KeyBeforeInitiate, KeyQuoted, KeyQuotedOutOfBand, KeyQuotedDropped, KeyHello,
     KeyImmediateClearIdle, KeyImmediateClearRead, KeyOutOfBandInDdd3, KeyQuote, KeyClearIdle,
     KeyClearRead, KeyDiscardOn, KeyDiscardOff, KeyQuoteDdd3, KeyClearDdd3, KeyDiscardDdd3,
-    KeyStored, KeyDropped,
+    KeyStored, KeyDropped, KeyLoadedHello, KeyLoadedClear,
     // The clear rule.
     ClearedTypeAhead, ClearedHeld, ClearedPartial, ClearedInput,
     // One step.
@@ -39,20 +40,38 @@ rules! {
     EchoTab, EchoControl, EchoHigh, EchoNothing, RubTab, RubControl, RubNothing, RubNoEcho,
     ColumnTop, BackspaceAtEdge,
     // Host messages.
-    Initiated, ReadPending, ReadFullAtOnce, ReadClears, ReadClearsHeld, FormattingLf,
+    Initiated, InitiatedLoaded, ReadPending, ReadFullAtOnce, ReadClears, ReadClearsHeld, FormattingLf,
     FormattingNoLf, HiddenLfInPrompt, HiddenLfInData, HiddenLfDeleted, HiddenLfRedisplayed,
-    AutoPrompt, SetLast, SetLastNone, SetGiven, SetUniversal, RaiseOn, EscapesOn, NoEcho,
+    AutoPrompt, SetLast, SetLastNone, SetLoaded, SetGiven, SetUniversal, RaiseOn, EscapesOn, NoEcho,
     EchoOffByCharacteristic, UnreadAlways, UnreadEmptyDone, UnreadEmptyWaiting,
     UnreadEmptyToken, UnreadEmptyInput, UnreadNoRead, ClearInput, CheckInput,
     WriteSent, WriteEmpty, WriteDiscarded, WriteEndsDiscard, WriteLost, WriteNotLost,
     SetAttributes, SetRaise, SetEcho, SetEscapes, SetAutoPrompt, SetNothing, SetInMidRead,
     AnswerAttributes, AnswerRaise, AnswerEcho, AnswerEscapes, AnswerAutoPrompt, AnswerNothing,
+    // Settings.
+    LoadOwnBeforeSite, LoadMixed, LoadNothing, LoadKeepsLargest, LargestReadMet,
+    AskedOwn, AskedSite, AskedOwnBeforeSite, AskedEmpty, AskedOutside, AskedOwnUnsound,
+    AskedSiteUnsound,
     // Refusals, one for each cause.
     TerminalAreaSmall, MessageAreaSmall, MessageEmpty, MessageLong, TypeUnknown, TypeOfServers,
     FirstNotInitiate, InitiateAgain, ReadAlreadyPending, CutShort, LeftOver, ValueUndefined,
     SelectorUndefined, StartReadTest, StartOfDisplay, FlagK, FlagV, WriteLock, WriteNewline,
     WriteTransparent, WritePrefix, WritePostfix, SelectorOutside, DeferredClear, AnswerLong,
+    LargestReadPassed, LargestReadBeforeNotCarried,
 }
+
+/// When a load came.
+#[derive(Clone, Copy, Debug, PartialEq, Eq)]
+pub enum Moment {
+    BeforeInitiate,
+    NoRead,
+    MidRead,
+}
+
+pub const MOMENTS: [Moment; 3] = [Moment::BeforeInitiate, Moment::NoRead, Moment::MidRead];
+const SOURCES: [Source; 2] = [Source::Own, Source::Site];
+/// Section numbers that a script can ask for: one digit.
+const DIGITS: usize = 10;
 
 /// The counts of one line, or of many runs added up.
 #[derive(Clone, Debug, PartialEq, Eq)]
@@ -60,7 +79,7 @@ pub struct Coverage {
     /// Completion codes in Read Data.
     pub codes: [u64; 16],
     /// The numbers that calls answered.
-    pub numbers: [u64; 7],
+    pub numbers: [u64; 8],
     /// Types that the line sent, accepted, and that were read without a line.
     pub sent: [u64; 15],
     pub received: [u64; 15],
@@ -68,18 +87,27 @@ pub struct Coverage {
     /// Refusals of reading without a line.
     pub read_numbers: [u64; 7],
     pub rules: [u64; RULES.len()],
+    /// Sections that loads found, by place, moment and source.
+    loaded: [[[u64; 2]; 3]; SECTIONS],
+    /// First flaws of own records and of site records in refused loads.
+    flaws: [[u64; FLAWS.len()]; 2],
+    /// How often each section number was asked for.
+    pub asked: [u64; DIGITS],
 }
 
 impl Default for Coverage {
     fn default() -> Self {
         Coverage {
             codes: [0; 16],
-            numbers: [0; 7],
+            numbers: [0; 8],
             sent: [0; 15],
             received: [0; 15],
             read: [0; 15],
             read_numbers: [0; 7],
             rules: [0; RULES.len()],
+            loaded: Default::default(),
+            flaws: [[0; FLAWS.len()]; 2],
+            asked: [0; DIGITS],
         }
     }
 }
@@ -98,6 +126,37 @@ impl Coverage {
         self.rules[rule as usize] += u64::from(holds);
     }
 
+    pub fn loaded(&mut self, place: usize, moment: Moment, source: Source) {
+        self.loaded[place][moment as usize][source as usize] += 1;
+    }
+
+    pub fn flaw(&mut self, source: Source, flaw: Flaw) {
+        self.flaws[source as usize][flaw as usize] += 1;
+    }
+
+    /// A section is asked for.
+    pub fn ask(&mut self, number: u8, own: &[u8], site: &[u8]) {
+        self.asked[usize::from(number)] += 1;
+        let (own, site) = match (settings::read(own), settings::read(site)) {
+            (Ok(own), Ok(site)) => (own, site),
+            (own, site) => {
+                self.met_if(site.is_ok(), Rule::AskedOwnUnsound);
+                return self.met_if(own.is_ok(), Rule::AskedSiteUnsound);
+            }
+        };
+        let Some(place) = usize::from(number).checked_sub(1).filter(|place| *place < SECTIONS)
+        else {
+            return self.met(Rule::AskedOutside);
+        };
+        self.met(match settings::find(place, &own, &site) {
+            ([], _) => Rule::AskedEmpty,
+            (_, Source::Own) => Rule::AskedOwn,
+            (_, Source::Site) => Rule::AskedSite,
+        });
+        let both = !own.sections[place].is_empty() && !site.sections[place].is_empty();
+        self.met_if(both, Rule::AskedOwnBeforeSite);
+    }
+
     pub fn add(&mut self, other: &Coverage) {
         let pairs = self.codes.iter_mut().zip(&other.codes);
         let pairs = pairs.chain(self.numbers.iter_mut().zip(&other.numbers));
@@ -105,27 +164,48 @@ impl Coverage {
         let pairs = pairs.chain(self.received.iter_mut().zip(&other.received));
         let pairs = pairs.chain(self.read.iter_mut().zip(&other.read));
         let pairs = pairs.chain(self.read_numbers.iter_mut().zip(&other.read_numbers));
+        let pairs = pairs.chain(self.asked.iter_mut().zip(&other.asked));
+        let flaws = other.flaws.as_flattened();
+        let pairs = pairs.chain(self.flaws.as_flattened_mut().iter_mut().zip(flaws));
+        let loaded = other.loaded.as_flattened().as_flattened();
+        let mine = self.loaded.as_flattened_mut().as_flattened_mut();
+        let pairs = pairs.chain(mine.iter_mut().zip(loaded));
         for (mine, more) in pairs.chain(self.rules.iter_mut().zip(&other.rules)) {
             *mine += more;
         }
     }
 
-    /// Calls on a line, and messages read without one.
+    /// Calls on a line, messages read and sections asked for without one.
     pub fn calls(&self) -> u64 {
-        self.numbers.iter().chain(&self.read_numbers).sum()
+        self.numbers.iter().chain(&self.read_numbers).chain(&self.asked).sum()
     }
 
     /// Each thing that can be reached, with its count.
     pub fn table(&self) -> Vec<(String, u64)> {
         let mut table = Vec::new();
         table.extend(CODES.map(|code| (format!("completion code {code}"), self.codes[code])));
-        table.extend((0..7).map(|no| (format!("number {no}"), self.numbers[no])));
+        table.extend((0..8).map(|no| (format!("number {no}"), self.numbers[no])));
         table.extend(SENT.map(|kind| (format!("sent type {kind}"), self.sent[kind])));
         table.extend(RECEIVED.map(|kind| (format!("received type {kind}"), self.received[kind])));
         table.extend((1..15).map(|kind| (format!("read type {kind}"), self.read[kind])));
         table.extend([0, 2, 3, 5].map(|no| (format!("reading {no}"), self.read_numbers[no])));
         table.extend(RULES.iter().map(|rule| (format!("{rule:?}"), self.rules[*rule as usize])));
+        self.settings_table(&mut table);
         table
+    }
+
+    fn settings_table(&self, table: &mut Vec<(String, u64)>) {
+        for source in SOURCES {
+            for moment in MOMENTS {
+                let counts = self.loaded.map(|counts| counts[moment as usize][source as usize]);
+                let name = |place| format!("loaded {} {source:?} {moment:?}", place + 1);
+                table.extend(counts.into_iter().enumerate().map(|(place, n)| (name(place), n)));
+            }
+            let count = |flaw: Flaw| self.flaws[source as usize][flaw as usize];
+            let name = |flaw: Flaw| format!("unsound {source:?} {flaw:?}");
+            table.extend(FLAWS.iter().map(|flaw| (name(*flaw), count(*flaw))));
+        }
+        table.extend((0..DIGITS).map(|no| (format!("asked {no}"), self.asked[no])));
     }
 
     /// The names of things that can be reached and were not.

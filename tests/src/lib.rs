@@ -1,5 +1,6 @@
-//! A second console end of a command terminal line, written from page 01
-//! alone so that another program can be compared with it byte for byte.
+//! A second console end of a command terminal line, written from page 01 and
+//! request M-100 alone so that another program can be compared with it byte for
+//! byte.
 
 pub mod compare;
 pub mod computed;
@@ -10,3 +11,5 @@ pub mod message;
 pub mod replay;
 pub mod screen;
 pub mod script;
+pub mod settings;
+pub mod vectors;

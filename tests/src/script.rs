@@ -3,10 +3,13 @@
 use crate::coverage::Coverage;
 use crate::line::{Answer, Areas, Line};
 use crate::message;
+use crate::settings;
 use std::fmt;
 
 /// A message kept by a runner is never longer: one byte over tells enough.
 const KEPT: usize = message::LONGEST + 1;
+/// And a settings record is not sound if it is longer.
+const KEPT_RECORD: usize = settings::LONG + 1;
 
 /// One line of a script.
 #[derive(Clone, Debug, PartialEq, Eq)]
@@ -19,6 +22,31 @@ pub enum Order {
     Fresh,
     Read(Vec<u8>),
     Dropped,
+    Load(Records),
+    /// A section's number, which is one digit.
+    Ask(u8, Records),
+}
+
+/// The line's own settings record and the site's.
+#[derive(Clone, Debug, Default, PartialEq, Eq)]
+pub struct Records {
+    pub own: Vec<u8>,
+    pub site: Vec<u8>,
+}
+
+impl fmt::Display for Records {
+    fn fmt(&self, to: &mut fmt::Formatter) -> fmt::Result {
+        write_record(&self.own, to)?;
+        to.write_str(" ")?;
+        write_record(&self.site, to)
+    }
+}
+
+fn write_record(bytes: &[u8], to: &mut fmt::Formatter) -> fmt::Result {
+    if bytes.is_empty() {
+        return to.write_str("-");
+    }
+    bytes.iter().try_for_each(|byte| write!(to, "{byte:02X}"))
 }
 
 impl fmt::Display for Order {
@@ -32,6 +60,8 @@ impl fmt::Display for Order {
             Order::Fresh => to.write_str("F"),
             Order::Read(bytes) => write_message("R", bytes, to),
             Order::Dropped => to.write_str("D"),
+            Order::Load(records) => write!(to, "L {records}"),
+            Order::Ask(number, records) => write!(to, "G {number} {records}"),
         }
     }
 }
@@ -53,15 +83,34 @@ pub fn parse(text: &[u8]) -> Option<Order> {
         Some(_) => return None,
     };
     match (word, argument) {
-        (b'K', Some(digits)) if digits.len() == 2 => Some(Order::Key(bytes_of(digits)?[0])),
+        (b'K', Some(digits)) if digits.len() == 2 => Some(Order::Key(bytes_of(digits, 1)?[0])),
         (b'S', None) => Some(Order::Step),
         (b'T', None) => Some(Order::Tick),
-        (b'M', digits) => Some(Order::Host(bytes_of(digits.unwrap_or_default())?)),
-        (b'R', digits) => Some(Order::Read(bytes_of(digits.unwrap_or_default())?)),
+        (b'M', digits) => Some(Order::Host(bytes_of(digits.unwrap_or_default(), KEPT)?)),
+        (b'R', digits) => Some(Order::Read(bytes_of(digits.unwrap_or_default(), KEPT)?)),
         (b'A', Some(numbers)) => lengths(numbers),
         (b'F', None) => Some(Order::Fresh),
         (b'D', None) => Some(Order::Dropped),
+        (b'L', Some(words)) => Some(Order::Load(records(words)?)),
+        (b'G', Some([digit @ b'0'..=b'9', b' ', words @ ..])) => {
+            Some(Order::Ask(digit - b'0', records(words)?))
+        }
         _ => None,
+    }
+}
+
+fn records(words: &[u8]) -> Option<Records> {
+    let mut parts = words.split(|byte| *byte == b' ');
+    let (own, site) = (record(parts.next()?)?, record(parts.next()?)?);
+    parts.next().is_none().then_some(Records { own, site })
+}
+
+/// A record of 0 bytes is written as a dash, so that no word is empty.
+fn record(word: &[u8]) -> Option<Vec<u8>> {
+    match word {
+        [] => None,
+        b"-" => Some(Vec::new()),
+        digits => bytes_of(digits, KEPT_RECORD),
     }
 }
 
@@ -83,14 +132,15 @@ fn decimal(digits: &[u8]) -> Option<usize> {
     (number <= 65_535).then_some(number)
 }
 
-fn bytes_of(digits: &[u8]) -> Option<Vec<u8>> {
+/// The bytes, no more than are to be kept.
+fn bytes_of(digits: &[u8], kept: usize) -> Option<Vec<u8>> {
     if !digits.len().is_multiple_of(2) {
         return None;
     }
-    let mut bytes = Vec::with_capacity(KEPT.min(digits.len() / 2));
+    let mut bytes = Vec::with_capacity(kept.min(digits.len() / 2));
     for pair in digits.chunks_exact(2) {
         let byte = nibble(pair[0])? << 4 | nibble(pair[1])?;
-        if bytes.len() < KEPT {
+        if bytes.len() < kept {
             bytes.push(byte);
         }
     }
@@ -113,6 +163,10 @@ pub enum Reply {
     /// A message read without a line and written again, or its refusal.
     Copy(Result<Vec<u8>, u8>),
     Dropped(u16),
+    /// The number of a load.
+    Loaded(u8),
+    /// A section of a settings record.
+    Section(Vec<u8>),
     Nothing,
 }
 
@@ -132,6 +186,8 @@ impl Reply {
             }
             Reply::Copy(Err(number)) => to.extend([b'0' + number, b' ', b'-']),
             Reply::Dropped(count) => to.extend(count.to_string().bytes()),
+            Reply::Loaded(number) => to.push(b'0' + number),
+            Reply::Section(bytes) => put_hex(bytes, to),
             Reply::Nothing => return,
         }
         to.push(b'\n');
@@ -173,7 +229,14 @@ impl Runner {
             }
             Order::Read(bytes) => Reply::Copy(self.copy(bytes)),
             Order::Dropped => Reply::Dropped(self.line.dropped()),
+            Order::Load(records) => Reply::Loaded(self.line.load(&records.own, &records.site)),
+            Order::Ask(number, records) => Reply::Section(self.ask(*number, records)),
         }
+    }
+
+    fn ask(&mut self, number: u8, records: &Records) -> Vec<u8> {
+        self.seen.ask(number, &records.own, &records.site);
+        settings::section(number, &records.own, &records.site).to_vec()
     }
 
     fn copy(&mut self, bytes: &[u8]) -> Result<Vec<u8>, u8> {

@@ -49,6 +49,18 @@ fn generated_scripts_are_answered_alike() {
 }
 
 #[test]
+fn records_are_answered_alike() {
+    let calls = wanted("CALLS", CALLS) / 10;
+    let seen = compared(calls.div_ceil(SCRIPT), |seed| {
+        generator::settings_script(seed, SCRIPT as usize).into_bytes()
+    });
+    println!("{seen}");
+    assert!(seen.calls() >= calls);
+    // Most loads are refused: it is the damaged records that this is about.
+    assert!(seen.numbers[7] > calls / 4, "{:?}", seen.numbers);
+}
+
+#[test]
 fn damaged_scripts_are_answered_alike() {
     let calls = wanted("CALLS", CALLS) / 5;
     let seen = compared(calls.div_ceil(SCRIPT), |seed| {

@@ -2,20 +2,12 @@
 //! generated scripts besides.
 
 use second::computed::{check, Script};
-use second::{generator, script};
+use second::{generator, script, vectors};
 use std::path::Path;
 
 /// Seeds of generated scripts, and the calls of each.
 const SEEDS: std::ops::Range<u64> = 9000..9004;
 const CALLS: usize = 400;
-
-fn vectors(tests: &Path) -> impl Iterator<Item = Script> + '_ {
-    let read = move |name: String| std::fs::read(tests.join("vectors").join(name)).unwrap();
-    (1..=8).map(move |number| Script {
-        orders: read(format!("{number:02}.script")),
-        answers: read(format!("{number:02}.expected")),
-    })
-}
 
 fn generated() -> impl Iterator<Item = Script> {
     SEEDS.map(|seed| {
@@ -28,7 +20,8 @@ fn generated() -> impl Iterator<Item = Script> {
 #[test]
 fn the_definitions_answer_every_script() {
     let tests = Path::new(env!("CARGO_MANIFEST_DIR"));
-    let scripts: Vec<Script> = vectors(tests).chain(generated()).collect();
+    let vectors = vectors::all().into_iter().map(|(_, vector)| vector);
+    let scripts: Vec<Script> = vectors.chain(generated()).collect();
     let (output, calls) = check(tests.parent().unwrap(), &scripts).unwrap();
     println!("{calls} calls computed");
     assert!(output.status.success(), "{}", String::from_utf8_lossy(&output.stdout));

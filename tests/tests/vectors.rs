@@ -1,22 +1,31 @@
-//! The eight vectors agree to the last byte.
+//! The outside vectors agree to the last byte.
 
-use second::{replay, script};
-use std::path::Path;
+use second::{replay, script, vectors};
+
+fn agree(name: &str, answers: &[u8], expected: &[u8]) {
+    let pairs = answers.split(|b| *b == b'\n').zip(expected.split(|b| *b == b'\n'));
+    for (place, (ours, theirs)) in pairs.enumerate() {
+        let (ours, theirs) = (String::from_utf8_lossy(ours), String::from_utf8_lossy(theirs));
+        assert_eq!(ours, theirs, "vector {name}, answer {}", place + 1);
+    }
+    assert_eq!(answers, expected, "vector {name}");
+}
 
 #[test]
-fn all_eight_vectors_agree() {
-    let folder = Path::new(env!("CARGO_MANIFEST_DIR")).join("vectors");
-    for number in 1..=8 {
-        let orders = std::fs::read(folder.join(format!("{number:02}.script"))).unwrap();
-        let expected = std::fs::read(folder.join(format!("{number:02}.expected"))).unwrap();
-        for answers in [script::run(&orders).0, replay::run(&orders)] {
-            let pairs = answers.split(|b| *b == b'\n').zip(expected.split(|b| *b == b'\n'));
-            for (place, (ours, theirs)) in pairs.enumerate() {
-                let (ours, theirs) =
-                    (String::from_utf8_lossy(ours), String::from_utf8_lossy(theirs));
-                assert_eq!(ours, theirs, "vector {number}, answer {}", place + 1);
-            }
-            assert_eq!(answers, expected, "vector {number}");
-        }
+fn there_are_fourteen_vectors() {
+    assert_eq!(vectors::all().len(), 14);
+}
+
+#[test]
+fn the_second_implementation_answers_all_vectors() {
+    for (name, vector) in vectors::all() {
+        agree(&name, &script::run(&vector.orders).0, &vector.answers);
+    }
+}
+
+#[test]
+fn the_proved_program_answers_all_vectors() {
+    for (name, vector) in vectors::all() {
+        agree(&name, &replay::run(&vector.orders), &vector.answers);
     }
 }

@@ -76,8 +76,17 @@ pub fn start_read(random: &mut Random) -> StartRead {
     }
 }
 
+/// Makes a read no larger than this.
+pub fn fit(read: &mut StartRead, largest: u16) {
+    read.max_length = read.max_length.min(largest);
+    read.end_of_data = read.end_of_data.min(largest);
+    read.end_of_prompt = read.end_of_prompt.min(read.end_of_data);
+    read.low_water = read.low_water.min(read.end_of_data);
+    read.data.truncate(usize::from(read.end_of_data));
+}
+
 /// Termination sets that end a read now and then, and some that end it often.
-fn set(random: &mut Random) -> Vec<u8> {
+pub fn set(random: &mut Random) -> Vec<u8> {
     let length = random.pick(&[0, 1, 2, 4, 9, 16, 32]);
     let mut set = vec![0; length];
     match random.below(8) {

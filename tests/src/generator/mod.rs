@@ -3,8 +3,10 @@
 mod damage;
 mod messages;
 mod random;
+mod records;
 mod refusals;
 mod scenes;
+mod settings;
 mod typing;
 
 use crate::line::Line;
@@ -14,15 +16,11 @@ use random::Random;
 use std::fmt::Write as _;
 
 pub use damage::damaged;
+pub use settings::settings_script;
 
 /// Makes a script with at least this many calls.
 pub fn script(seed: u64, calls: usize) -> String {
-    let mut generator = Generator {
-        random: Random::new(seed),
-        text: String::new(),
-        calls: 0,
-        runner: Runner::default(),
-    };
+    let mut generator = Generator::new(seed);
     generator.beginning();
     while generator.calls < calls {
         generator.scene();
@@ -40,6 +38,11 @@ struct Generator {
 }
 
 impl Generator {
+    fn new(seed: u64) -> Self {
+        let random = Random::new(seed);
+        Generator { random, text: String::new(), calls: 0, runner: Runner::default() }
+    }
+
     /// Writes an order down and lets the line follow it.
     fn order(&mut self, order: Order) {
         let counts = !matches!(order, Order::Lengths(_) | Order::Fresh | Order::Dropped);
@@ -74,7 +77,7 @@ impl Generator {
 
     /// One scene; a script is a row of them.
     fn scene(&mut self) {
-        match self.random.below(100) {
+        match self.random.below(110) {
             0..=25 => self.read(),
             26 => self.many_lines(),
             27..=29 => self.idling(),
@@ -99,7 +102,8 @@ impl Generator {
             95 => self.order(Order::Dropped),
             96 => self.hidden_lf(),
             97 => self.narrow_tab(),
-            _ => self.fresh(),
+            98 | 99 => self.fresh(),
+            _ => self.settings(),
         }
     }
 
@@ -109,6 +113,9 @@ impl Generator {
                 let code = typing::key(&mut self.random);
                 self.key(code);
             }
+        }
+        if self.random.chance(30) {
+            self.early_loads();
         }
         match self.random.below(20) {
             0 => self.sound_message(),
@@ -127,17 +134,25 @@ impl Generator {
         self.beginning();
     }
 
-    /// Ends the read there is, most of the time, and starts one.
+    /// Ends the read there is, most of the time, and starts one that mostly
+    /// keeps to the line's largest read.
     fn start(&mut self, change: impl FnOnce(&mut Random, &mut StartRead)) {
+        self.make_way();
+        let mut read = messages::start_read(&mut self.random);
+        change(&mut self.random, &mut read);
+        if self.random.chance(90) {
+            messages::fit(&mut read, self.line().largest_read());
+        }
+        self.host(&Message::StartRead(read));
+    }
+
+    fn make_way(&mut self) {
         if self.line().read_pending() && self.random.chance(90) {
             self.send(&[5, 0]);
         }
         if self.line().waiting() > 12 && self.random.chance(60) {
             self.send(&[6, 0]);
         }
-        let mut read = messages::start_read(&mut self.random);
-        change(&mut self.random, &mut read);
-        self.host(&Message::StartRead(read));
     }
 
     fn write(&mut self) {

@@ -74,8 +74,14 @@ impl Generator {
         let stray = ["", "K", "K 1", "K 123", "k 41", "S ", "M 0", "M 0G", "A 1", "A 65536 256"];
         let more =
             ["A 1 2 3", "A -1 256", "A 100000 1", "Q", " S", "M  0500", "T 1", "R 012", "K  41"];
-        let line =
-            if self.random.chance(50) { self.random.pick(&stray) } else { self.random.pick(&more) };
+        let loads = ["L", "L ", "L -", "L - ", "L  -", "L - - -", "L 0 -", "L 01 0G", "L -- -"];
+        let asks = ["G", "G 1", "G - -", "G 1 -", "G 12 - -", "G x - -", "G 1 - - -", "G1 - -"];
+        let line = match self.random.below(4) {
+            0 => self.random.pick(&stray),
+            1 => self.random.pick(&more),
+            2 => self.random.pick(&loads),
+            _ => self.random.pick(&asks),
+        };
         self.text.push_str(line);
         self.text.push('\n');
     }

@@ -32,6 +32,7 @@ impl Line {
         match (out_of_band, code) {
             (HELLO, _) => {
                 self.seen.met(Rule::KeyHello);
+                self.seen.met_if(self.loaded.attributes, Rule::KeyLoadedHello);
                 self.send(Message::OutOfBand { discard: false, character: code }, out);
             }
             (IMMEDIATE_CLEAR, _) => self.immediate_clear(code, out),
@@ -46,6 +47,7 @@ impl Line {
     }
 
     fn immediate_clear(&mut self, code: u8, out: &mut Answer) {
+        self.seen.met_if(self.loaded.attributes, Rule::KeyLoadedClear);
         self.send(Message::OutOfBand { discard: false, character: code }, out);
         self.clear(false, out);
         if self.read.is_some() {

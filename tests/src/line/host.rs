@@ -1,6 +1,6 @@
 //! A host message arrives: the refusals in their order, then what it does.
 
-use super::{Answer, Line, MESSAGE_AREA};
+use super::{Answer, Line, Loaded, MESSAGE_AREA};
 use crate::coverage::Rule;
 use crate::message::{
     self, Fault, Initiate, Message, StartRead, Value, Wanted, Write, AUTO_PROMPT, INPUT_ESCAPES,
@@ -36,10 +36,20 @@ impl Line {
             Ok(message) => message,
             Err(fault) => return self.refuse(fault.number(), rule_of(fault)),
         };
-        match self.not_carried(&message) {
+        let not_carried = self.not_carried(&message);
+        if self.too_large(&message) {
+            self.seen.met_if(not_carried.is_some(), Rule::LargestReadBeforeNotCarried);
+            return self.refuse(5, Rule::LargestReadPassed);
+        }
+        match not_carried {
             Some(rule) => self.refuse(6, rule),
             None => Ok(message),
         }
+    }
+
+    /// The Start Read test has the line's largest read in the place of 132.
+    fn too_large(&self, message: &Message) -> bool {
+        matches!(message, Message::StartRead(read) if read.max_length > self.largest_read)
     }
 
     fn refuse(&mut self, number: u8, rule: Rule) -> Result<Message, u8> {
@@ -131,6 +141,8 @@ impl Line {
 
     fn initiate(&mut self, out: &mut Answer) {
         self.seen.met(Rule::Initiated);
+        let loaded = self.limited() || self.loaded != Loaded::default();
+        self.seen.met_if(loaded, Rule::InitiatedLoaded);
         self.initiated = true;
         let ours = Initiate {
             version: [1, 0, 0],
@@ -203,6 +215,7 @@ impl Line {
         for value in values {
             let Value::Boolean { selector, on } = *value else {
                 self.seen.met(Rule::SetAttributes);
+                self.loaded.attributes = false;
                 continue;
             };
             let (place, rule) = match selector {

@@ -1,15 +1,17 @@
-//! One line of the console end and its four calls.
+//! One line of the console end and its calls.
 
 mod arrival;
 mod deleting;
 mod host;
+mod loading;
 mod reads;
 mod steps;
 mod tokens;
 
 use crate::coverage::{Coverage, Rule};
-use crate::message::{self, Message};
+use crate::message::{self, Message, BUFFER};
 use crate::screen::{Screen, TOP};
+use loading::Loaded;
 use std::collections::VecDeque;
 
 pub const TYPE_AHEAD: usize = 64;
@@ -105,8 +107,11 @@ pub struct Line {
     quote_pending: bool,
     partial: Vec<u8>,
     held: Option<Token>,
-    /// The last set given with ZZ 1.
+    /// The last set given with ZZ 1 or loaded.
     last_set: Option<[u8; 32]>,
+    /// No Start Read may ask for more.
+    largest_read: u16,
+    loaded: Loaded,
     read: Option<Read>,
     idle: u32,
     dropped: u16,
@@ -130,6 +135,8 @@ impl Default for Line {
             partial: Vec::new(),
             held: None,
             last_set: None,
+            largest_read: BUFFER,
+            loaded: Loaded::default(),
             read: None,
             idle: 0,
             dropped: 0,
@@ -145,6 +152,15 @@ impl Line {
 
     pub fn column(&self) -> u16 {
         self.screen.column
+    }
+
+    pub fn largest_read(&self) -> u16 {
+        self.largest_read
+    }
+
+    /// A load has left less room than a fresh line has.
+    fn limited(&self) -> bool {
+        self.largest_read < BUFFER
     }
 
     pub fn read_pending(&self) -> bool {

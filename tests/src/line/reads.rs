@@ -33,6 +33,8 @@ impl Line {
     pub(super) fn start_read(&mut self, asked: StartRead, out: &mut Answer) {
         let read = self.fixed(&asked);
         let full = read.buffer.len() == read.max_length;
+        let largest = asked.max_length == self.largest_read;
+        self.seen.met_if(largest && self.limited(), Rule::LargestReadMet);
         self.idle = 0;
         if asked.clear {
             self.seen.met(Rule::ReadClears);
@@ -100,6 +102,7 @@ impl Line {
                 let mut set = [0; 32];
                 set[..asked.set.len()].copy_from_slice(&asked.set);
                 self.last_set = Some(set);
+                self.loaded.set = false;
                 self.seen.met(Rule::SetGiven);
                 set
             }
@@ -110,6 +113,7 @@ impl Line {
             _ => {
                 let given = self.last_set.is_some();
                 self.seen.met(if given { Rule::SetLast } else { Rule::SetLastNone });
+                self.seen.met_if(self.loaded.set, Rule::SetLoaded);
                 self.last_set.unwrap_or_else(universal_set)
             }
         }

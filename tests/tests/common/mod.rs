@@ -4,7 +4,7 @@
 
 use second::compare;
 use second::line::{Answer, Areas, Line};
-use second::script::{self, Order, Reply, Runner};
+use second::script::{self, Order, Records, Reply, Runner};
 use std::io::Write;
 
 pub fn bytes(hex: &str) -> Vec<u8> {
@@ -89,6 +89,24 @@ impl Bench {
             panic!("not a copy");
         };
         copy.map(|bytes| hex(&bytes))
+    }
+
+    /// The number of a load.
+    pub fn load(&mut self, own: &[u8], site: &[u8]) -> u8 {
+        let records = Records { own: own.to_vec(), site: site.to_vec() };
+        let Reply::Loaded(number) = self.obey(Order::Load(records)) else {
+            panic!("not a load");
+        };
+        number
+    }
+
+    /// A section of two records.
+    pub fn section(&mut self, number: u8, own: &[u8], site: &[u8]) -> String {
+        let records = Records { own: own.to_vec(), site: site.to_vec() };
+        let Reply::Section(section) = self.obey(Order::Ask(number, records)) else {
+            panic!("not a section");
+        };
+        hex(&section)
     }
 
     pub fn host(&mut self, message: &str) -> (u8, String, String) {

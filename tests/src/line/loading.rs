@@ -1,0 +1,107 @@
+//! Loading: what two settings records hold becomes the line's (M-100).
+
+use super::Line;
+use crate::coverage::{Moment, Rule};
+use crate::message::{INPUT_ESCAPES, NORMAL_ECHO, RAISE_INPUT};
+use crate::settings::{
+    self, Record, Source, ATTRIBUTE, ATTRIBUTES, CHARACTERISTICS, LARGEST_READ, SECTIONS, SET,
+    SWITCH, UNSOUND,
+};
+
+/// Which settings are as a load left them; only what is counted depends on it.
+#[derive(Clone, Copy, Debug, Default, PartialEq, Eq)]
+pub(super) struct Loaded {
+    pub attributes: bool,
+    pub set: bool,
+}
+
+impl Line {
+    /// Loads the line's own record and the site's; answers 0 or 7. No area is
+    /// lent, so none is asked for.
+    pub fn load(&mut self, own: &[u8], site: &[u8]) -> u8 {
+        let number = match (settings::read(own), settings::read(site)) {
+            (Ok(own), Ok(site)) => {
+                self.load_sound(&own, &site);
+                0
+            }
+            (own, site) => {
+                for (source, flaw) in [(Source::Own, own.err()), (Source::Site, site.err())] {
+                    if let Some(flaw) = flaw {
+                        self.seen.flaw(source, flaw);
+                    }
+                }
+                UNSOUND
+            }
+        };
+        self.seen.numbers[usize::from(number)] += 1;
+        number
+    }
+
+    fn load_sound(&mut self, own: &Record, site: &Record) {
+        self.note_load(own, site);
+        self.load_switches(settings::find(CHARACTERISTICS, own, site).0);
+        self.load_attributes(settings::find(ATTRIBUTES, own, site).0);
+        self.load_set(settings::find(SET, own, site).0);
+        if let [largest] = settings::find(LARGEST_READ, own, site).0 {
+            self.largest_read = u16::from(*largest);
+        }
+    }
+
+    fn load_switches(&mut self, section: &[u8]) {
+        for switch in section.chunks_exact(SWITCH) {
+            let place = match u16::from_le_bytes([switch[0], switch[1]]) {
+                RAISE_INPUT => &mut self.raise,
+                NORMAL_ECHO => &mut self.normal_echo,
+                INPUT_ESCAPES => &mut self.escapes,
+                _ => &mut self.auto_prompt,
+            };
+            *place = switch[2] == 1;
+        }
+    }
+
+    /// All 256: a code that is left out becomes 0.
+    fn load_attributes(&mut self, section: &[u8]) {
+        if section.is_empty() {
+            return;
+        }
+        self.attributes = [0; 256];
+        self.loaded.attributes = true;
+        for attribute in section.chunks_exact(ATTRIBUTE) {
+            self.attributes[usize::from(attribute[0])] = attribute[1];
+        }
+    }
+
+    fn load_set(&mut self, section: &[u8]) {
+        if section.is_empty() {
+            return;
+        }
+        let mut set = [0; 32];
+        set[..section.len()].copy_from_slice(section);
+        self.last_set = Some(set);
+        self.loaded.set = true;
+    }
+
+    /// Counts what a sound load finds.
+    fn note_load(&mut self, own: &Record, site: &Record) {
+        let moment = match (self.initiated, self.read.is_some()) {
+            (false, _) => Moment::BeforeInitiate,
+            (true, true) => Moment::MidRead,
+            (true, false) => Moment::NoRead,
+        };
+        let mut sources = Vec::new();
+        for place in 0..SECTIONS {
+            let (section, source) = settings::find(place, own, site);
+            if !section.is_empty() {
+                self.seen.loaded(place, moment, source);
+                sources.push(source);
+            }
+            let both = !own.sections[place].is_empty() && !site.sections[place].is_empty();
+            self.seen.met_if(both, Rule::LoadOwnBeforeSite);
+        }
+        let mixed = sources.contains(&Source::Own) && sources.contains(&Source::Site);
+        self.seen.met_if(mixed, Rule::LoadMixed);
+        self.seen.met_if(sources.is_empty(), Rule::LoadNothing);
+        let largest_stays = settings::find(LARGEST_READ, own, site).0.is_empty();
+        self.seen.met_if(largest_stays && self.limited(), Rule::LoadKeepsLargest);
+    }
+}
