@@ -1,11 +1,10 @@
 // Tokens: where one stands in the grammar of escape sequences.
 ghost use mathlib.Core.Path.{_≡_};
-ghost use Rattle.rules.specs.Choice.{pick, within};
 ghost use Rattle.rules.specs.Token as rules;
 ghost use Rattle.line.specs.TokenChanges.{placeOf};
 use rules::characters;
 
-// The bytes of the grammar by what they do. A final byte straight after ESC, or after ESC and intermediate bytes, may be lower.
+// The bytes of the grammar by what they do. The forms ESC, ESC ; and ESC ? may have a lower final byte.
 const FIRST_INTERMEDIATE: u8 = 32;
 
 const LAST_INTERMEDIATE: u8 = 47;
@@ -48,12 +47,12 @@ fn begun(n: u8) -> u8
     INVALID
 }
 
-// A byte that goes between, or ends it from a lowest final byte on.
-fn ended(again: u8, low: u8, n: u8) -> u8
-    ensures { λ r. ⌜ placeOf r ≡ pick (rules.isIntermediate n) (placeOf again) (pick (within low rules.lastFinal n) rules.valid rules.invalid) ⌝ }
+// An intermediate byte leads to a place, a final byte from the lowest on ends the token.
+fn ended(between: u8, low: u8, n: u8) -> u8
+    ensures { λ r. ⌜ placeOf r ≡ rules.ended (placeOf between) low n ⌝ }
 {
     if (FIRST_INTERMEDIATE <= n) & (n <= LAST_INTERMEDIATE) {
-        return again;
+        return between;
     }
     if (low <= n) & (n <= LAST_FINAL) {
         return VALID;
@@ -83,11 +82,18 @@ fn next_place(place: u8, n: u8) -> u8
     INVALID
 }
 
+// Straight after ESC four bytes begin forms of their own.
 fn after_escape(n: u8) -> u8
     ensures { λ r. ⌜ placeOf r ≡ rules.next rules.escape n ⌝ }
 {
     if n == characters::BRACKET {
         return PARAMETERS;
+    }
+    if (n == characters::SEMICOLON) | (n == characters::QUESTION) {
+        return MIDDLE;
+    }
+    if n == characters::LETTER_O {
+        return INTERMEDIATES;
     }
     ended(MIDDLE, FIRST_LOW_FINAL, n)
 }

@@ -1,7 +1,7 @@
 -- Page 01, "Bench cases": the starred ones as one table, and what it is for a case to hold.
-use Prim.Native.Nat.{ℕ, suc, _-_}
+use Prim.Native.Nat.{ℕ, suc, _+_, _-_}
 use mathlib.Core.Bool.{Bool, true, false, _&&_}
-use mathlib.Core.List.{List, [], _∷_, _++_}
+use mathlib.Core.List.{List, [], _∷_, _++_, map}
 use lib.Dec.{eqb}
 use lib.ListN.{length, take, replicate}
 use Rattle.rules.specs.Choice.{pick, joined, same, sameAll}
@@ -121,6 +121,19 @@ startedA = told startA accepted (0x3F ∷ 0x20 ∷ []) []
 abbrev pub recognising : Exchange
 recognising = told (0x0B ∷ 0x00 ∷ 0x06 ∷ 0x02 ∷ 0x01 ∷ []) accepted [] []
 
+-- Check Input finds so many keys that wait and bytes of a token
+abbrev pub waiting : ℕ → Exchange
+waiting n = told (0x0C ∷ 0x00 ∷ []) accepted [] (0x04 ∷ 0x00 ∷ 0x0D ∷ 0x00 ∷ n ∷ 0x00 ∷ [])
+
+-- keys of a token, of which the last completes case A's read: Read Data, eight bytes and the token, has this code; then nothing waits
+abbrev pub tokenTyped : List ℕ → ℕ → ℕ → Case
+tokenTyped keys last code =
+    runs
+    (initiated ∷ recognising ∷ startedA ∷
+    (joined (map (λ k. typed k [] []) keys) ++
+    typed last [] ((8 + length (keys ++ (last ∷ []))) ∷ 0x00 ∷ 0x03 ∷ code ∷ 0x02 ∷ 0x00 ∷ 0x00 ∷ 0x02 ∷ 0x00 ∷ 0x00 ∷ (keys ++ (last ∷ []))) ++
+    (waiting 0 ∷ [])))
+
 -- a load, which is lent no areas
 abbrev pub loading : List ℕ → List ℕ → ℕ → Exchange
 loading own site number = asked 0 0 (load own site) number [] [] 0
@@ -167,7 +180,7 @@ inOrder h =
     h .underflow ∷ h .clearsTypeAhead ∷ h .formats ∷ h .vertical ∷ h .continues ∷ h .raises ∷ h .disables ∷ h .silent ∷ h .terminatorEcho ∷ h .timed ∷
     h .setChoice ∷ h .escapes ∷ h .maxLength ∷ h .endOfData ∷ h .timeout ∷ h .endOfPrompt ∷ h .startOfDisplay ∷ h .lowWater ∷ []
 
--- The starred cases in order; D and H have two rows each.
+-- The starred cases in order; D and H have two rows each. Request M-101 adds two.
 unfoldable pub starred : List Case
 starred =
     -- A: UU 1, T 1, ZZ 2, 80 characters, prompt "? "
@@ -226,14 +239,8 @@ starred =
     (typed 0x0D (0x5E ∷ 0x4D ∷ []) [] ++
     typed 0x0D (0x0D ∷ 0x0A ∷ []) (0x0A ∷ 0x00 ∷ 0x03 ∷ 0x00 ∷ 0x02 ∷ 0x00 ∷ 0x01 ∷ 0x00 ∷ 0x01 ∷ 0x00 ∷ 0x0D ∷ 0x0D ∷ []))) ∷
     -- H: recognition on; a valid and an invalid token
-    runs
-    (initiated ∷ recognising ∷ startedA ∷
-    (typed ESC [] [] ++ typed BRACKET [] [] ++
-    typed 65 [] (0x0B ∷ 0x00 ∷ 0x03 ∷ 0x01 ∷ 0x02 ∷ 0x00 ∷ 0x00 ∷ 0x02 ∷ 0x00 ∷ 0x00 ∷ 0x1B ∷ 0x5B ∷ 0x41 ∷ []))) ∷
-    runs
-    (initiated ∷ recognising ∷ startedA ∷
-    (typed ESC [] [] ++ typed BRACKET [] [] ++
-    typed 7 [] (0x0B ∷ 0x00 ∷ 0x03 ∷ 0x02 ∷ 0x02 ∷ 0x00 ∷ 0x00 ∷ 0x02 ∷ 0x00 ∷ 0x00 ∷ 0x1B ∷ 0x5B ∷ 0x07 ∷ []))) ∷
+    tokenTyped (27 ∷ 91 ∷ []) 65 0x01 ∷
+    tokenTyped (27 ∷ 91 ∷ []) 7 0x02 ∷
     -- I: room for 2, token of 3
     runs
     (initiated ∷ recognising ∷ told (0x02 ∷ 0x00 ∷ 0x80 ∷ 0x00 ∷ 0x02 ∷ 0x00 ∷ 0x00 ∷ 0x00 ∷ 0x00 ∷ 0x00 ∷ 0x00 ∷ 0x00 ∷ 0x00 ∷ 0x00 ∷ 0x00 ∷ 0x00 ∷ 0x00 ∷ []) accepted [] [] ∷
@@ -242,9 +249,12 @@ starred =
     runs
     (initiated ∷
     (replicate typeAheadSize (stored 0x30) ++
-    asked terminalArea messageArea (key 0x30) accepted (0x07 ∷ []) [] 1 ∷ [])) ∷ []
+    asked terminalArea messageArea (key 0x30) accepted (0x07 ∷ []) [] 1 ∷ [])) ∷
+    -- M-101: PF1 leaves no letter behind, nor does 27 63 65
+    tokenTyped (27 ∷ 79 ∷ []) 80 0x01 ∷
+    tokenTyped (27 ∷ 63 ∷ []) 65 0x01 ∷ []
 
--- Rows of our own, for mistakes that the starred cases do not show: those that page 01 warns of, those that settings invite, and some that edits of the definitions make.
+-- Rows of our own, for mistakes that the starred cases do not show: those that page 01 warns of, those that settings and tokens invite, and some that edits of the definitions make.
 unfoldable pub warned : List Case
 warned =
     -- waiting for one more key after the buffer is full
@@ -284,8 +294,24 @@ warned =
     (initiated ∷ told (0x0B ∷ 0x00 ∷ 0x02 ∷ 0x02 ∷ 0x41 ∷ 0x0C ∷ 0x0F ∷ 0x05 ∷ 0x02 ∷ 0x00 ∷ []) accepted [] [] ∷
     told (0x0A ∷ 0x00 ∷ 0x02 ∷ 0x02 ∷ 0x41 ∷ 0x04 ∷ 0x02 ∷ 0x05 ∷ 0x02 ∷ 0x06 ∷ 0x02 ∷ 0x09 ∷ 0x02 ∷ []) accepted []
     (0x13 ∷ 0x00 ∷ 0x0B ∷ 0x00 ∷ 0x02 ∷ 0x02 ∷ 0x41 ∷ 0x7F ∷ 0x0C ∷ 0x04 ∷ 0x02 ∷ 0x00 ∷ 0x05 ∷ 0x02 ∷ 0x00 ∷ 0x06 ∷ 0x02 ∷ 0x00 ∷ 0x09 ∷ 0x02 ∷ 0x00 ∷ []) ∷ []) ∷
+    -- 59, 63 and 79 begin a form of their own straight after 27 and nowhere else
+    tokenTyped (27 ∷ 32 ∷ []) 59 0x01 ∷
+    tokenTyped (27 ∷ 32 ∷ []) 63 0x01 ∷
+    tokenTyped (27 ∷ 32 ∷ []) 79 0x01 ∷
+    tokenTyped (27 ∷ 59 ∷ []) 59 0x01 ∷
+    tokenTyped (27 ∷ 63 ∷ []) 79 0x01 ∷
+    tokenTyped (155 ∷ []) 79 0x01 ∷
+    -- the final byte is one of 48 to 126 behind 27 59 and 27 63, and of 64 to 126 behind 27 79
+    tokenTyped (27 ∷ 59 ∷ []) 48 0x01 ∷
+    tokenTyped (27 ∷ 59 ∷ []) 91 0x01 ∷
+    tokenTyped (27 ∷ 63 ∷ []) 126 0x01 ∷
+    tokenTyped (27 ∷ 63 ∷ []) 127 0x02 ∷
+    tokenTyped (27 ∷ 79 ∷ []) 48 0x02 ∷
+    tokenTyped (27 ∷ 79 ∷ []) 63 0x02 ∷
+    tokenTyped (27 ∷ 79 ∷ []) 64 0x01 ∷
+    tokenTyped (27 ∷ 79 ∷ []) 91 0x01 ∷
     -- Check Input counts the keys that wait and the bytes of a token
-    runs (initiated ∷ recognising ∷ startedA ∷ (typed ESC [] [] ++ (stored 0x31 ∷ stored 0x32 ∷ told (0x0C ∷ 0x00 ∷ []) accepted [] (0x04 ∷ 0x00 ∷ 0x0D ∷ 0x00 ∷ 0x03 ∷ 0x00 ∷ []) ∷ []))) ∷
+    runs (initiated ∷ recognising ∷ startedA ∷ (typed ESC [] [] ++ (stored 0x31 ∷ stored 0x32 ∷ waiting 3 ∷ []))) ∷
     -- a termination set of 33 bytes
     runs (initiated ∷ told (0x02 ∷ 0x00 ∷ 0x50 ∷ 0x00 ∷ 0x50 ∷ 0x00 ∷ 0x00 ∷ 0x00 ∷ 0x00 ∷ 0x00 ∷ 0x00 ∷ 0x00 ∷ 0x00 ∷ 0x00 ∷ 0x00 ∷ 0x00 ∷ 0x21 ∷ replicate 33 0) unsound [] [] ∷ []) ∷
     -- fields that the line ignores are kept, and unused bits are written 0

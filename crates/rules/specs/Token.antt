@@ -1,11 +1,19 @@
--- Page 01, "Tokens": the grammar of an escape sequence, over the codes of its bytes (003 has the forms).
+-- Page 01, "Tokens", with request M-101: the grammar of an escape sequence, over the codes of its bytes.
+-- Its forms (003), and the places that each goes through; .. is any number of them, and the last form has none of 91, 79, 59 and 63 straight after 27:
+--   155 48-63.. 32-47.. 64-126        parameters, intermediates
+--   27 91 48-63.. 32-47.. 64-126      escape, parameters, intermediates
+--   27 79 32-47.. 64-126              escape, intermediates
+--   27 59 32-47.. 48-126              escape, middle
+--   27 63 32-47.. 48-126              escape, middle
+--   27 32-47.. 48-126                 escape, middle
 use Prim.Native.Nat.{ℕ}
-use mathlib.Core.Bool.{Bool, true, false, not, _&&_}
+use mathlib.Core.Bool.{Bool, true, false, not, _&&_, _||_}
 use mathlib.Core.List.{List, [], _∷_}
 use lib.Dec.{leb, eqb}
 use lib.ListN.{length}
 use Rattle.rules.specs.Choice.{pick, within, isEmpty}
 use Rattle.rules.specs.Numbers.{tokenSize}
+use Rattle.rules.specs.Screen.{QUESTION}
 
 abbrev pub ESC : ℕ
 ESC = 27
@@ -13,11 +21,17 @@ ESC = 27
 abbrev pub CSI : ℕ
 CSI = 155
 
--- "["
+-- with "?", the bytes that begin a form of their own straight after 27: ";", "O" and "["
+abbrev pub SEMICOLON : ℕ
+SEMICOLON = 59
+
+abbrev pub LETTER_O : ℕ
+LETTER_O = 79
+
 abbrev pub BRACKET : ℕ
 BRACKET = 91
 
--- the bytes of a sequence by what they do in it; a final byte straight after 27, or after 27 and intermediate bytes, may be lower
+-- the bytes of a sequence by what they do in it; the forms 27, 27 59 and 27 63 may have a lower final byte
 abbrev pub firstIntermediate : ℕ
 firstIntermediate = 32
 
@@ -46,35 +60,37 @@ firstLowFinal = 48
 abbrev pub lastFinal : ℕ
 lastFinal = 126
 
-abbrev pub isFinal : ℕ → Bool
-isFinal n = within firstFinal lastFinal n
-
-abbrev pub isLowFinal : ℕ → Bool
-isLowFinal n = within firstLowFinal lastFinal n
-
 -- how far the bytes go
 pub data Place : Type 0 where
   -- no byte
   empty : Place
   -- straight after 27
   escape : Place
-  -- 27, then 32-47
+  -- 32-47 may follow, or a final byte from 48 on
   middle : Place
-  -- 27 91 or 155, then 48-63
+  -- 48-63 may follow, or 32-47, or a final byte from 64 on
   parameters : Place
-  -- those, then 32-47
+  -- 32-47 may follow, or a final byte from 64 on
   intermediates : Place
   -- a final byte ended it
   valid : Place
   -- a byte outside the grammar, or too many
   invalid : Place
 
+-- an intermediate byte leads to a place, a final byte from the lowest on ends the token, any other makes it invalid
+abbrev pub ended : Place → ℕ → ℕ → Place
+ended between low n = pick (isIntermediate n) between (pick (within low lastFinal n) valid invalid)
+
 unfoldable pub next : Place → ℕ → Place
 next empty n = pick (eqb n ESC) escape (pick (eqb n CSI) parameters invalid)
-next escape n = pick (eqb n BRACKET) parameters (pick (isIntermediate n) middle (pick (isLowFinal n) valid invalid))
-next middle n = pick (isIntermediate n) middle (pick (isLowFinal n) valid invalid)
-next parameters n = pick (isParameter n) parameters (pick (isIntermediate n) intermediates (pick (isFinal n) valid invalid))
-next intermediates n = pick (isIntermediate n) intermediates (pick (isFinal n) valid invalid)
+next escape n =
+    pick (eqb n BRACKET) parameters
+    (pick (eqb n SEMICOLON || eqb n QUESTION) middle
+    (pick (eqb n LETTER_O) intermediates
+    (ended middle firstLowFinal n)))
+next middle n = ended middle firstLowFinal n
+next parameters n = pick (isParameter n) parameters (ended intermediates firstFinal n)
+next intermediates n = ended intermediates firstFinal n
 next valid n = invalid
 next invalid n = invalid
 

@@ -19,7 +19,11 @@ pub const LAST_CONTROL: u8 = 31;
 
 pub const SP: u8 = 32;
 
+pub const SEMICOLON: u8 = b';';
+
 pub const QUESTION: u8 = b'?';
+
+pub const LETTER_O: u8 = b'O';
 
 pub const BRACKET: u8 = b'[';
 
