@@ -1,8 +1,11 @@
 //! What occurred while scripts ran: how often each completion code, refusal
-//! number, message type and rule of page 01 and of M-100 was met.
+//! number, message type and rule of page 01, M-100 and M-101 was met.
+
+pub mod tokens;
 
 use crate::settings::{self, Flaw, Source, FLAWS, SECTIONS};
 use std::fmt;
+use tokens::Tokens;
 
 macro_rules! rules {
     ($($name:ident),* $(,)?) => {
@@ -93,6 +96,7 @@ pub struct Coverage {
     flaws: [[u64; FLAWS.len()]; 2],
     /// How often each section number was asked for.
     pub asked: [u64; DIGITS],
+    pub tokens: Tokens,
 }
 
 impl Default for Coverage {
@@ -108,6 +112,7 @@ impl Default for Coverage {
             loaded: Default::default(),
             flaws: [[0; FLAWS.len()]; 2],
             asked: [0; DIGITS],
+            tokens: Tokens::default(),
         }
     }
 }
@@ -173,6 +178,7 @@ impl Coverage {
         for (mine, more) in pairs.chain(self.rules.iter_mut().zip(&other.rules)) {
             *mine += more;
         }
+        self.tokens.add(&other.tokens);
     }
 
     /// Calls on a line, messages read and sections asked for without one.
@@ -180,7 +186,8 @@ impl Coverage {
         self.numbers.iter().chain(&self.read_numbers).chain(&self.asked).sum()
     }
 
-    /// Each thing that can be reached, with its count.
+    /// Each thing that can be reached, with its count; tokens have a table of
+    /// their own.
     pub fn table(&self) -> Vec<(String, u64)> {
         let mut table = Vec::new();
         table.extend(CODES.map(|code| (format!("completion code {code}"), self.codes[code])));
@@ -210,14 +217,18 @@ impl Coverage {
 
     /// The names of things that can be reached and were not.
     pub fn missing(&self) -> Vec<String> {
-        let empty = self.table().into_iter().filter(|row| row.1 == 0);
-        empty.map(|row| row.0).collect()
+        unmet(self.table())
     }
+}
+
+fn unmet(table: Vec<(String, u64)>) -> Vec<String> {
+    table.into_iter().filter(|row| row.1 == 0).map(|row| row.0).collect()
 }
 
 impl fmt::Display for Coverage {
     fn fmt(&self, to: &mut fmt::Formatter) -> fmt::Result {
         writeln!(to, "{:30} {}", "calls", self.calls())?;
-        self.table().iter().try_for_each(|(name, count)| writeln!(to, "{name:30} {count}"))
+        let table = self.table().into_iter().chain(self.tokens.table());
+        table.into_iter().try_for_each(|(name, count)| writeln!(to, "{name:30} {count}"))
     }
 }

@@ -1,6 +1,6 @@
 //! A second console end of a command terminal line, written from page 01 and
-//! request M-100 alone so that another program can be compared with it byte for
-//! byte.
+//! requests M-100 and M-101 alone so that another program can be compared with
+//! it byte for byte.
 
 pub mod compare;
 pub mod computed;

@@ -1,4 +1,4 @@
-//! Cases A to K of page 01, to the byte.
+//! Cases A to K of page 01 and the two of M-101, to the byte.
 
 mod common;
 use common::*;
@@ -107,6 +107,28 @@ fn case_k_a_word_and_a_small_area() {
     bench.areas.terminal = 4095;
     assert_eq!(bench.key(b'a').0, 1);
     bench.refused(1, &[12, 0]);
+}
+
+/// The three keys are one valid token: all are returned, and nothing waits for
+/// the next read.
+fn returned_whole(codes: [u8; 3]) {
+    let mut bench = Bench::initiated();
+    start(ZZ2 | EE2, b"", b"").on(&mut bench);
+    assert_eq!(bench.typed(&codes), pair("", &format!("03 01 00 00 00 00 00 00 {}", hex(&codes))));
+    assert_eq!(bench.host("0C 00"), done("", "0D 00 00 00"));
+    start(ZZ2 | EE2, b"", b"").on(&mut bench);
+    assert_eq!(bench.step(), done("", ""));
+    assert_eq!(bench.host("05 00"), done("", "03 06 00 00 00 00 00 00"));
+}
+
+#[test]
+fn case_pf1_leaves_no_letter_behind() {
+    returned_whole([27, 79, 80]);
+}
+
+#[test]
+fn case_27_63_65() {
+    returned_whole([27, 63, 65]);
 }
 
 #[test]

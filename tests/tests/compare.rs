@@ -49,6 +49,17 @@ fn generated_scripts_are_answered_alike() {
 }
 
 #[test]
+fn tokens_are_answered_alike() {
+    let calls = wanted("CALLS", CALLS) / 10;
+    let seen = compared(calls.div_ceil(SCRIPT), |seed| {
+        generator::token_script(seed, SCRIPT as usize).into_bytes()
+    });
+    println!("{seen}");
+    assert!(seen.calls() >= calls);
+    assert_eq!(seen.tokens.missing(), Vec::<String>::new());
+}
+
+#[test]
 fn records_are_answered_alike() {
     let calls = wanted("CALLS", CALLS) / 10;
     let seen = compared(calls.div_ceil(SCRIPT), |seed| {

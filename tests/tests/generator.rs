@@ -3,18 +3,29 @@
 use second::coverage::Coverage;
 use second::{generator, script};
 
-#[test]
-fn each_thing_that_can_be_reached_occurs() {
+/// What occurs in so many scripts of ten thousand calls.
+fn seen(scripts: u64, script: impl Fn(u64, usize) -> String) -> Coverage {
     let mut all = Coverage::default();
-    for seed in 1..=40 {
-        let text = generator::script(seed, 10_000);
-        let (answers, seen) = script::run(text.as_bytes());
+    for seed in 1..=scripts {
+        let (answers, seen) = script::run(script(seed, 10_000).as_bytes());
         assert!(!answers.is_empty());
         all.add(&seen);
     }
     println!("{all}");
+    all
+}
+
+#[test]
+fn each_thing_that_can_be_reached_occurs() {
+    let all = seen(40, generator::script);
     assert!(all.calls() >= 300_000);
     assert_eq!(all.missing(), Vec::<String>::new());
+}
+
+#[test]
+fn each_thing_that_can_happen_to_a_token_occurs() {
+    let all = seen(100, generator::token_script);
+    assert_eq!(all.tokens.missing(), Vec::<String>::new());
 }
 
 #[test]

@@ -7,6 +7,7 @@ mod records;
 mod refusals;
 mod scenes;
 mod settings;
+mod tokens;
 mod typing;
 
 use crate::line::Line;
@@ -17,6 +18,7 @@ use std::fmt::Write as _;
 
 pub use damage::damaged;
 pub use settings::settings_script;
+pub use tokens::token_script;
 
 /// Makes a script with at least this many calls.
 pub fn script(seed: u64, calls: usize) -> String {

@@ -1,4 +1,4 @@
-//! Scenes with a read in them: typing, editing, tokens, out-of-band, ticks.
+//! Scenes with a read in them: typing, editing, out-of-band, ticks.
 
 use super::{typing, Generator};
 use crate::message::{Message, Value, Write};
@@ -58,36 +58,6 @@ impl Generator {
         while self.line().read_pending() && self.line().waiting() > 0 && self.random.chance(97) {
             self.step();
         }
-    }
-
-    /// Reads with recognition on and room that is often too small.
-    pub(super) fn tokens(&mut self) {
-        self.start(|random, read| {
-            read.escapes = random.pick(&[2, 2, 2, 0]);
-            read.max_length = (read.end_of_data + random.pick(&[1, 2, 3, 5, 20])).min(132);
-            read.timed |= random.chance(50);
-        });
-        for _ in 0..self.random.between(1, 3) {
-            for code in typing::escape_sequence(&mut self.random) {
-                if self.random.chance(4) {
-                    self.key(22);
-                }
-                self.key(code);
-                if self.random.chance(70) {
-                    self.step();
-                }
-            }
-            let steps = self.random.below(6);
-            self.steps(steps);
-            match self.random.below(5) {
-                0 => self.small_requests(),
-                1 => self.ticks(),
-                2 => self.start(|random, read| read.escapes = random.pick(&[1, 2])),
-                _ => {}
-            }
-        }
-        let steps = self.random.below(20);
-        self.steps(steps);
     }
 
     /// A code becomes out-of-band for a while, in a read and outside one.

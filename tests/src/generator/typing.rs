@@ -55,36 +55,3 @@ pub fn written(random: &mut Random) -> u8 {
         _ => random.byte(),
     }
 }
-
-/// The keys of an escape sequence: whole, cut or spoiled, short or long.
-pub fn escape_sequence(random: &mut Random) -> Vec<u8> {
-    let mut keys = match random.below(4) {
-        0 => vec![155],
-        1 => vec![27],
-        _ => vec![27, 91],
-    };
-    let control = keys != [27];
-    let long = random.chance(25);
-    let most = if long { 16 } else { 3 };
-    if control {
-        for _ in 0..random.below(most + 1) {
-            keys.push(random.between(48, 63) as u8);
-        }
-    }
-    for _ in 0..random.below(most) {
-        keys.push(random.between(32, 47) as u8);
-    }
-    if long && random.chance(50) {
-        // The edge: 14 to 16 bytes with the final.
-        let open = random.between(13, 15);
-        keys.resize(open.max(2), b'!');
-    }
-    match random.below(8) {
-        0 => {}
-        1 => keys.push(random.byte()),
-        2 => keys.push(random.pick(&[7, 27, 47, 48, 63, 64, 126, 127, 155, 31, 91])),
-        _ if control => keys.push(random.between(64, 126) as u8),
-        _ => keys.push(random.between(48, 126) as u8),
-    }
-    keys
-}

@@ -6,7 +6,7 @@ mod host;
 mod loading;
 mod reads;
 mod steps;
-mod tokens;
+pub mod tokens;
 
 use crate::coverage::{Coverage, Rule};
 use crate::message::{self, Message, BUFFER};

@@ -1,6 +1,7 @@
 //! A read starts, and a read completes.
 
 use super::{Answer, Line, Read};
+use crate::coverage::tokens::Loss;
 use crate::coverage::Rule;
 use crate::message::{Message, ReadData, StartRead};
 use crate::screen::{CR, LF};
@@ -125,7 +126,7 @@ impl Line {
         let Some(read) = self.read.take() else { return };
         self.seen.codes[usize::from(code)] += 1;
         self.seen.met_if(!self.partial.is_empty(), Rule::PartialDropped);
-        self.partial.clear();
+        self.lose_partial(Loss::Dropped);
         let data = read.buffer[read.end_of_prompt..].to_vec();
         let data = ReadData {
             code,

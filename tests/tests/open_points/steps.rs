@@ -37,6 +37,44 @@ fn point_28_shapes_of_tokens() {
 }
 
 #[test]
+fn point_28_59_63_and_79_straight_after_27() {
+    for open in [[27, 59], [27, 63], [27, 79]] {
+        assert_eq!(token(&open), "");
+    }
+    for valid in [[27, 79, 80], [27, 63, 65], [27, 59, 59], [27, 63, 79], [27, 59, 48]] {
+        assert_eq!(token(&valid), whole("01", &valid));
+    }
+    for valid in [[27, 79, 91], [27, 59, 91], [27, 79, 64], [27, 63, 126]] {
+        assert_eq!(token(&valid), whole("01", &valid));
+    }
+    for invalid in [[27, 79, 48], [27, 79, 63], [27, 79, 127], [27, 59, 127], [27, 63, 31]] {
+        assert_eq!(token(&invalid), whole("02", &invalid));
+    }
+    assert_eq!(token(&[27, 59, 32, 47, 48]), whole("01", &[27, 59, 32, 47, 48]));
+    assert_eq!(token(&[27, 79, 32, 47, 48]), whole("02", &[27, 79, 32, 47, 48]));
+}
+
+#[test]
+fn point_28_59_63_and_79_elsewhere() {
+    assert_eq!(token(&[27, 32, 79]), whole("01", &[27, 32, 79]));
+    assert_eq!(token(&[27, 32, 59]), whole("01", &[27, 32, 59]));
+    assert_eq!(token(&[155, 79]), whole("01", &[155, 79]));
+    assert_eq!(token(&[155, 59, 63, 79]), whole("01", &[155, 59, 63, 79]));
+    assert_eq!(token(&[27, 91, 79]), whole("01", &[27, 91, 79]));
+}
+
+#[test]
+fn point_28_the_sixteenth_byte_of_each_form() {
+    for introducer in [&[27][..], &[27, 59], &[27, 63], &[27, 79], &[27, 91], &[155]] {
+        let mut sixteen = [32; 16];
+        sixteen[..introducer.len()].copy_from_slice(introducer);
+        assert_eq!(token(&sixteen), whole("02", &sixteen));
+        sixteen[15] = 64;
+        assert_eq!(token(&sixteen), whole("01", &sixteen));
+    }
+}
+
+#[test]
 fn point_29_a_token_longer_than_the_buffer() {
     let mut bench = Bench::initiated();
     start(ZZ2 | EE2, b"", b"").max(2).on(&mut bench);
