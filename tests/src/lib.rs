@@ -1,6 +1,6 @@
 //! A second console end of a command terminal line, written from page 01 and
-//! requests M-100 and M-101 alone so that another program can be compared with
-//! it byte for byte.
+//! the requests alone so that another program can be compared with it byte for
+//! byte.
 
 pub mod compare;
 pub mod computed;

@@ -10,8 +10,9 @@ const SEEDS: std::ops::Range<u64> = 9000..9004;
 const CALLS: usize = 400;
 
 fn generated() -> impl Iterator<Item = Script> {
-    SEEDS.map(|seed| {
-        let orders = generator::script(seed, CALLS).into_bytes();
+    let scripts = SEEDS.map(|seed| generator::script(seed, CALLS));
+    scripts.chain(SEEDS.map(|seed| generator::token_script(seed, CALLS))).map(|script| {
+        let orders = script.into_bytes();
         let answers = script::run(&orders).0;
         Script { orders, answers }
     })

@@ -47,7 +47,7 @@ fn begun(n: u8) -> u8
     INVALID
 }
 
-// An intermediate byte leads to a place, a final byte from the lowest on ends the token.
+// An intermediate byte leads to the place between, a final byte from the lowest on ends the token, any other makes it invalid.
 fn ended(between: u8, low: u8, n: u8) -> u8
     ensures { λ r. ⌜ placeOf r ≡ rules.ended (placeOf between) low n ⌝ }
 {
@@ -86,14 +86,17 @@ fn next_place(place: u8, n: u8) -> u8
 fn after_escape(n: u8) -> u8
     ensures { λ r. ⌜ placeOf r ≡ rules.next rules.escape n ⌝ }
 {
-    if n == characters::BRACKET {
-        return PARAMETERS;
+    if n == characters::SEMICOLON {
+        return MIDDLE;
     }
-    if (n == characters::SEMICOLON) | (n == characters::QUESTION) {
+    if n == characters::QUESTION {
         return MIDDLE;
     }
     if n == characters::LETTER_O {
         return INTERMEDIATES;
+    }
+    if n == characters::BRACKET {
+        return PARAMETERS;
     }
     ended(MIDDLE, FIRST_LOW_FINAL, n)
 }

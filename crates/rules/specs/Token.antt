@@ -1,13 +1,13 @@
 -- Page 01, "Tokens", with request M-101: the grammar of an escape sequence, over the codes of its bytes.
--- Its forms (003), and the places that each goes through; .. is any number of them, and the last form has none of 91, 79, 59 and 63 straight after 27:
---   155 48-63.. 32-47.. 64-126        parameters, intermediates
---   27 91 48-63.. 32-47.. 64-126      escape, parameters, intermediates
---   27 79 32-47.. 64-126              escape, intermediates
+-- Its forms (003), and the places that each can go through. Of bytes with .. behind them there are any number, or none; straight after 27 the last form has none of 59, 63, 79 and 91:
 --   27 59 32-47.. 48-126              escape, middle
 --   27 63 32-47.. 48-126              escape, middle
+--   27 79 32-47.. 64-126              escape, intermediates
+--   27 91 48-63.. 32-47.. 64-126      escape, parameters, intermediates
+--   155 48-63.. 32-47.. 64-126        parameters, intermediates
 --   27 32-47.. 48-126                 escape, middle
 use Prim.Native.Nat.{ℕ}
-use mathlib.Core.Bool.{Bool, true, false, not, _&&_, _||_}
+use mathlib.Core.Bool.{Bool, true, false, not, _&&_}
 use mathlib.Core.List.{List, [], _∷_}
 use lib.Dec.{leb, eqb}
 use lib.ListN.{length}
@@ -21,7 +21,7 @@ ESC = 27
 abbrev pub CSI : ℕ
 CSI = 155
 
--- with "?", the bytes that begin a form of their own straight after 27: ";", "O" and "["
+-- ";", "O" and "[" begin forms of their own straight after 27, and so does "?"
 abbrev pub SEMICOLON : ℕ
 SEMICOLON = 59
 
@@ -64,7 +64,7 @@ lastFinal = 126
 pub data Place : Type 0 where
   -- no byte
   empty : Place
-  -- straight after 27
+  -- straight after 27: a byte may follow that begins a form of its own, or what may follow in the middle
   escape : Place
   -- 32-47 may follow, or a final byte from 48 on
   middle : Place
@@ -77,17 +77,18 @@ pub data Place : Type 0 where
   -- a byte outside the grammar, or too many
   invalid : Place
 
--- an intermediate byte leads to a place, a final byte from the lowest on ends the token, any other makes it invalid
+-- 32-47 leads to the place between, a final byte from the lowest on ends the token, any other byte makes it invalid
 abbrev pub ended : Place → ℕ → ℕ → Place
 ended between low n = pick (isIntermediate n) between (pick (within low lastFinal n) valid invalid)
 
 unfoldable pub next : Place → ℕ → Place
 next empty n = pick (eqb n ESC) escape (pick (eqb n CSI) parameters invalid)
 next escape n =
-    pick (eqb n BRACKET) parameters
-    (pick (eqb n SEMICOLON || eqb n QUESTION) middle
+    pick (eqb n SEMICOLON) middle
+    (pick (eqb n QUESTION) middle
     (pick (eqb n LETTER_O) intermediates
-    (ended middle firstLowFinal n)))
+    (pick (eqb n BRACKET) parameters
+    (ended middle firstLowFinal n))))
 next middle n = ended middle firstLowFinal n
 next parameters n = pick (isParameter n) parameters (ended intermediates firstFinal n)
 next intermediates n = ended intermediates firstFinal n

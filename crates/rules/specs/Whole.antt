@@ -110,7 +110,7 @@ unfolding Calls.areaAfter Calls.mapText Calls.sentBytes Calls.isServers Calls.is
 openCalls = tt
 
 unfoldable pub openBench : Unit {0}
-unfolding Bench.readsAs Bench.endsIn Bench.copyOf Bench.answersAs Bench.runsAs Bench.holds Bench.failures Bench.starred Bench.warned
+unfolding Bench.readsAs Bench.endsIn Bench.copyOf Bench.answersAs Bench.runsAs Bench.holds Bench.failures Bench.typedUnseen Bench.starred Bench.warned
 openBench = tt
 
 unfoldable pub openTwoRuns : Unit {0}

@@ -11,7 +11,10 @@ use std::ops::RangeInclusive;
 /// final, so that what follows the introducer is seen often.
 const SHORT: usize = 40;
 
-/// A script of escape sequences alone.
+/// How many of the others may be longer than a token can be.
+const TAILED: usize = 20;
+
+/// A script of little else than escape sequences.
 pub fn token_script(seed: u64, calls: usize) -> String {
     let mut generator = Generator::new(seed);
     generator.beginning();
@@ -81,7 +84,7 @@ impl Generator {
 
     fn type_token(&mut self, keys: &[u8]) {
         for code in keys {
-            if self.random.chance(2) {
+            if self.random.chance(4) {
                 self.key(22);
             }
             self.key(*code);
@@ -92,11 +95,12 @@ impl Generator {
     }
 }
 
-/// The keys of an escape sequence of any form, whole or spoiled, short or up to
-/// one byte beyond the longest.
+/// The keys of an escape sequence of any form, whole or spoiled; at times so
+/// long that a tail stands behind the longest token.
 fn escape_sequence(random: &mut Random) -> Vec<u8> {
     let form = &FORMS[random.below(FORMS.len())];
-    let mut keys = opening(random, form, LONGEST);
+    let longest = if random.chance(TAILED) { 2 * LONGEST } else { LONGEST };
+    let mut keys = opening(random, form, longest);
     keys.push(match random.below(8) {
         0 => random.byte(),
         1..=3 => random.pick(&WATCHED),
@@ -116,7 +120,11 @@ fn opening(random: &mut Random, form: &Form, longest: usize) -> Vec<u8> {
     let mut keys = form.introducer.to_vec();
     let most = if random.chance(SHORT) { 1 } else { longest - keys.len() };
     let more = random.below(most + 1);
-    let parameters = if form.parameters { random.below(more + 1) } else { 0 };
+    let parameters = match random.below(2) {
+        _ if !form.parameters => 0,
+        0 => more,
+        _ => random.below(more + 1),
+    };
     keys.extend((0..parameters).map(|_| from(random, PARAMETERS)));
     keys.extend((parameters..more).map(|_| from(random, INTERMEDIATES)));
     keys

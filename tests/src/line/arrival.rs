@@ -1,7 +1,7 @@
 //! A key arrives: the four arrival rules.
 
+use super::tokens::End;
 use super::{Answer, Key, Line, TYPE_AHEAD};
-use crate::coverage::tokens::Loss;
 use crate::coverage::Rule;
 use crate::message::Message;
 use crate::screen::BEL;
@@ -99,7 +99,7 @@ impl Line {
         self.seen.met_if(!self.partial.is_empty(), Rule::ClearedPartial);
         self.type_ahead.clear();
         self.held = None;
-        self.lose_partial(Loss::Cleared);
+        self.lose_partial(End::Cleared);
         if let Some(read) = &self.read {
             let prompt = read.end_of_prompt;
             self.seen.met_if(read.buffer.len() > prompt, Rule::ClearedInput);

@@ -1,7 +1,7 @@
 //! A read starts, and a read completes.
 
+use super::tokens::End;
 use super::{Answer, Line, Read};
-use crate::coverage::tokens::Loss;
 use crate::coverage::Rule;
 use crate::message::{Message, ReadData, StartRead};
 use crate::screen::{CR, LF};
@@ -126,7 +126,7 @@ impl Line {
         let Some(read) = self.read.take() else { return };
         self.seen.codes[usize::from(code)] += 1;
         self.seen.met_if(!self.partial.is_empty(), Rule::PartialDropped);
-        self.lose_partial(Loss::Dropped);
+        self.lose_partial(End::Dropped);
         let data = read.buffer[read.end_of_prompt..].to_vec();
         let data = ReadData {
             code,

@@ -2,7 +2,6 @@
 
 use super::reads::{ABSENTEE, INVALID_TOKEN, VALID_TOKEN};
 use super::{Answer, Line, Token};
-use crate::coverage::tokens::Loss;
 use crate::coverage::Rule;
 use std::ops::RangeInclusive;
 
@@ -35,37 +34,37 @@ pub const FORMS: [Form; 6] = [
     Form { introducer: &[ESC], parameters: false, finals: FINALS_FROM_48 },
 ];
 
-/// The place in `FORMS` of the form that the bytes are of.
+/// The form that the bytes are of, by its index in `FORMS`.
 pub fn form(bytes: &[u8]) -> usize {
-    let place = FORMS.iter().position(|form| bytes.starts_with(form.introducer));
-    place.expect("a token begins with 27 or 155")
+    let index = FORMS.iter().position(|form| bytes.starts_with(form.introducer));
+    index.expect("a token begins with 27 or 155")
 }
 
+/// How a token ends.
 #[derive(Clone, Copy, Debug, PartialEq, Eq)]
-pub enum Fate {
-    Open,
+pub enum End {
     Valid,
     /// By a byte that the form does not have there.
     Invalid,
     /// Invalid too: no room for more, and still no final.
     TooLong,
+    /// Partial, at a completion that was not by a token.
+    Dropped,
+    /// Partial, by the clear rule.
+    Cleared,
 }
 
-/// What the last byte makes of the bytes before it, which are open.
-fn fate(bytes: &[u8]) -> Fate {
+/// How the last byte ends a token, whose bytes before it do not.
+fn end(bytes: &[u8]) -> Option<End> {
     let form = &FORMS[form(bytes)];
-    let Some((last, before)) = bytes[form.introducer.len()..].split_last() else {
-        return Fate::Open;
-    };
+    let (last, before) = bytes[form.introducer.len()..].split_last()?;
     let parameters = form.parameters && !before.iter().any(|byte| INTERMEDIATES.contains(byte));
     if form.finals.contains(last) {
-        Fate::Valid
+        Some(End::Valid)
     } else if !(INTERMEDIATES.contains(last) || parameters && PARAMETERS.contains(last)) {
-        Fate::Invalid
-    } else if bytes.len() == LONGEST {
-        Fate::TooLong
+        Some(End::Invalid)
     } else {
-        Fate::Open
+        (bytes.len() == LONGEST).then_some(End::TooLong)
     }
 }
 
@@ -79,12 +78,10 @@ impl Line {
     /// treated as held in the same step.
     pub(super) fn add_to_token(&mut self, code: u8, out: &mut Answer) {
         self.partial.push(code);
-        let fate = fate(&self.partial);
-        self.seen.tokens.judged(&self.partial, fate);
-        if fate == Fate::Open {
-            return;
-        }
-        let valid = fate == Fate::Valid;
+        let end = end(&self.partial);
+        self.seen.tokens.added(&self.partial, end);
+        let Some(end) = end else { return };
+        let valid = end == End::Valid;
         let sixteenth = self.partial.len() == LONGEST;
         self.seen.met(if valid { Rule::TokenValid } else { Rule::TokenInvalid });
         self.seen.met_if(sixteenth && valid, Rule::TokenSixteenthFinal);
@@ -95,11 +92,11 @@ impl Line {
     }
 
     /// A partial token, if there is one, is lost.
-    pub(super) fn lose_partial(&mut self, loss: Loss) {
+    pub(super) fn lose_partial(&mut self, end: End) {
         if self.partial.is_empty() {
             return;
         }
-        self.seen.tokens.lost(&self.partial, loss);
+        self.seen.tokens.lost(&self.partial, end);
         self.partial.clear();
     }
 
@@ -125,54 +122,54 @@ impl Line {
 mod tests {
     use super::*;
 
-    fn last_fate(bytes: &[u8]) -> Fate {
-        for end in 2..bytes.len() {
-            assert_eq!(fate(&bytes[..end]), Fate::Open, "{bytes:?} ends early at {end}");
+    fn at_last(bytes: &[u8]) -> Option<End> {
+        for length in 2..bytes.len() {
+            assert_eq!(end(&bytes[..length]), None, "{bytes:?} ends early at {length}");
         }
-        fate(bytes)
+        end(bytes)
     }
 
     #[test]
     fn shapes() {
-        assert_eq!(last_fate(&[27, 91, 65]), Fate::Valid);
-        assert_eq!(last_fate(&[27, 91, 48, 63, 32, 47, 126]), Fate::Valid);
-        assert_eq!(last_fate(&[27, 91, 32, 48]), Fate::Invalid);
-        assert_eq!(last_fate(&[27, 91, 127]), Fate::Invalid);
-        assert_eq!(last_fate(&[155, 91]), Fate::Valid);
-        assert_eq!(last_fate(&[155, 59]), Fate::Open);
-        assert_eq!(last_fate(&[155, 27]), Fate::Invalid);
-        assert_eq!(last_fate(&[27, 32, 91]), Fate::Valid);
-        assert_eq!(last_fate(&[27, 48]), Fate::Valid);
-        assert_eq!(last_fate(&[27, 32, 48]), Fate::Valid);
-        assert_eq!(last_fate(&[27, 27]), Fate::Invalid);
-        assert_eq!(last_fate(&[27, 155]), Fate::Invalid);
-        assert_eq!(last_fate(&[27, 91, 91]), Fate::Valid);
+        assert_eq!(at_last(&[27, 91, 65]), Some(End::Valid));
+        assert_eq!(at_last(&[27, 91, 48, 63, 32, 47, 126]), Some(End::Valid));
+        assert_eq!(at_last(&[27, 91, 32, 48]), Some(End::Invalid));
+        assert_eq!(at_last(&[27, 91, 127]), Some(End::Invalid));
+        assert_eq!(at_last(&[155, 91]), Some(End::Valid));
+        assert_eq!(at_last(&[155, 59]), None);
+        assert_eq!(at_last(&[155, 27]), Some(End::Invalid));
+        assert_eq!(at_last(&[27, 32, 91]), Some(End::Valid));
+        assert_eq!(at_last(&[27, 48]), Some(End::Valid));
+        assert_eq!(at_last(&[27, 32, 48]), Some(End::Valid));
+        assert_eq!(at_last(&[27, 27]), Some(End::Invalid));
+        assert_eq!(at_last(&[27, 155]), Some(End::Invalid));
+        assert_eq!(at_last(&[27, 91, 91]), Some(End::Valid));
     }
 
     #[test]
     fn shapes_after_59_63_and_79() {
         for introducer in [[27, 59], [27, 63], [27, 79]] {
-            assert_eq!(last_fate(&introducer), Fate::Open);
+            assert_eq!(at_last(&introducer), None);
         }
-        assert_eq!(last_fate(&[27, 79, 80]), Fate::Valid);
-        assert_eq!(last_fate(&[27, 63, 65]), Fate::Valid);
-        assert_eq!(last_fate(&[27, 59, 59]), Fate::Valid);
-        assert_eq!(last_fate(&[27, 63, 79]), Fate::Valid);
-        assert_eq!(last_fate(&[27, 79, 48]), Fate::Invalid);
-        assert_eq!(last_fate(&[27, 59, 48]), Fate::Valid);
-        assert_eq!(last_fate(&[27, 79, 91]), Fate::Valid);
-        assert_eq!(last_fate(&[27, 59, 91]), Fate::Valid);
-        assert_eq!(last_fate(&[27, 63, 32, 47, 48]), Fate::Valid);
-        assert_eq!(last_fate(&[27, 79, 32, 47, 63]), Fate::Invalid);
-        assert_eq!(last_fate(&[27, 79, 32, 47, 64]), Fate::Valid);
-        assert_eq!(last_fate(&[27, 59, 32, 127]), Fate::Invalid);
+        assert_eq!(at_last(&[27, 79, 80]), Some(End::Valid));
+        assert_eq!(at_last(&[27, 63, 65]), Some(End::Valid));
+        assert_eq!(at_last(&[27, 59, 59]), Some(End::Valid));
+        assert_eq!(at_last(&[27, 63, 79]), Some(End::Valid));
+        assert_eq!(at_last(&[27, 79, 48]), Some(End::Invalid));
+        assert_eq!(at_last(&[27, 59, 48]), Some(End::Valid));
+        assert_eq!(at_last(&[27, 79, 91]), Some(End::Valid));
+        assert_eq!(at_last(&[27, 59, 91]), Some(End::Valid));
+        assert_eq!(at_last(&[27, 63, 32, 47, 48]), Some(End::Valid));
+        assert_eq!(at_last(&[27, 79, 32, 47, 63]), Some(End::Invalid));
+        assert_eq!(at_last(&[27, 79, 32, 47, 64]), Some(End::Valid));
+        assert_eq!(at_last(&[27, 59, 32, 127]), Some(End::Invalid));
     }
 
     #[test]
     fn shapes_with_79_elsewhere() {
-        assert_eq!(last_fate(&[27, 32, 79]), Fate::Valid);
-        assert_eq!(last_fate(&[155, 79]), Fate::Valid);
-        assert_eq!(last_fate(&[27, 91, 79]), Fate::Valid);
+        assert_eq!(at_last(&[27, 32, 79]), Some(End::Valid));
+        assert_eq!(at_last(&[155, 79]), Some(End::Valid));
+        assert_eq!(at_last(&[27, 91, 79]), Some(End::Valid));
     }
 
     #[test]
@@ -180,9 +177,9 @@ mod tests {
         for form in &FORMS {
             let mut bytes = form.introducer.to_vec();
             bytes.resize(LONGEST, *INTERMEDIATES.start());
-            assert_eq!(last_fate(&bytes), Fate::TooLong);
+            assert_eq!(at_last(&bytes), Some(End::TooLong));
             bytes[LONGEST - 1] = *form.finals.start();
-            assert_eq!(last_fate(&bytes), Fate::Valid);
+            assert_eq!(at_last(&bytes), Some(End::Valid));
         }
     }
 }

@@ -1,5 +1,5 @@
 //! What occurred while scripts ran: how often each completion code, refusal
-//! number, message type and rule of page 01, M-100 and M-101 was met.
+//! number, message type and rule of page 01 and the requests was met.
 
 pub mod tokens;
 
@@ -186,8 +186,8 @@ impl Coverage {
         self.numbers.iter().chain(&self.read_numbers).chain(&self.asked).sum()
     }
 
-    /// Each thing that can be reached, with its count; tokens have a table of
-    /// their own.
+    /// Each thing that can be reached, with its count. What occurred to tokens
+    /// is asked of scripts of tokens alone, and has a table of its own.
     pub fn table(&self) -> Vec<(String, u64)> {
         let mut table = Vec::new();
         table.extend(CODES.map(|code| (format!("completion code {code}"), self.codes[code])));
@@ -215,7 +215,7 @@ impl Coverage {
         table.extend((0..DIGITS).map(|no| (format!("asked {no}"), self.asked[no])));
     }
 
-    /// The names of things that can be reached and were not.
+    /// The names of things in the table that were not reached.
     pub fn missing(&self) -> Vec<String> {
         unmet(self.table())
     }
