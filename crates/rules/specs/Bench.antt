@@ -9,10 +9,9 @@ use Rattle.rules.specs.Numbers.{terminalArea, messageArea, typeAheadSize
 use Rattle.rules.specs.Messages.Forms.{Message, revisionSize, readDataHeader, startRead}
 use Rattle.rules.specs.Messages.Codec as codec
 use Rattle.rules.specs.Messages.Codec.{Outcome, refused, sound, read, written}
-use Rattle.rules.specs.Screen.{HT, SP, QUESTION, DEL}
+use Rattle.rules.specs.Screen.{HT, SP, DEL}
 use Rattle.rules.specs.State.{State, fresh, codes}
-use Rattle.rules.specs.Token.{ESC, CSI, SEMICOLON, LETTER_O, BRACKET}
-use Rattle.rules.specs.ReadData.{byValidToken, byInvalidToken}
+use Rattle.rules.specs.Token.{ESC}
 use Rattle.rules.specs.Editing.{redisplayKey}
 use Rattle.rules.specs.Arrival.{quoteKey}
 use Rattle.rules.specs.Settings.{foundSection}
@@ -126,13 +125,14 @@ recognising = told (0x0B ∷ 0x00 ∷ 0x06 ∷ 0x02 ∷ 0x01 ∷ []) accepted []
 abbrev pub waiting : ℕ → Exchange
 waiting n = told (0x0C ∷ 0x00 ∷ []) accepted [] (0x04 ∷ 0x00 ∷ 0x0D ∷ 0x00 ∷ n ∷ 0x00 ∷ [])
 
--- keys, each with its step, that show nothing; the last step sends these messages
+-- keys, each with its step, that show nothing; the last step, which is a bare one if there is no key, sends these messages
 unfoldable pub typedUnseen : List ℕ → List ℕ → List Exchange
-typedUnseen [] messages = []
+typedUnseen [] messages = stepped [] messages ∷ []
 typedUnseen (code ∷ []) messages = typed code [] messages
 typedUnseen (code ∷ next ∷ codes) messages = typed code [] [] ++ typedUnseen (next ∷ codes) messages
 
--- a token typed into case A's read: Read Data has this completion code and the whole token, and then nothing waits
+-- a token typed into case A's read: Read Data has this completion code, 1 for valid and 2 for invalid, and the whole token, and then nothing waits.
+-- Tokens are written as the papers write them, so that a row holds the names of the grammar to their codes.
 abbrev pub tokenTyped : List ℕ → ℕ → Case
 tokenTyped token completion =
     runs
@@ -246,20 +246,20 @@ starred =
     (typed 0x0D (0x5E ∷ 0x4D ∷ []) [] ++
     typed 0x0D (0x0D ∷ 0x0A ∷ []) (0x0A ∷ 0x00 ∷ 0x03 ∷ 0x00 ∷ 0x02 ∷ 0x00 ∷ 0x01 ∷ 0x00 ∷ 0x01 ∷ 0x00 ∷ 0x0D ∷ 0x0D ∷ []))) ∷
     -- H: recognition on; a valid and an invalid token
-    tokenTyped (ESC ∷ BRACKET ∷ 65 ∷ []) byValidToken ∷
-    tokenTyped (ESC ∷ BRACKET ∷ 7 ∷ []) byInvalidToken ∷
+    tokenTyped (27 ∷ 91 ∷ 65 ∷ []) 0x01 ∷
+    tokenTyped (27 ∷ 91 ∷ 7 ∷ []) 0x02 ∷
     -- I: room for 2, token of 3
     runs
     (initiated ∷ recognising ∷ told (0x02 ∷ 0x00 ∷ 0x80 ∷ 0x00 ∷ 0x02 ∷ 0x00 ∷ 0x00 ∷ 0x00 ∷ 0x00 ∷ 0x00 ∷ 0x00 ∷ 0x00 ∷ 0x00 ∷ 0x00 ∷ 0x00 ∷ 0x00 ∷ 0x00 ∷ []) accepted [] [] ∷
-    typedUnseen (ESC ∷ BRACKET ∷ 65 ∷ []) (0x08 ∷ 0x00 ∷ 0x03 ∷ 0x18 ∷ 0x00 ∷ 0x00 ∷ 0x00 ∷ 0x00 ∷ 0x00 ∷ 0x00 ∷ [])) ∷
+    typedUnseen (27 ∷ 91 ∷ 65 ∷ []) (0x08 ∷ 0x00 ∷ 0x03 ∷ 0x18 ∷ 0x00 ∷ 0x00 ∷ 0x00 ∷ 0x00 ∷ 0x00 ∷ 0x00 ∷ [])) ∷
     -- J: the 65th waiting key
     runs
     (initiated ∷
     (replicate typeAheadSize (stored 0x30) ++
     asked terminalArea messageArea (key 0x30) accepted (0x07 ∷ []) [] 1 ∷ [])) ∷
-    -- M-101: PF1, 27 79 80, leaves no letter behind, nor does 27 63 65
-    tokenTyped (ESC ∷ LETTER_O ∷ 80 ∷ []) byValidToken ∷
-    tokenTyped (ESC ∷ QUESTION ∷ 65 ∷ []) byValidToken ∷ []
+    -- M-101: PF1 leaves no letter behind, nor does 27 63 65
+    tokenTyped (27 ∷ 79 ∷ 80 ∷ []) 0x01 ∷
+    tokenTyped (27 ∷ 63 ∷ 65 ∷ []) 0x01 ∷ []
 
 -- Rows of our own, for mistakes that the starred cases do not show: those that page 01 warns of, those that settings and tokens invite, and some that edits of the definitions make.
 unfoldable pub warned : List Case
@@ -302,33 +302,33 @@ warned =
     told (0x0A ∷ 0x00 ∷ 0x02 ∷ 0x02 ∷ 0x41 ∷ 0x04 ∷ 0x02 ∷ 0x05 ∷ 0x02 ∷ 0x06 ∷ 0x02 ∷ 0x09 ∷ 0x02 ∷ []) accepted []
     (0x13 ∷ 0x00 ∷ 0x0B ∷ 0x00 ∷ 0x02 ∷ 0x02 ∷ 0x41 ∷ 0x7F ∷ 0x0C ∷ 0x04 ∷ 0x02 ∷ 0x00 ∷ 0x05 ∷ 0x02 ∷ 0x00 ∷ 0x06 ∷ 0x02 ∷ 0x00 ∷ 0x09 ∷ 0x02 ∷ 0x00 ∷ []) ∷ []) ∷
     -- 59, 63, 79 and 91 begin forms of their own straight after 27 and nowhere else
-    tokenTyped (ESC ∷ SP ∷ SEMICOLON ∷ []) byValidToken ∷
-    tokenTyped (ESC ∷ SP ∷ QUESTION ∷ []) byValidToken ∷
-    tokenTyped (ESC ∷ SP ∷ LETTER_O ∷ []) byValidToken ∷
-    tokenTyped (ESC ∷ SEMICOLON ∷ SEMICOLON ∷ []) byValidToken ∷
-    tokenTyped (ESC ∷ QUESTION ∷ LETTER_O ∷ []) byValidToken ∷
-    tokenTyped (ESC ∷ BRACKET ∷ LETTER_O ∷ []) byValidToken ∷
-    tokenTyped (CSI ∷ LETTER_O ∷ []) byValidToken ∷
-    tokenTyped (ESC ∷ SEMICOLON ∷ BRACKET ∷ []) byValidToken ∷
-    tokenTyped (ESC ∷ QUESTION ∷ BRACKET ∷ []) byValidToken ∷
-    tokenTyped (ESC ∷ LETTER_O ∷ BRACKET ∷ []) byValidToken ∷
+    tokenTyped (27 ∷ 32 ∷ 59 ∷ []) 0x01 ∷
+    tokenTyped (27 ∷ 32 ∷ 63 ∷ []) 0x01 ∷
+    tokenTyped (27 ∷ 32 ∷ 79 ∷ []) 0x01 ∷
+    tokenTyped (27 ∷ 59 ∷ 59 ∷ []) 0x01 ∷
+    tokenTyped (27 ∷ 63 ∷ 79 ∷ []) 0x01 ∷
+    tokenTyped (27 ∷ 91 ∷ 79 ∷ []) 0x01 ∷
+    tokenTyped (155 ∷ 79 ∷ []) 0x01 ∷
+    tokenTyped (27 ∷ 59 ∷ 91 ∷ []) 0x01 ∷
+    tokenTyped (27 ∷ 63 ∷ 91 ∷ []) 0x01 ∷
+    tokenTyped (27 ∷ 79 ∷ 91 ∷ []) 0x01 ∷
     -- a final byte is one of 48 to 126 behind 27 59 and 27 63, and of 64 to 126 behind 27 79
-    tokenTyped (ESC ∷ SEMICOLON ∷ 48 ∷ []) byValidToken ∷
-    tokenTyped (ESC ∷ SEMICOLON ∷ 126 ∷ []) byValidToken ∷
-    tokenTyped (ESC ∷ SEMICOLON ∷ 127 ∷ []) byInvalidToken ∷
-    tokenTyped (ESC ∷ QUESTION ∷ 48 ∷ []) byValidToken ∷
-    tokenTyped (ESC ∷ QUESTION ∷ 126 ∷ []) byValidToken ∷
-    tokenTyped (ESC ∷ QUESTION ∷ 127 ∷ []) byInvalidToken ∷
-    tokenTyped (ESC ∷ LETTER_O ∷ 48 ∷ []) byInvalidToken ∷
-    tokenTyped (ESC ∷ LETTER_O ∷ 63 ∷ []) byInvalidToken ∷
-    tokenTyped (ESC ∷ LETTER_O ∷ 64 ∷ []) byValidToken ∷
-    tokenTyped (ESC ∷ LETTER_O ∷ 126 ∷ []) byValidToken ∷
-    tokenTyped (ESC ∷ LETTER_O ∷ 127 ∷ []) byInvalidToken ∷
+    tokenTyped (27 ∷ 59 ∷ 48 ∷ []) 0x01 ∷
+    tokenTyped (27 ∷ 59 ∷ 126 ∷ []) 0x01 ∷
+    tokenTyped (27 ∷ 59 ∷ 127 ∷ []) 0x02 ∷
+    tokenTyped (27 ∷ 63 ∷ 48 ∷ []) 0x01 ∷
+    tokenTyped (27 ∷ 63 ∷ 126 ∷ []) 0x01 ∷
+    tokenTyped (27 ∷ 63 ∷ 127 ∷ []) 0x02 ∷
+    tokenTyped (27 ∷ 79 ∷ 48 ∷ []) 0x02 ∷
+    tokenTyped (27 ∷ 79 ∷ 63 ∷ []) 0x02 ∷
+    tokenTyped (27 ∷ 79 ∷ 64 ∷ []) 0x01 ∷
+    tokenTyped (27 ∷ 79 ∷ 126 ∷ []) 0x01 ∷
+    tokenTyped (27 ∷ 79 ∷ 127 ∷ []) 0x02 ∷
     -- any number of 32 to 47 may stand before it
-    tokenTyped (ESC ∷ SEMICOLON ∷ 32 ∷ 47 ∷ 48 ∷ []) byValidToken ∷
-    tokenTyped (ESC ∷ QUESTION ∷ 32 ∷ 47 ∷ 48 ∷ []) byValidToken ∷
-    tokenTyped (ESC ∷ LETTER_O ∷ 32 ∷ 47 ∷ 63 ∷ []) byInvalidToken ∷
-    tokenTyped (ESC ∷ LETTER_O ∷ 32 ∷ 47 ∷ 64 ∷ []) byValidToken ∷
+    tokenTyped (27 ∷ 59 ∷ 32 ∷ 47 ∷ 48 ∷ []) 0x01 ∷
+    tokenTyped (27 ∷ 63 ∷ 32 ∷ 47 ∷ 48 ∷ []) 0x01 ∷
+    tokenTyped (27 ∷ 79 ∷ 32 ∷ 47 ∷ 63 ∷ []) 0x02 ∷
+    tokenTyped (27 ∷ 79 ∷ 32 ∷ 47 ∷ 64 ∷ []) 0x01 ∷
     -- Check Input counts the keys that wait and the bytes of a token
     runs (initiated ∷ recognising ∷ startedA ∷ (typed ESC [] [] ++ (stored 0x31 ∷ stored 0x32 ∷ waiting 3 ∷ []))) ∷
     -- a termination set of 33 bytes

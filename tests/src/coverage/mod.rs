@@ -227,8 +227,8 @@ fn unmet(table: Vec<(String, u64)>) -> Vec<String> {
 
 impl fmt::Display for Coverage {
     fn fmt(&self, to: &mut fmt::Formatter) -> fmt::Result {
-        writeln!(to, "{:30} {}", "calls", self.calls())?;
+        writeln!(to, "{:45} {}", "calls", self.calls())?;
         let table = self.table().into_iter().chain(self.tokens.table());
-        table.into_iter().try_for_each(|(name, count)| writeln!(to, "{name:30} {count}"))
+        table.into_iter().try_for_each(|(name, count)| writeln!(to, "{name:45} {count}"))
     }
 }

@@ -7,11 +7,11 @@ use crate::line::tokens::{Form, FORMS, INTERMEDIATES, LONGEST, PARAMETERS};
 use crate::message::{Message, BUFFER};
 use std::ops::RangeInclusive;
 
-/// How many sequences in a hundred have one byte at most between introducer and
-/// final, so that what follows the introducer is seen often.
+/// How many sequences in a hundred are kept to one byte at most between the
+/// introducer and a final, so that what follows the introducer is seen often.
 const SHORT: usize = 40;
 
-/// How many of the others may be longer than a token can be.
+/// How many in a hundred may go on far behind the longest token.
 const TAILED: usize = 20;
 
 /// A script of little else than escape sequences.
@@ -45,11 +45,11 @@ impl Generator {
         self.steps(steps);
     }
 
-    /// There is room for the longest token, or too little for most.
+    /// There is room for the longest token, or too little for many.
     fn token_read(&mut self) {
         self.start(|random, read| {
             read.escapes = random.pick(&[2, 2, 2, 2, 0]);
-            let room = random.pick(&[1, 2, 3, 5, 16, 20, 40]);
+            let room = random.pick(&[1, 2, 3, 5, LONGEST as u16, 20, 40]);
             read.max_length = (read.end_of_data + room).min(BUFFER);
             read.timed |= random.chance(50);
         });

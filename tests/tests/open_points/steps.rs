@@ -29,6 +29,7 @@ fn point_28_shapes_of_tokens() {
     assert_eq!(token(&[155, 91]), whole("01", &[155, 91]));
     assert_eq!(token(&[27, 32, 91]), whole("01", &[27, 32, 91]));
     assert_eq!(token(&[27, 27]), whole("02", &[27, 27]));
+    assert_eq!(token(&[155, 32, 48]), whole("02", &[155, 32, 48]));
     let mut sixteen = [b'1'; 16];
     sixteen[..2].copy_from_slice(&[27, 91]);
     assert_eq!(token(&sixteen), whole("02", &sixteen));
