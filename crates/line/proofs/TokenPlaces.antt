@@ -10,7 +10,7 @@ use lib.ListN.{length, getD, drop, drop-of-length-le}
 use lib.Seq.{drop-cons}
 use borrow.Author.Tests.{le-leb, lt-leb, ne-eqb}
 use Rattle.rules.specs.Numbers.{tokenSize}
-use Rattle.rules.specs.Token.{Place, empty, invalid, next, placeFrom, isFinished, isValid, standing}
+use Rattle.rules.specs.Token.{Place, empty, invalid, next, placeFrom, isFinished, isValid, standing, isWhole}
 use Rattle.rules.proofs.Choice.{pick-true, pick-false}
 use Rattle.line.specs.TokenChanges.{placeOf}
 
@@ -85,3 +85,10 @@ module _ (token : List ℕ) (p : ℕ) (h : placeOf p ≡ placeFrom empty token) 
   pub standing-kept : {size : ℕ} → tokenSize ≡ size → leb size (length token) && ltb p 5 ≡ false → standing token ≡ placeOf p
   unfolding standing
   standing-kept e t = pick-false _ _ (ap₂ (λ n b. leb n (length token) && b) e open-number ∙ t) ∙ sym h
+
+-- no token is not a whole one
+pub none-whole : (token : List ℕ) {size : ℕ} → tokenSize ≡ size → 0 < size → length token ≡ 0 → isWhole token ≡ false
+unfolding isWhole isFinished placeOf
+none-whole token {size} e h none =
+    let short : leb size (length token) ≡ false = lt-leb size (length token) (omega arith) in
+    ap isFinished (standing-kept token 0 (place-end token 0 0 (omega arith) refl) e (ap (λ b. b && ltb 0 5) short))

@@ -137,6 +137,10 @@ fn standing(token: &[u8]) -> u8
 pub(crate) fn is_whole(token: &[u8]) -> bool
     ensures { λ r. ⌜ r ≡ rules.isWhole (now (token .entry)) ⌝ }
 {
+    // Mostly there is no token, and nothing to walk through.
+    if token.len() == 0 {
+        return false;
+    }
     VALID <= standing(token)
 }
 
