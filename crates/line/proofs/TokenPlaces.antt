@@ -86,7 +86,7 @@ module _ (token : List ℕ) (p : ℕ) (h : placeOf p ≡ placeFrom empty token) 
   unfolding standing
   standing-kept e t = pick-false _ _ (ap₂ (λ n b. leb n (length token) && b) e open-number ∙ t) ∙ sym h
 
--- no token is not a whole one
+-- a token of no bytes is not whole
 pub none-whole : (token : List ℕ) {size : ℕ} → tokenSize ≡ size → 0 < size → length token ≡ 0 → isWhole token ≡ false
 unfolding isWhole isFinished placeOf
 none-whole token {size} e h none =

@@ -129,7 +129,7 @@ waiting n = told (0x0C ∷ 0x00 ∷ []) accepted [] (0x04 ∷ 0x00 ∷ 0x0D ∷ 
 unfoldable pub typedUnseen : List ℕ → List ℕ → List Exchange
 typedUnseen [] messages = stepped [] messages ∷ []
 typedUnseen (code ∷ []) messages = typed code [] messages
-typedUnseen (code ∷ next ∷ codes) messages = typed code [] [] ++ typedUnseen (next ∷ codes) messages
+typedUnseen (code ∷ second ∷ others) messages = typed code [] [] ++ typedUnseen (second ∷ others) messages
 
 -- a token typed into case A's read: Read Data has this completion code, 1 for valid and 2 for invalid, and the whole token, and then nothing waits.
 -- Tokens are written as the papers write them, so that a row holds the names of the grammar to their codes.
