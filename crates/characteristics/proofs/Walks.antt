@@ -1,34 +1,16 @@
--- Tests of a list from a place on, an element at a time.
+-- Whether every parameter of a list is carried, a parameter at a time.
 use mathlib.Core.Path.{_≡_, sym, ap, _∙_}
-use Prim.Native.Nat.{ℕ, _+_, _<_, _≤_}
-use mathlib.Core.Bool.{Bool, true, false, _&&_, _||_}
+use Prim.Native.Nat.{ℕ, _<_, _≤_}
+use mathlib.Core.Bool.{Bool, true, false, _&&_}
 use mathlib.Core.List.{List}
-use lib.ListN.{length, getD, drop, drop-of-length-le}
-use Rattle.rules.specs.Choice.{allAre, anyIs}
+use lib.ListN.{length}
+use Rattle.rules.specs.Choice.{allAre}
 use Rattle.rules.specs.Messages.Parameters.{selector}
 use Rattle.rules.specs.Characteristics.{isCarried}
 use Rattle.parameters.specs.declared.Parameter.{Parameter}
 use Rattle.parameters.specs.Lists.{ParameterIs, parametersFrom}
 use Rattle.parameters.proofs.Shapes.{parameters-end}
-use Rattle.areas.proofs.Putting.{first-byte}
 
--- one of a table passes
-module _ (test : ℕ → Bool) (table : List ℕ) (i : ℕ) where
-  any-step : i < length table → anyIs test (drop i table) ≡ test (getD table i 0) || anyIs test (drop (i + 1) table)
-  unfolding anyIs
-  any-step h = ap (anyIs test) (first-byte table i h)
-
-  pub any-stops : i < length table → test (getD table i 0) ≡ true → anyIs test (drop i table) ≡ true
-  any-stops h e = any-step h ∙ rw e
-
-  pub any-goes-on : i < length table → test (getD table i 0) ≡ false → anyIs test (drop (i + 1) table) ≡ anyIs test (drop i table)
-  any-goes-on h e = sym (any-step h ∙ rw e)
-
-  pub any-end : length table ≤ i → anyIs test (drop i table) ≡ false
-  unfolding anyIs
-  any-end h = ap (anyIs test) (drop-of-length-le table h)
-
--- every parameter is carried
 abbrev pub allCarried : List (List ℕ) → Bool
 allCarried ps = allAre (λ p. isCarried (selector p)) ps
 

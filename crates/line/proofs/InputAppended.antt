@@ -156,7 +156,7 @@ module _ (hidden : Bool) (n : ℕ) (xs : List ℕ) where
           ap (λ j. take j xs) none ∙ sym (ap (λ j. drop k (take j xs)) none ∙ drop-nil k)
 
 module _ (r : Reading) where
-  displayed-is : (l : Line) → displayed codes (readingOf l r) ≡ drop (bit (r .«hidden_lf»)) (take (r .«input_len») (l .text))
+  pub displayed-is : (l : Line) → displayed codes (readingOf l r) ≡ drop (bit (r .«hidden_lf»)) (take (r .«input_len») (l .text))
   unfolding displayed hiddenCount inputOf
   displayed-is l = ap (drop (bit (r .«hidden_lf»))) (map-id (take (r .«input_len») (l .text)))
 

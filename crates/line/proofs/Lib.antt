@@ -4,6 +4,7 @@ mod TokenBytes
 mod WordDeletion
 mod InputLaws
 mod InputAppended
+mod RubbedOut
 mod TokenPlaces
 mod SentMessages
 mod FlowChanges

@@ -2,13 +2,15 @@
 use Prim.Native.Nat.{ℕ, _+_, _-_, _≤_, _<_}
 use mathlib.Core.Path.{_≡_}
 use mathlib.Core.Bool.{Bool, not}
-use mathlib.Core.List.{List}
+use mathlib.Core.List.{List, []}
 use lib.ListN.{length, take, drop}
 use Rattle.rules.specs.Numbers.{inputSize}
 use Rattle.rules.specs.Choice.{pick}
 use Rattle.rules.specs.State as rules
-use Rattle.rules.specs.Editing.{isWord, leftByDeleteWord, inputCodes, displayed, shortened}
+use Rattle.rules.specs.Screen.{rubOut}
+use Rattle.rules.specs.Editing.{isWord, leftByDeleteWord, inputCodes, displayed, shortened, rubOutBytes}
 use Rattle.rules.specs.Steps.{appended}
+use Rattle.screen.specs.declared.Found.{Found}
 use Rattle.line.specs.declared.Terms.{Terms}
 use Rattle.line.specs.declared.Reading.{Reading}
 use Rattle.line.specs.declared.Line.{Line}
@@ -37,6 +39,20 @@ pub record Appends (cs : List ℕ) (r : Reading) (text : List ℕ) (next : Readi
 pub record ShownFrom (r : Reading) (start : ℕ) : Type 0 where
   pub text : (l : Line) → take (r .«input_len» - start) (drop start (l .text)) ≡ displayed rules.codes (readingOf l r)
   pub within : start ≤ r .«input_len»
+
+-- the characters that are rubbed out when all but the first ones are deleted: none in a read that does not echo
+unfoldable pub rubbedOut : ℕ → rules.Reading ℕ → List ℕ
+rubbedOut left r = pick (r .terms .echoes) (drop left (r .input)) []
+
+-- columns worked out in one pass at most: one for each character rubbed out, and none twice of what stands after END-OF-PROMPT
+pub record InOnePass (left : ℕ) (r : rules.Reading ℕ) (columns : ℕ) : Type 0 where
+  pub least : length (rubbedOut left r) ≤ columns
+  pub most : columns ≤ length (r .input)
+
+-- what deleting rubs out, and the columns that were worked out to find it
+pub record RubsOut (left : ℕ) (r : rules.Reading ℕ) (found : Found) : Type 0 where
+  pub marks : rubOut (found .marks) ≡ rubOutBytes rules.codes left r
+  pub once : InOnePass left r (found .columns)
 
 -- what 23 leaves of it
 pub record LeftByDeleteWord (text : List ℕ) (r : Reading) (left : ℕ) : Type 0 where

@@ -8,6 +8,7 @@ ghost use Rattle.rules.specs.Numbers.{inputSize};
 ghost use Rattle.line.specs.declared.Line.{Line};
 ghost use Rattle.line.specs.View.{readingOf};
 ghost use Rattle.line.specs.Bounded.{CountedFlow, CountedReading};
+ghost use Rattle.line.specs.ReadChanges.{InOnePass};
 ghost use Rattle.line.specs.With.{lent};
 ghost use Rattle.line.specs.Promise.{DoesOn};
 use crate::Reading;
@@ -17,6 +18,12 @@ use rules::characters;
 
 // The carriage return and line feed of a redisplay.
 const NEW_LINE: [u8; 2] = [characters::CR, characters::LF];
+
+// Asks of the columns that a deletion had worked out: one for each character rubbed out, and none twice.
+fn in_one_pass(columns: usize, left: u16, r: Reading, text: &[u8], t: Terms)
+    requires { ⌜ ((l : Line) → InOnePass left (readingOf (lent t (now text) l) r) columns) ⌝ }
+{
+}
 
 impl Work {
     // Deletes all but the first characters, without rubbing out.
@@ -48,12 +55,10 @@ impl Work {
             ⌜ ((fate : ℕ → Fate ℕ) (l : Line) (m : List ℕ) →
             DoesOn (λ k. rules.deletes codes fate left (readingOf k r)) (lent t (now (text .entry)) l) self (now (terminal .entry)) m w (now (terminal .exit)) m) ⌝ }
     {
-        if t.echoes {
-            let marks = r.marks(left, text);
-            let rubbed = self.rub_out(terminal, marks);
-            return rubbed.deletes_without_rubbing(left, r, t);
-        }
-        self.deletes_without_rubbing(left, r, t)
+        let found = r.find_marks(left, text, t);
+        in_one_pass(found.columns, left, r, text, t);
+        let rubbed = self.rub_out(terminal, found.marks);
+        rubbed.deletes_without_rubbing(left, r, t)
     }
 
     // What follows the prompt, from where the cursor stands.

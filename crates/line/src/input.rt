@@ -5,17 +5,15 @@ ghost use Prim.Native.Nat.{_+_, _-_, _≤_, _<_, min};
 ghost use lib.ListN.{length, take};
 ghost use Rattle.rules.specs.Numbers.{inputSize};
 ghost use Rattle.rules.specs.Choice.{bit};
-ghost use Rattle.rules.specs.State.{codes};
-ghost use Rattle.rules.specs.Screen as screen;
 ghost use Rattle.rules.specs.Editing as rules;
-ghost use Rattle.line.specs.declared.Terms as terms;
 ghost use Rattle.line.specs.declared.Line.{Line};
 ghost use Rattle.line.specs.View.{readingOf};
 ghost use Rattle.line.specs.With.{lent};
 ghost use Rattle.line.specs.Bounded.{CountedReading};
-ghost use Rattle.line.specs.ReadChanges.{Shortened, Appends, ShownFrom, LeftByDeleteWord, ofClass, idling, shownAt};
+ghost use Rattle.line.specs.ReadChanges.{Shortened, Appends, ShownFrom, RubsOut, LeftByDeleteWord, ofClass, idling, shownAt};
 use crate::Reading;
 use crate::Terms;
+use screen::Found;
 
 // The smaller of the two.
 fn lower(a: u16, b: u32) -> u16
@@ -143,18 +141,31 @@ impl Reading {
         left as usize
     }
 
-    // The marks and spaces on the screen for all but its first characters.
-    pub(crate) fn marks(self, left: u16, text: &[u8]) -> usize
+    // The marks and spaces to rub out when all but its first characters go: none in a read that does not echo. The LF that F
+    // hides takes no column; it goes when none is left, and then counts as one worked out.
+    pub(crate) fn find_marks(self, left: u16, text: &[u8], t: Terms) -> Found
         requires { ⌜ CountedReading self (now text) ⌝ }
-        ensures { λ n.
-            ⌜ ((t : terms.Terms) (l : Line) →
-            n ≡ screen.marksBehind (left - bit (self .«hidden_lf»)) (self .«display_column») (rules.displayed codes (readingOf (lent t (now (text .entry)) l) self))) ⌝ }
+        requires { ⌜ left ≤ self .«input_len» ⌝ }
+        ensures { λ found. ⌜ ((l : Line) → RubsOut left (readingOf (lent t (now (text .entry)) l) self) found) ⌝ }
     {
-        let start = self.first_shown();
-        let end = self.input_len as usize;
-        let kept = self.shown_of(left);
-        let from = self.display_column;
-        screen::rub::marks_behind(kept, from, &text[start..end])
+        if t.echoes {
+            let start = self.first_shown();
+            let end = self.input_len as usize;
+            let kept = self.shown_of(left);
+            let from = self.display_column;
+            let found = screen::rub::find_marks(kept, from, &text[start..end]);
+            if 0 < left {
+                return found;
+            }
+            return Found {
+                marks: found.marks,
+                columns: found.columns + start,
+            };
+        }
+        Found {
+            marks: 0,
+            columns: 0,
+        }
     }
 
     // How many characters 127 leaves.

@@ -1,12 +1,14 @@
 -- Laws of the tests and of the choice by a test: from a test's value to what it says, and back.
 use mathlib.Core.Path.{_≡_, refl, sym, ap, _∙_}
-use Prim.Native.Nat.{ℕ, zero, suc, _≤_}
+use Prim.Native.Nat.{ℕ, zero, suc, _+_, _≤_, _<_}
+use native.Mathlib.Numerals.{add-one}
 use mathlib.Core.Bool.{Bool, true, false, _&&_, _||_, false≢true, and-assoc}
 use mathlib.Core.List.{List, [], _∷_, _++_, map, List·Memᴰ, List·Memᴰ·head, List·Memᴰ·tail}
 use lib.Dec.{leb, eqb}
-use lib.ListN.{getD, set, take, drop, take-append-drop}
+use lib.ListN.{length, getD, set, take, drop, take-append-drop, drop-of-length-le}
+use lib.Seq.{drop-cons}
 use borrow.Author.Tests.{leb-true, le-leb, eqb-true, eq-eqb}
-use Rattle.rules.specs.Choice.{pick, Row, firstOf, within, isEmpty, allAre, joined, same, sameAll}
+use Rattle.rules.specs.Choice.{pick, Row, firstOf, within, isEmpty, allAre, anyIs, joined, same, sameAll}
 
 -- The choice.
 module _ {A : Type 0} where
@@ -221,3 +223,19 @@ module _ {A : Type 0} where
       let t = all-cons p x xs e in
       let t′ = all-cons q x xs e′ in
       both (both (t .0) (t′ .0)) (all-both p q xs (t .1) (t′ .1))
+
+-- Whether one of a list of numbers passes, from a place on: a walk over it ends at one that does, and else goes on.
+module _ (test : ℕ → Bool) (ns : List ℕ) (i : ℕ) where
+  any-step : i < length ns → anyIs test (drop i ns) ≡ test (getD ns i 0) || anyIs test (drop (i + 1) ns)
+  unfolding anyIs
+  any-step h = rw (add-one, drop-cons ns i 0)
+
+  pub any-stops : i < length ns → test (getD ns i 0) ≡ true → anyIs test (drop i ns) ≡ true
+  any-stops h e = any-step h ∙ rw e
+
+  pub any-goes-on : i < length ns → test (getD ns i 0) ≡ false → anyIs test (drop (i + 1) ns) ≡ anyIs test (drop i ns)
+  any-goes-on h e = sym (any-step h ∙ rw e)
+
+  pub any-end : length ns ≤ i → anyIs test (drop i ns) ≡ false
+  unfolding anyIs
+  any-end h = ap (anyIs test) (drop-of-length-le ns h)

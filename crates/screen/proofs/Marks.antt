@@ -1,20 +1,20 @@
 -- Marks and spaces: what they do to the column, and how many of them stand behind a text's first characters.
 use mathlib.Core.Path.{_≡_, refl, sym, ap, _∙_}
-use Prim.Native.Nat.{ℕ, zero, suc, _+_, _^_, min, _≤_, _<_}
+use Prim.Native.Nat.{ℕ, zero, suc, _+_, _-_, _^_, min, _≤_, _<_}
 use native.Mathlib.Omega.{arith}
-use mathlib.Core.Bool.{true}
-use mathlib.Core.List.{List, [], _∷_}
+use mathlib.Core.Bool.{true, false}
+use mathlib.Core.List.{List, [], _∷_, _++_}
 use lib.Dec.{eqb, eqb·suc-zero}
 use lib.ListN.{length, getD, take, drop, replicate}
 use lib.ListN.{length-append, length-take, length-drop, take-append-drop, drop-of-length-le}
 use lib.Seq.{take-take}
 use borrow.Author.Tests.{leb-true}
-use Rattle.rules.specs.Choice.{pick, allAre}
+use Rattle.rules.specs.Choice.{pick, allAre, anyIs}
 use Rattle.rules.specs.Numbers.{topColumn}
 use Rattle.rules.specs.Screen.{SP, isMark, toTab, columnAfter, columnAfterAll, echo, echoAll, marksBehind}
-use Rattle.rules.proofs.Choice.{pick-true, pick-false, pick-case, within-true, both, all-cons}
+use Rattle.rules.proofs.Choice.{pick-true, pick-false, pick-case, within-true, both, or-none, all-cons}
 use Rattle.rules.proofs.Bounds.Screen.{echoAll-length}
-use Rattle.screen.specs.View.{capped}
+use Rattle.screen.specs.Marks.{capped, isTab, firstWorkedOut}
 use Rattle.screen.proofs.Cases.{column-mark}
 use Rattle.screen.proofs.Echoes.{columnAfterAll-append, echoAll-append, echoAll-more}
 
@@ -123,6 +123,36 @@ kept-turn kept column text i k m e =
     let before = marks-none kept column text i (omega arith) in
     let still = marks-none kept column text (i + 1) (omega arith) in
     omega arith
+
+-- Only a tab echoes by its column: a text without one has its marks wherever it stands.
+echo-anywhere : (c d n : ℕ) → isTab n ≡ false → echo c n ≡ echo d n
+unfolding echo isTab
+echo-anywhere c d n e = ap (pick (isMark n) (n ∷ [])) (pick-false _ _ e ∙ sym (pick-false _ _ e))
+
+echoAll-anywhere : (ns : List ℕ) → anyIs isTab ns ≡ false → (c d : ℕ) → echoAll c ns ≡ echoAll d ns
+unfolding echoAll anyIs
+echoAll-anywhere [] none c d = refl
+echoAll-anywhere (n ∷ ns) none c d =
+    let h = or-none (isTab n) (anyIs isTab ns) none in
+    ap (λ l. l ++ echoAll (columnAfterAll c (echo c n)) ns) (echo-anywhere c d n (h .0))
+    ∙ ap (λ l. echo d n ++ l) (echoAll-anywhere ns (h .1) (columnAfterAll c (echo c n)) (columnAfterAll d (echo d n)))
+
+-- so what is found from the first character whose column is worked out is all there is
+module _ (kept column : ℕ) (ns : List ℕ) where
+  pub first-within : firstWorkedOut kept ns ≤ kept
+  unfolding firstWorkedOut
+  first-within = pick-case (λ first. first ≤ kept) _ (λ _. omega arith) (λ _. omega arith)
+
+  pub found-behind : marksBehind (kept - firstWorkedOut kept ns) column (drop (firstWorkedOut kept ns) ns) ≡ marksBehind kept column ns
+  unfolding firstWorkedOut marksBehind
+  found-behind =
+      let zero-left : kept - 0 ≡ kept = omega arith in
+      let none-left : kept - kept ≡ 0 = omega arith in
+      pick-case (λ first. marksBehind (kept - first) column (drop first ns) ≡ marksBehind kept column ns) _ {a = 0} {b = kept}
+      (λ _. ap (λ k. marksBehind k column ns) zero-left)
+      (λ none.
+      ap (λ k. marksBehind k column (drop kept ns)) none-left
+      ∙ ap length (echoAll-anywhere (drop kept ns) none (reached column []) (reached column (take kept ns))))
 
 -- a text that memory holds easily is counted to its end
 pub capped-whole : (kept column : ℕ) (ns : List ℕ) → length ns < 2 ^ 60 →

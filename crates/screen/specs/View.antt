@@ -1,5 +1,5 @@
 -- The screen of the rules that a struct stands for, and what a function that writes to the terminal promises.
-use Prim.Native.Nat.{ℕ, min}
+use Prim.Native.Nat.{ℕ}
 use mathlib.Core.Path.{_≡_}
 use mathlib.Core.List.{List}
 use lib.ListN.{length}
@@ -17,7 +17,3 @@ pub record Writes (bytes : List ℕ) (before : List ℕ) (at : ℕ) (s : Screen)
   pub area : spot after (r .at) ≡ puts bytes (spot before at)
   pub screen : screenView (r .screen) ≡ shownAll (screenView s) bytes
   pub same : length after ≡ length before
-
--- a count, as far as a usize goes
-abbrev pub capped : ℕ → ℕ
-capped n = min n 0xFFFF_FFFF_FFFF_FFFF

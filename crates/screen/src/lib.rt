@@ -17,3 +17,9 @@ pub struct Shown {
     pub screen: Screen,
     pub at: usize,
 }
+
+// Marks and spaces to rub out, and how many columns were worked out to find them: one for each character looked at.
+pub struct Found {
+    pub marks: usize,
+    pub columns: usize,
+}

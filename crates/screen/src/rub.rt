@@ -2,12 +2,14 @@
 ghost use mathlib.Core.Path.{_≡_};
 ghost use Prim.Native.Nat.{_+_, min};
 ghost use lib.Dec.{eqb};
-ghost use lib.ListN.{length};
+ghost use lib.ListN.{length, drop};
 ghost use mathlib.Core.List.{[], _∷_};
-ghost use Rattle.rules.specs.Choice.{pick};
+ghost use Rattle.rules.specs.Choice.{pick, anyIs};
 ghost use Rattle.rules.specs.Numbers.{topColumn};
 ghost use Rattle.rules.specs.Screen as rules;
-ghost use Rattle.screen.specs.View.{Writes, capped};
+ghost use Rattle.screen.specs.View.{Writes};
+ghost use Rattle.screen.specs.Marks.{capped, isTab, firstWorkedOut, Finds};
+use crate::Found;
 use crate::Screen;
 use crate::Shown;
 use crate::columns::further;
@@ -64,23 +66,51 @@ fn count(marks: usize, more: u16) -> usize
     MOST
 }
 
-// The marks and spaces that stand on the screen for a text behind its first characters, shown from a column on. One pass:
-// a tab's width goes by what stands before it.
-pub fn marks_behind(kept: usize, column: u16, text: &[u8]) -> usize
-    ensures { λ r. ⌜ r ≡ capped (rules.marksBehind kept column (now (text .entry))) ⌝ }
+// Whether a tab stands behind a text's first characters.
+fn holds_tab(kept: usize, text: &[u8]) -> bool
+    ensures { λ r. ⌜ r ≡ anyIs isTab (drop kept (now (text .entry))) ⌝ }
 {
+    let mut i = kept;
+    while i < text.len() {
+        if text[i] == characters::HT {
+            return true;
+        }
+        i += 1;
+    }
+    false
+}
+
+// The first character whose column is worked out. Only a tab's width goes by what stands before it: where none is rubbed out,
+// what stays is passed over.
+fn first_worked_out(kept: usize, text: &[u8]) -> usize
+    ensures { λ r. ⌜ r ≡ firstWorkedOut kept (now (text .entry)) ⌝ }
+{
+    if holds_tab(kept, text) {
+        return 0;
+    }
+    kept
+}
+
+// The marks and spaces that stand on the screen for a text behind its first characters, shown from a column on. One pass: a
+// character's column is worked out once or not at all.
+pub fn find_marks(kept: usize, column: u16, text: &[u8]) -> Found
+    ensures { λ r. ⌜ Finds kept column (now (text .entry)) r ⌝ }
+{
+    let first = first_worked_out(kept, text);
     let mut cursor = column;
     let mut marks = 0;
-    let mut i = 0;
+    let mut columns = 0;
+    let mut i = first;
     while i < text.len() {
         let more = width(cursor, text[i]);
+        columns += 1;
         if kept <= i {
             marks = count(marks, more);
         }
         cursor = column_behind(cursor, more);
         i += 1;
     }
-    marks
+    Found { marks, columns }
 }
 
 // Back, a space over the mark, and back again.

@@ -5,7 +5,7 @@ use lib.ListN.{length, drop}
 use borrow.Author.Tests.{eq-eqb, ne-eqb}
 use Rattle.rules.specs.Choice.{anyIs}
 use Rattle.rules.specs.Characteristics.{isDeferredClear}
-use Rattle.characteristics.proofs.Walks.{any-stops, any-goes-on, any-end}
+use Rattle.rules.proofs.Choice.{any-stops, any-goes-on, any-end}
 use Rattle.characteristics.proofs.attributes.any_deferred_clear.Statement.{statement}
 use Rattle.characteristics.proofs.attributes.any_deferred_clear.Tie as tie
 
