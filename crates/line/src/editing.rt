@@ -22,8 +22,7 @@ const NEW_LINE: [u8; 2] = [characters::CR, characters::LF];
 // Asks of the columns that a deletion had worked out: one for each character rubbed out, and none twice.
 fn in_one_pass(columns: usize, left: u16, r: Reading, text: &[u8], t: Terms)
     requires { ⌜ ((l : Line) → InOnePass left (readingOf (lent t (now text) l) r) columns) ⌝ }
-{
-}
+{}
 
 impl Work {
     // Deletes all but the first characters, without rubbing out.

@@ -4,7 +4,6 @@ use native.Mathlib.Omega.{arith}
 use lib.ListN.{length, drop}
 use borrow.Author.Tests.{eq-eqb, ne-eqb}
 use Rattle.rules.specs.Choice.{anyIs}
-use Rattle.rules.specs.Screen.{HT}
 use Rattle.rules.proofs.Choice.{any-stops, any-goes-on, any-end}
 use Rattle.screen.specs.Marks.{isTab}
 use Rattle.screen.proofs.rub.holds_tab.Statement.{statement}
@@ -26,7 +25,7 @@ returns : tie.Need-returns Inv-loop μ-loop
 unfolding isTab
 returns c =
     let a = c .before .before .before in
-    sym (any-stops isTab (a .before .args .text .now) (a .loop .i) (omega arith) (eq-eqb _ HT (c .if1 .taken))) ∙ a .loop .inv
+    sym (any-stops isTab (a .before .args .text .now) (a .loop .i) (omega arith) (eq-eqb _ _ (c .if1 .taken))) ∙ a .loop .inv
 
 add-i : tie.Need-add-i Inv-loop μ-loop
 add-i c = omega arith
@@ -38,7 +37,7 @@ loop-again : tie.Need-loop-again Inv-loop μ-loop
 unfolding isTab
 loop-again c =
     let a = c .before .before .before in
-    any-goes-on isTab (a .before .args .text .now) (a .loop .i) (omega arith) (ne-eqb _ HT (c .if1 .left)) ∙ a .loop .inv
+    any-goes-on isTab (a .before .args .text .now) (a .loop .i) (omega arith) (ne-eqb _ _ (c .if1 .left)) ∙ a .loop .inv
 
 returns-2 : tie.Need-returns-2 Inv-loop μ-loop
 returns-2 c =
