@@ -1,12 +1,11 @@
 -- What a deletion rubs out: the marks of what is displayed, and the columns worked out to find them.
-use mathlib.Core.Path.{_≡_, sym, ap, _∙_}
+use mathlib.Core.Path.{_≡_, refl, sym, ap, _∙_}
 use Prim.Native.Nat.{ℕ, _+_, _-_, _^_, _≤_, _<_}
 use native.Mathlib.Omega.{arith}
 use mathlib.Core.Bool.{Bool, true, false}
 use mathlib.Core.List.{List, []}
 use lib.ListN.{length, take, drop, length-take, length-drop}
 use Rattle.rules.specs.Choice.{bit, joined}
-use Rattle.rules.specs.Numbers.{inputSize}
 use Rattle.rules.specs.State.{codes}
 use Rattle.rules.specs.Screen.{marksBehind, rubOut}
 use Rattle.rules.specs.Editing.{hiddenCount, displayed, rubOutBytes}
@@ -28,37 +27,45 @@ bit-most : (b : Bool) → bit b ≤ 1
 unfolding bit
 bit-most b = pick-case (λ (n : ℕ). n ≤ 1) b (λ _. omega arith) (λ _. omega arith)
 
-module _ (left : ℕ) (t : Terms) (r : Reading) (text : List ℕ) (counted : CountedReading r text) (l : Line) where
+module _ (left : ℕ) (t : Terms) (r : Reading) (text : List ℕ) (l : Line) where
   abbrev line : Line
   line = lent t text l
 
-  -- in a read that does not echo nothing is found
+  -- a read that does not echo
   pub rubs-none : t .echoes ≡ false → RubsOut left (readingOf line r) (record { marks = 0; columns = 0 })
   unfolding rubOutBytes rubOut joined rubbedOut
   rubs-none quiet =
       let none = ap length (pick-false (drop left (inputOf (r .«input_len») text)) [] quiet) in
       record { marks = sym (pick-false _ [] quiet); once = record { least = omega arith; most = omega arith } }
 
-  all-length : length (inputOf (r .«input_len») text) ≡ r .«input_len»
-  all-length = input-length (r .«input_len») text (omega (arith, counted .within, counted .full))
+  -- one that does: what is displayed begins at `start`, and `kept` of it stay
+  module _ (echoes : t .echoes ≡ true) (counted : CountedReading r text) (fits : left ≤ r .«input_len»)
+      {start kept : ℕ} (shown : ShownFrom r start) (k : kept ≡ left - bit (r .«hidden_lf»)) where
+    abbrev part : List ℕ
+    part = take (r .«input_len» - start) (drop start text)
 
-  module _ (echoes : t .echoes ≡ true) (fits : left ≤ r .«input_len») where
-    removed-length : length (rubbedOut left (readingOf line r)) ≡ r .«input_len» - left
+    all-length : length (inputOf (r .«input_len») text) ≡ r .«input_len»
+    all-length = input-length (r .«input_len») text (omega (arith, counted .within, counted .full))
+
+    rubbed-length : (n : ℕ) → length (rubbedOut n (readingOf line r)) ≡ r .«input_len» - n
     unfolding rubbedOut
-    removed-length =
-        ap length (pick-true _ [] echoes)
-        ∙ length-drop left (inputOf (r .«input_len») text)
-        ∙ ap (λ n. n - left) all-length
+    rubbed-length n =
+        ap length (pick-true _ [] echoes) ∙ length-drop n (inputOf (r .«input_len») text) ∙ ap (λ all. all - n) all-length
 
-    module _ {start kept : ℕ} (shown : ShownFrom r start) (k : kept ≡ left - bit (r .«hidden_lf»)) {found : Found}
-        (finds : Finds kept (r .«display_column») (take (r .«input_len» - start) (drop start text)) found) where
-      abbrev part : List ℕ
-      part = take (r .«input_len» - start) (drop start text)
+    part-length : length part ≡ r .«input_len» - start
+    part-length =
+        omega (arith, length-take (r .«input_len» - start) (drop start text), length-drop start text, counted .within, counted .full)
 
-      part-length : length part ≡ r .«input_len» - start
-      part-length =
-          omega (arith, length-take (r .«input_len» - start) (drop start text), length-drop start text, counted .within, counted .full)
+    -- all but a hidden one is displayed
+    displayed-length : r .«input_len» - start ≡ r .«input_len» - bit (r .«hidden_lf»)
+    unfolding inputOf
+    displayed-length =
+        sym part-length
+        ∙ ap length (shown .text line ∙ displayed-is r line)
+        ∙ length-drop (bit (r .«hidden_lf»)) (take (r .«input_len») text)
+        ∙ ap (λ n. n - bit (r .«hidden_lf»)) all-length
 
+    module _ {found : Found} (finds : Finds kept (r .«display_column») part found) where
       marks-found : rubOut (found .marks) ≡ rubOutBytes codes left (readingOf line r)
       unfolding rubOutBytes hiddenCount
       marks-found =
@@ -70,33 +77,25 @@ module _ (left : ℕ) (t : Terms) (r : Reading) (text : List ℕ) (counted : Cou
           ∙ ap (λ n. marksBehind n (r .«display_column») (displayed codes (readingOf line r))) k)
           ∙ sym (pick-true _ [] echoes)
 
-      -- all but a hidden one is displayed
-      displayed-length : r .«input_len» - start ≡ r .«input_len» - bit (r .«hidden_lf»)
-      displayed-length =
-          sym part-length ∙ ap length (shown .text line ∙ displayed-is r line)
-          ∙ length-drop (bit (r .«hidden_lf»)) (take (r .«input_len») text)
-          ∙ ap (λ n. n - bit (r .«hidden_lf»)) (omega (arith, length-take (r .«input_len») text, counted .within, counted .full))
+      -- so many more columns are counted as hidden characters go
+      once-found : (hidden columns : ℕ) → columns ≡ found .columns + hidden →
+          r .«input_len» ≤ left + hidden + (r .«input_len» - start - kept) → hidden ≤ start →
+          RubsOut left (readingOf line r) (record { marks = found .marks; columns = columns })
+      once-found hidden columns e enough few =
+          let first = first-within kept (r .«display_column») part in
+          record {
+            marks = marks-found;
+            once = record {
+              least = omega (arith, rubbed-length left, part-length, finds .columns);
+              most = omega (arith, rubbed-length 0, part-length, finds .columns, shown .within);
+            };
+          }
 
-      pub rubs-behind : 0 < left → RubsOut left (readingOf line r) found
-      rubs-behind some =
+      pub rubs-some : 0 < left → RubsOut left (readingOf line r) found
+      rubs-some some =
           let one = bit-most (r .«hidden_lf») in
-          let first = first-within kept (r .«display_column») part in
-          record {
-            marks = marks-found;
-            once = record {
-              least = omega (arith, removed-length, part-length, displayed-length, finds .columns, shown .within);
-              most = omega (arith, all-length, part-length, finds .columns);
-            };
-          }
+          once-found 0 (found .columns) (omega arith) (omega (arith, displayed-length, shown .within)) (omega arith)
 
-      -- a hidden one goes with the first character
+      -- a hidden one goes where none is left
       pub rubs-all : left ≡ 0 → RubsOut left (readingOf line r) (record { marks = found .marks; columns = found .columns + start })
-      rubs-all none =
-          let first = first-within kept (r .«display_column») part in
-          record {
-            marks = marks-found;
-            once = record {
-              least = omega (arith, removed-length, part-length, finds .columns, shown .within);
-              most = omega (arith, all-length, part-length, finds .columns, shown .within);
-            };
-          }
+      rubs-all none = once-found start (found .columns + start) refl (omega (arith, shown .within)) (omega arith)

@@ -40,14 +40,15 @@ pub record ShownFrom (r : Reading) (start : ℕ) : Type 0 where
   pub text : (l : Line) → take (r .«input_len» - start) (drop start (l .text)) ≡ displayed rules.codes (readingOf l r)
   pub within : start ≤ r .«input_len»
 
--- the characters that are rubbed out when all but the first ones are deleted: none in a read that does not echo
+-- the characters that are rubbed out when all but the first ones of what stands after END-OF-PROMPT are deleted: none in a read that
+-- does not echo
 unfoldable pub rubbedOut : ℕ → rules.Reading ℕ → List ℕ
 rubbedOut left r = pick (r .terms .echoes) (drop left (r .input)) []
 
--- columns worked out in one pass at most: one for each character rubbed out, and none twice of what stands after END-OF-PROMPT
+-- columns worked out in one pass at most: one for each character rubbed out, and none twice of all that could be
 pub record InOnePass (left : ℕ) (r : rules.Reading ℕ) (columns : ℕ) : Type 0 where
   pub least : length (rubbedOut left r) ≤ columns
-  pub most : columns ≤ length (r .input)
+  pub most : columns ≤ length (rubbedOut 0 r)
 
 -- what deleting rubs out, and the columns that were worked out to find it
 pub record RubsOut (left : ℕ) (r : rules.Reading ℕ) (found : Found) : Type 0 where

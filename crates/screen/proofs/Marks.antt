@@ -3,7 +3,7 @@ use mathlib.Core.Path.{_≡_, refl, sym, ap, _∙_}
 use Prim.Native.Nat.{ℕ, zero, suc, _+_, _-_, _^_, min, _≤_, _<_}
 use native.Mathlib.Omega.{arith}
 use mathlib.Core.Bool.{true, false}
-use mathlib.Core.List.{List, [], _∷_, _++_}
+use mathlib.Core.List.{List, [], _∷_, _++_, map}
 use lib.Dec.{eqb, eqb·suc-zero}
 use lib.ListN.{length, getD, take, drop, replicate}
 use lib.ListN.{length-append, length-take, length-drop, take-append-drop, drop-of-length-le}
@@ -11,7 +11,7 @@ use lib.Seq.{take-take}
 use borrow.Author.Tests.{leb-true}
 use Rattle.rules.specs.Choice.{pick, allAre, anyIs}
 use Rattle.rules.specs.Numbers.{topColumn}
-use Rattle.rules.specs.Screen.{SP, isMark, toTab, columnAfter, columnAfterAll, echo, echoAll, marksBehind}
+use Rattle.rules.specs.Screen.{HT, SP, isMark, toTab, columnAfter, columnAfterAll, echo, echoAll, marksBehind}
 use Rattle.rules.proofs.Choice.{pick-true, pick-false, pick-case, within-true, both, or-none, all-cons}
 use Rattle.rules.proofs.Bounds.Screen.{echoAll-length}
 use Rattle.screen.specs.Marks.{capped, isTab, firstWorkedOut}
@@ -136,6 +136,11 @@ echoAll-anywhere (n ∷ ns) none c d =
     let h = or-none (isTab n) (anyIs isTab ns) none in
     ap (λ l. l ++ echoAll (columnAfterAll c (echo c n)) ns) (echo-anywhere c d n (h .0))
     ∙ ap (λ l. echo d n ++ l) (echoAll-anywhere ns (h .1) (columnAfterAll c (echo c n)) (columnAfterAll d (echo d n)))
+
+-- the columns worked out for a tab between two characters, of which 0, 1, 2, 3 or 4 are kept
+columns-of-tab : map (λ kept. 3 - firstWorkedOut kept (0x61 ∷ HT ∷ 0x62 ∷ [])) (0 ∷ 1 ∷ 2 ∷ 3 ∷ 4 ∷ []) ≡ 3 ∷ 3 ∷ 1 ∷ 0 ∷ 0 ∷ []
+unfolding firstWorkedOut anyIs isTab pick
+columns-of-tab = refl
 
 -- so what is found from the first character whose column is worked out is all there is
 module _ (kept column : ℕ) (ns : List ℕ) where

@@ -80,8 +80,8 @@ fn holds_tab(kept: usize, text: &[u8]) -> bool
     false
 }
 
-// The first character whose column is worked out. Only a tab's width goes by what stands before it: where none is rubbed out,
-// what stays is passed over.
+// The first character whose column is worked out. Only a tab's width goes by the column before it: where none goes, what stays
+// is passed over.
 fn first_worked_out(kept: usize, text: &[u8]) -> usize
     ensures { λ r. ⌜ r ≡ firstWorkedOut kept (now (text .entry)) ⌝ }
 {
@@ -92,7 +92,8 @@ fn first_worked_out(kept: usize, text: &[u8]) -> usize
 }
 
 // The marks and spaces that stand on the screen for a text behind its first characters, shown from a column on. One pass: a
-// character's column is worked out once or not at all.
+// character's column is worked out once or not at all. Where what stays is passed over, the cursor is not the screen's, and no
+// width asks for it.
 pub fn find_marks(kept: usize, column: u16, text: &[u8]) -> Found
     ensures { λ r. ⌜ Finds kept column (now (text .entry)) r ⌝ }
 {

@@ -40,8 +40,8 @@ rules! {
     // Tick.
     TickNothing, TickWaiting, TickHeld, TickIdle, TickIdlePartial, TickTimeout,
     // The screen.
-    EchoTab, EchoControl, EchoHigh, EchoNothing, RubTab, RubControl, RubNothing, RubNoEcho,
-    ColumnTop, BackspaceAtEdge,
+    EchoTab, EchoControl, EchoHigh, EchoNothing, RubTab, RubTabBehindText, RubTabBehindHiddenLf,
+    RubBehindTab, RubControl, RubNothing, RubNoEcho, ColumnTop, BackspaceAtEdge,
     // Host messages.
     Initiated, InitiatedLoaded, ReadPending, ReadFullAtOnce, ReadClears, ReadClearsHeld, FormattingLf,
     FormattingNoLf, HiddenLfInPrompt, HiddenLfInData, HiddenLfDeleted, HiddenLfRedisplayed,

@@ -53,10 +53,14 @@ impl Line {
         if read.buffer.len() <= end {
             return;
         }
-        let removed = &read.buffer[end..];
+        let (stays, removed) = read.buffer[read.end_of_prompt..].split_at(end - read.end_of_prompt);
         if rub_out && read.echo {
             let marks = read.marks_after(end);
-            self.seen.met_if(removed.contains(&HT), Rule::RubTab);
+            let tab = removed.contains(&HT);
+            self.seen.met_if(tab, Rule::RubTab);
+            self.seen.met_if(tab && !stays.is_empty(), Rule::RubTabBehindText);
+            self.seen.met_if(tab && read.hides(read.end_of_prompt), Rule::RubTabBehindHiddenLf);
+            self.seen.met_if(!tab && stays.contains(&HT), Rule::RubBehindTab);
             let control = |code: &u8| (*code < 32 && *code != HT) || *code == 127;
             self.seen.met_if(removed.iter().any(control), Rule::RubControl);
             self.seen.met_if(marks == 0, Rule::RubNothing);

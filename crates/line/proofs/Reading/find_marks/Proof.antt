@@ -1,6 +1,6 @@
 use native.Mathlib.Omega.{arith}
 use borrow.Author.Needs.{needs}
-use Rattle.line.proofs.RubbedOut.{rubs-none, rubs-behind, rubs-all}
+use Rattle.line.proofs.RubbedOut.{rubs-none, rubs-some, rubs-all}
 use Rattle.line.proofs.Reading.find_marks.Statement.{statement}
 use Rattle.line.proofs.Reading.find_marks.Tie as tie
 
@@ -30,10 +30,9 @@ returns c =
     let a = c .before .before .before .before .before in
     let start = a .before .before .before in
     let args = start .args in
-    let kept = c .before .before .before .shown-of .ensures in
     λ l.
-    rubs-behind (args .left) (args .t) (args .self) (args .text .now) (start .pre .0) l (a .before .if1 .taken) (start .pre .1) (a .first-shown .ensures) kept
-    (c .before .find-marks .ensures) (c .if2 .taken)
+    rubs-some (args .left) (args .t) (args .self) (args .text .now) l (a .before .if1 .taken) (start .pre .0) (start .pre .1) (a .first-shown .ensures)
+    (c .before .before .before .shown-of .ensures) (c .before .find-marks .ensures) (c .if2 .taken)
 
 add-t12 : tie.Need-add-t12
 add-t12 c = search needs
@@ -44,16 +43,14 @@ returns-2 c =
     let a = d .before .before .before .before .before in
     let start = a .before .before .before in
     let args = start .args in
-    let kept = d .before .before .before .shown-of .ensures in
     λ l.
-    rubs-all (args .left) (args .t) (args .self) (args .text .now) (start .pre .0) l (a .before .if1 .taken) (start .pre .1) (a .first-shown .ensures) kept
-    (d .before .find-marks .ensures) (omega arith)
+    rubs-all (args .left) (args .t) (args .self) (args .text .now) l (a .before .if1 .taken) (start .pre .0) (start .pre .1) (a .first-shown .ensures)
+    (d .before .before .before .shown-of .ensures) (d .before .find-marks .ensures) (omega arith)
 
 returns-3 : tie.Need-returns-3
 returns-3 c =
-    let start = c .before .before in
-    let args = start .args in
-    λ l. rubs-none (args .left) (args .t) (args .self) (args .text .now) (start .pre .0) l (c .if1 .left)
+    let args = c .before .before .args in
+    λ l. rubs-none (args .left) (args .t) (args .self) (args .text .now) l (c .if1 .left)
 
 pub find-marks-spec : {M : Type 1} → statement M
 find-marks-spec =
