@@ -1,6 +1,6 @@
 -- Laws that the proofs of the functions apply; Held has those that a line cites.
 mod Masks
-mod Walks
+mod AllCarried
 mod Obeying
 mod ReportLaws
 pub mod Held

@@ -24,7 +24,7 @@ use Rattle.parameters.proofs.Shapes.{parameters-end}
 use Rattle.parameters.specs.Lists.{settingBytes}
 use Rattle.writing.proofs.Settings.{selector-bytes}
 use Rattle.characteristics.specs.Lists.{questionsIn, answersFrom, answerTo}
-use Rattle.characteristics.proofs.Walks.{allCarried}
+use Rattle.characteristics.proofs.AllCarried.{allCarried}
 
 -- One question.
 module _ (h : Host) (p : List ℕ) where

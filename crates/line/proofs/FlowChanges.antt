@@ -51,20 +51,6 @@ module _ {w r : Progress} {t t′ m m′ : List ℕ} where
       Does (completes codes code n e) w t m r t′ m′ → Does (completes codes code′ n′ e′) w t m r t′ m′
   completes-as p q e h = rw (sym p, sym q, sym e) h
 
-  nothing-does : {g : Rule ℕ} → Does g w t m r t′ m′ → Does (writes [] then g) w t m r t′ m′
-  unfolding _then_ behind writes messageBytes shownAll
-  nothing-does h =
-      record {
-        state = h .state;
-        shows = h .shows;
-        sends = h .sends;
-        terminalLength = h .terminalLength;
-        messagesLength = h .messagesLength;
-      }
-
-  pub unwritten-does : {g : Rule ℕ} {bs : List ℕ} → bs ≡ [] → Does g w t m r t′ m′ → Does (writes bs then g) w t m r t′ m′
-  unwritten-does e h = rw e (nothing-does h)
-
 none-does : (w : Progress) (t m : List ℕ) → Does (writes []) w t m w t m
 unfolding writes shownAll messageBytes joined puts
 none-does w t m = record { state = refl; shows = refl; sends = refl; terminalLength = refl; messagesLength = refl }

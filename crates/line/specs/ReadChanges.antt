@@ -1,15 +1,16 @@
 -- What the methods on a read promise.
 use Prim.Native.Nat.{ℕ, _+_, _-_, _≤_, _<_}
 use mathlib.Core.Path.{_≡_}
-use mathlib.Core.Bool.{Bool, not}
+use mathlib.Core.Bool.{Bool, false, not}
 use mathlib.Core.List.{List, []}
 use lib.ListN.{length, take, drop}
 use Rattle.rules.specs.Numbers.{inputSize}
-use Rattle.rules.specs.Choice.{pick}
+use Rattle.rules.specs.Choice.{pick, anyIs}
 use Rattle.rules.specs.State as rules
 use Rattle.rules.specs.Screen.{rubOut}
 use Rattle.rules.specs.Editing.{isWord, leftByDeleteWord, inputCodes, displayed, shortened, rubOutBytes}
 use Rattle.rules.specs.Steps.{appended}
+use Rattle.screen.specs.Marks.{isTab}
 use Rattle.screen.specs.declared.Found.{Found}
 use Rattle.line.specs.declared.Terms.{Terms}
 use Rattle.line.specs.declared.Reading.{Reading}
@@ -45,10 +46,12 @@ pub record ShownFrom (r : Reading) (start : ℕ) : Type 0 where
 unfoldable pub rubbedOut : ℕ → rules.Reading ℕ → List ℕ
 rubbedOut left r = pick (r .terms .echoes) (drop left (r .input)) []
 
--- columns worked out in one pass at most: one for each character rubbed out, and none twice of all that could be
+-- columns worked out in one pass at most: at least one for each character rubbed out, at most one for each that could be, which is all
+-- after END-OF-PROMPT in a read that echoes; and for a text without a tab no more than its own
 pub record InOnePass (left : ℕ) (r : rules.Reading ℕ) (columns : ℕ) : Type 0 where
   pub least : length (rubbedOut left r) ≤ columns
   pub most : columns ≤ length (rubbedOut 0 r)
+  pub own : anyIs isTab (rubbedOut left r) ≡ false → columns ≡ length (rubbedOut left r)
 
 -- what deleting rubs out, and the columns that were worked out to find it
 pub record RubsOut (left : ℕ) (r : rules.Reading ℕ) (found : Found) : Type 0 where

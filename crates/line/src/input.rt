@@ -142,10 +142,9 @@ impl Reading {
     }
 
     // The marks and spaces to rub out when all but its first characters go: none in a read that does not echo. The LF that F
-    // hides takes no column; it goes when none is left, and then counts as one worked out.
+    // hides takes no column; it goes when no character is left, and then counts as one worked out.
     pub(crate) fn find_marks(self, left: u16, text: &[u8], t: Terms) -> Found
         requires { ⌜ CountedReading self (now text) ⌝ }
-        requires { ⌜ left ≤ self .«input_len» ⌝ }
         ensures { λ found. ⌜ ((l : Line) → RubsOut left (readingOf (lent t (now (text .entry)) l) self) found) ⌝ }
     {
         if t.echoes {

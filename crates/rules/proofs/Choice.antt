@@ -224,6 +224,13 @@ module _ {A : Type 0} where
       let t′ = all-cons q x xs e′ in
       both (both (t .0) (t′ .0)) (all-both p q xs (t .1) (t′ .1))
 
+  -- where none passes, none does from a place on
+  pub any-none : (test : A → Bool) (i : ℕ) (xs : List A) → anyIs test xs ≡ false → anyIs test (drop i xs) ≡ false
+  unfolding anyIs
+  any-none test zero xs e = e
+  any-none test (suc i) [] e = e
+  any-none test (suc i) (x ∷ xs) e = any-none test i xs (or-none (test x) (anyIs test xs) e .1)
+
 -- Whether one of a list of numbers passes, from a place on: a walk over it ends at one that does, and else goes on.
 module _ (test : ℕ → Bool) (ns : List ℕ) (i : ℕ) where
   any-step : i < length ns → anyIs test (drop i ns) ≡ test (getD ns i 0) || anyIs test (drop (i + 1) ns)

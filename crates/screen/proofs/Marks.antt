@@ -137,27 +137,31 @@ echoAll-anywhere (n ∷ ns) none c d =
     ap (λ l. l ++ echoAll (columnAfterAll c (echo c n)) ns) (echo-anywhere c d n (h .0))
     ∙ ap (λ l. echo d n ++ l) (echoAll-anywhere ns (h .1) (columnAfterAll c (echo c n)) (columnAfterAll d (echo d n)))
 
--- the columns worked out for a tab between two characters, of which 0, 1, 2, 3 or 4 are kept
-columns-of-tab : map (λ kept. 3 - firstWorkedOut kept (0x61 ∷ HT ∷ 0x62 ∷ [])) (0 ∷ 1 ∷ 2 ∷ 3 ∷ 4 ∷ []) ≡ 3 ∷ 3 ∷ 1 ∷ 0 ∷ 0 ∷ []
+pub first-within : (kept : ℕ) (ns : List ℕ) → firstWorkedOut kept ns ≤ kept
+unfolding firstWorkedOut
+first-within kept ns = pick-case (λ first. first ≤ kept) _ (λ _. omega arith) (λ _. omega arith)
+
+pub first-kept : (kept : ℕ) (ns : List ℕ) → anyIs isTab (drop kept ns) ≡ false → firstWorkedOut kept ns ≡ kept
+unfolding firstWorkedOut
+first-kept kept ns none = pick-false 0 kept none
+
+-- computed: a tab between two characters, of which 0 to 4 are kept
+first-by-tab : map (λ kept. firstWorkedOut kept (0x61 ∷ HT ∷ 0x62 ∷ [])) (0 ∷ 1 ∷ 2 ∷ 3 ∷ 4 ∷ []) ≡ 0 ∷ 0 ∷ 2 ∷ 3 ∷ 4 ∷ []
 unfolding firstWorkedOut anyIs isTab pick
-columns-of-tab = refl
+first-by-tab = refl
 
 -- so what is found from the first character whose column is worked out is all there is
-module _ (kept column : ℕ) (ns : List ℕ) where
-  pub first-within : firstWorkedOut kept ns ≤ kept
-  unfolding firstWorkedOut
-  first-within = pick-case (λ first. first ≤ kept) _ (λ _. omega arith) (λ _. omega arith)
-
-  pub found-behind : marksBehind (kept - firstWorkedOut kept ns) column (drop (firstWorkedOut kept ns) ns) ≡ marksBehind kept column ns
-  unfolding firstWorkedOut marksBehind
-  found-behind =
-      let zero-left : kept - 0 ≡ kept = omega arith in
-      let none-left : kept - kept ≡ 0 = omega arith in
-      pick-case (λ first. marksBehind (kept - first) column (drop first ns) ≡ marksBehind kept column ns) _ {a = 0} {b = kept}
-      (λ _. ap (λ k. marksBehind k column ns) zero-left)
-      (λ none.
-      ap (λ k. marksBehind k column (drop kept ns)) none-left
-      ∙ ap length (echoAll-anywhere (drop kept ns) none (reached column []) (reached column (take kept ns))))
+pub found-behind : (kept column : ℕ) (ns : List ℕ) →
+    marksBehind (kept - firstWorkedOut kept ns) column (drop (firstWorkedOut kept ns) ns) ≡ marksBehind kept column ns
+unfolding firstWorkedOut marksBehind
+found-behind kept column ns =
+    let zero-left : kept - 0 ≡ kept = omega arith in
+    let none-left : kept - kept ≡ 0 = omega arith in
+    pick-case (λ first. marksBehind (kept - first) column (drop first ns) ≡ marksBehind kept column ns) _ {a = 0} {b = kept}
+    (λ _. ap (λ k. marksBehind k column ns) zero-left)
+    (λ none.
+    ap (λ k. marksBehind k column (drop kept ns)) none-left
+    ∙ ap length (echoAll-anywhere (drop kept ns) none (reached column []) (reached column (take kept ns))))
 
 -- a text that memory holds easily is counted to its end
 pub capped-whole : (kept column : ℕ) (ns : List ℕ) → length ns < 2 ^ 60 →

@@ -18,7 +18,7 @@ pub struct Shown {
     pub at: usize,
 }
 
-// Marks and spaces to rub out, and how many columns were worked out to find them: one for each character looked at.
+// Marks and spaces to rub out, and how many columns were worked out to find them: one for each width that was asked.
 pub struct Found {
     pub marks: usize,
     pub columns: usize,

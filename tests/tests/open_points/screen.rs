@@ -117,13 +117,13 @@ fn point_42_lost_output() {
 fn point_92_rubbed_out_with_a_tab_and_without() {
     let rubbed = |marks: usize| "08 20 08 ".repeat(marks).trim_end().to_owned();
     // Marks for `a`, `b`, a tab from column 3 to 8, and `c`.
-    let typed = || {
+    let with_tab = || {
         let mut bench = Bench::initiated();
         start(ZZ1, b"?", b"").on(&mut bench);
         bench.typed(b"ab\tc");
         bench
     };
-    let mut bench = typed();
+    let mut bench = with_tab();
     assert_eq!(bench.typed(&[127]).0, rubbed(1));
     assert_eq!(bench.typed(&[127]).0, rubbed(5));
     // A control takes two columns and 150 none.
@@ -131,12 +131,12 @@ fn point_92_rubbed_out_with_a_tab_and_without() {
     for marks in [3, 0, 2, 1, 1] {
         assert_eq!(bench.typed(&[127]).0, rubbed(marks));
     }
-    let mut bench = typed();
+    let mut bench = with_tab();
     assert_eq!(bench.typed(&[23]).0, rubbed(1));
     assert_eq!(bench.typed(&[23]).0, rubbed(7));
-    assert_eq!(typed().typed(&[21]).0, rubbed(8));
-    assert_eq!(typed().key(24).1, rubbed(8));
-    assert_eq!(typed().host("06 00").1, rubbed(8));
+    assert_eq!(with_tab().typed(&[21]).0, rubbed(8));
+    assert_eq!(with_tab().key(24).1, rubbed(8));
+    assert_eq!(with_tab().host("06 00").1, rubbed(8));
     // 18 moves the column from which a tab is replayed.
     let mut bench = Bench::initiated();
     bench.number("07 00 00 00 00 41 41 41 41 41");
@@ -146,10 +146,10 @@ fn point_92_rubbed_out_with_a_tab_and_without() {
     assert_eq!(bench.typed(&[127]).0, rubbed(1));
     assert_eq!(bench.typed(&[127]).0, rubbed(6));
     // F's LF takes no column, whether it stays or goes.
-    for (code, marks) in [(127, 1), (23, 1), (21, 9)] {
+    for (codes, marks) in [(&[127, 127][..], 2), (&[23, 127], 2), (&[23, 23], 9), (&[21], 9)] {
         let mut bench = Bench::initiated();
-        start(F | ZZ1, b"", b"\na\tb").on(&mut bench);
-        assert_eq!(bench.typed(&[code]).0, rubbed(marks));
+        start(F | ZZ1, b"", b"\nabcdefg\tb").on(&mut bench);
+        assert_eq!(bench.typed(codes).0, rubbed(marks));
         assert_eq!(bench.typed(&[21]).0, rubbed(9 - marks));
     }
 }

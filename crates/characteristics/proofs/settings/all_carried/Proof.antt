@@ -4,7 +4,7 @@ use native.Mathlib.Omega.{arith}
 use lib.ListN.{length}
 use borrow.Author.Tests.{not-true, not-false}
 use Rattle.parameters.specs.Lists.{parametersFrom}
-use Rattle.characteristics.proofs.Walks.{allCarried, all-stops, all-goes-on, all-end}
+use Rattle.characteristics.proofs.AllCarried.{allCarried, all-stops, all-goes-on, all-end}
 use Rattle.characteristics.proofs.settings.all_carried.Statement.{statement}
 use Rattle.characteristics.proofs.settings.all_carried.Tie as tie
 

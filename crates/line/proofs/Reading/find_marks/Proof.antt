@@ -31,7 +31,7 @@ returns c =
     let start = a .before .before .before in
     let args = start .args in
     λ l.
-    rubs-some (args .left) (args .t) (args .self) (args .text .now) l (a .before .if1 .taken) (start .pre .0) (start .pre .1) (a .first-shown .ensures)
+    rubs-some (args .left) (args .t) (args .self) (args .text .now) l (a .before .if1 .taken) (start .pre) (a .first-shown .ensures)
     (c .before .before .before .shown-of .ensures) (c .before .find-marks .ensures) (c .if2 .taken)
 
 add-t12 : tie.Need-add-t12
@@ -44,7 +44,7 @@ returns-2 c =
     let start = a .before .before .before in
     let args = start .args in
     λ l.
-    rubs-all (args .left) (args .t) (args .self) (args .text .now) l (a .before .if1 .taken) (start .pre .0) (start .pre .1) (a .first-shown .ensures)
+    rubs-all (args .left) (args .t) (args .self) (args .text .now) l (a .before .if1 .taken) (start .pre) (a .first-shown .ensures)
     (d .before .before .before .shown-of .ensures) (d .before .find-marks .ensures) (omega arith)
 
 returns-3 : tie.Need-returns-3
