@@ -92,8 +92,8 @@ fn first_worked_out(kept: usize, text: &[u8]) -> usize
 }
 
 // The marks and spaces that stand on the screen for a text behind its first characters, shown from a column on. One pass: a
-// character's column is worked out once or not at all. Where what stays is passed over, the cursor is not where the screen's
-// stood: only a tab would ask.
+// character's column is worked out once or not at all. Where what stays is passed over, the cursor is not the screen's, which
+// only a tab would ask for.
 pub fn find_marks(kept: usize, column: u16, text: &[u8]) -> Found
     ensures { λ r. ⌜ Finds kept column (now (text .entry)) r ⌝ }
 {
