@@ -12,7 +12,7 @@ use Rattle.rules.specs.Area.{puts, spot}
 use Rattle.rules.specs.State as rules
 use Rattle.rules.specs.State.{codes, withTyped, withToken, withRead, withDisplayColumn, withIdle}
 use Rattle.rules.specs.Screen.{shownAll, change}
-use Rattle.rules.specs.Turns.{Rule, still, writes, changes, behind, _then_, only}
+use Rattle.rules.specs.Turns.{Rule, still, writes, changes, only}
 use Rattle.rules.specs.Token.{isWhole}
 use Rattle.rules.specs.ReadData.{endsRead, moreData, readDataOf, completes}
 use Rattle.rules.specs.Calls.{messageBytes}

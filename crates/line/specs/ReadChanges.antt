@@ -11,7 +11,7 @@ use Rattle.rules.specs.Screen.{rubOut}
 use Rattle.rules.specs.Editing.{isWord, leftByDeleteWord, inputCodes, displayed, shortened, rubOutBytes}
 use Rattle.rules.specs.Steps.{appended}
 use Rattle.screen.specs.Marks.{isTab}
-use Rattle.screen.specs.declared.Found.{Found}
+use Rattle.screen.specs.declared.RubOut.{RubOut}
 use Rattle.line.specs.declared.Terms.{Terms}
 use Rattle.line.specs.declared.Reading.{Reading}
 use Rattle.line.specs.declared.Line.{Line}
@@ -41,20 +41,19 @@ pub record ShownFrom (r : Reading) (start : ℕ) : Type 0 where
   pub text : (l : Line) → take (r .«input_len» - start) (drop start (l .text)) ≡ displayed rules.codes (readingOf l r)
   pub within : start ≤ r .«input_len»
 
--- the characters that are rubbed out when all but the first ones of what stands after END-OF-PROMPT are deleted: none in a read that
--- does not echo
+-- what is rubbed out when all but the first characters after END-OF-PROMPT are deleted: nothing in a read that does not echo
 unfoldable pub rubbedOut : ℕ → rules.Reading ℕ → List ℕ
 rubbedOut left r = pick (r .terms .echoes) (drop left (r .input)) []
 
--- columns worked out in one pass at most: at least one for each character rubbed out, at most one for each that could be, which is all
--- after END-OF-PROMPT in a read that echoes; and for a text without a tab no more than its own
+-- how many columns are worked out: at least one for each character rubbed out, at most one for each that deleting all would rub out;
+-- where no tab is rubbed out, exactly the least
 pub record InOnePass (left : ℕ) (r : rules.Reading ℕ) (columns : ℕ) : Type 0 where
   pub least : length (rubbedOut left r) ≤ columns
   pub most : columns ≤ length (rubbedOut 0 r)
-  pub own : anyIs isTab (rubbedOut left r) ≡ false → columns ≡ length (rubbedOut left r)
+  pub without-tab : anyIs isTab (rubbedOut left r) ≡ false → columns ≡ length (rubbedOut left r)
 
 -- what deleting rubs out, and the columns that were worked out to find it
-pub record RubsOut (left : ℕ) (r : rules.Reading ℕ) (found : Found) : Type 0 where
+pub record RubsOut (left : ℕ) (r : rules.Reading ℕ) (found : RubOut) : Type 0 where
   pub marks : rubOut (found .marks) ≡ rubOutBytes rules.codes left r
   pub once : InOnePass left r (found .columns)
 

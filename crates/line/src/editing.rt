@@ -19,7 +19,7 @@ use rules::characters;
 // The carriage return and line feed of a redisplay.
 const NEW_LINE: [u8; 2] = [characters::CR, characters::LF];
 
-// Does nothing: what it requires is what `deletes` has to show of the columns worked out.
+// Does nothing: what it requires, `deletes` has to show of the columns worked out.
 fn in_one_pass(columns: usize, left: u16, r: Reading, text: &[u8], t: Terms)
     requires { ⌜ ((l : Line) → InOnePass left (readingOf (lent t (now text) l) r) columns) ⌝ }
 {}

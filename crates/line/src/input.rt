@@ -13,7 +13,7 @@ ghost use Rattle.line.specs.Bounded.{CountedReading};
 ghost use Rattle.line.specs.ReadChanges.{Shortened, Appends, ShownFrom, RubsOut, LeftByDeleteWord, ofClass, idling, shownAt};
 use crate::Reading;
 use crate::Terms;
-use screen::Found;
+use screen::RubOut;
 
 // The smaller of the two.
 fn lower(a: u16, b: u32) -> u16
@@ -141,9 +141,9 @@ impl Reading {
         left as usize
     }
 
-    // The marks and spaces to rub out when all but its first characters go: none in a read that does not echo. The LF that F
-    // hides takes no column; it goes when no character is left, and then counts as one worked out.
-    pub(crate) fn find_marks(self, left: u16, text: &[u8], t: Terms) -> Found
+    // The marks and spaces to rub out when all but its first characters are deleted: none in a read that does not echo. The LF
+    // that F hides, in front of `start`, takes no column; it is deleted when no character is left, and counts as one worked out.
+    pub(crate) fn find_marks(self, left: u16, text: &[u8], t: Terms) -> RubOut
         requires { ⌜ CountedReading self (now text) ⌝ }
         ensures { λ found. ⌜ ((l : Line) → RubsOut left (readingOf (lent t (now (text .entry)) l) self) found) ⌝ }
     {
@@ -156,12 +156,12 @@ impl Reading {
             if 0 < left {
                 return found;
             }
-            return Found {
+            return RubOut {
                 marks: found.marks,
                 columns: found.columns + start,
             };
         }
-        Found {
+        RubOut {
             marks: 0,
             columns: 0,
         }

@@ -124,7 +124,7 @@ kept-turn kept column text i k m e =
     let still = marks-none kept column text (i + 1) (omega arith) in
     omega arith
 
--- Only a tab echoes by its column: a text without one has its marks wherever it stands.
+-- Only a tab's echo depends on its column: a text without one echoes the same at any column.
 echo-anywhere : (c d n : ℕ) → isTab n ≡ false → echo c n ≡ echo d n
 unfolding echo isTab
 echo-anywhere c d n e = ap (pick (isMark n) (n ∷ [])) (pick-false _ _ e ∙ sym (pick-false _ _ e))
@@ -137,20 +137,7 @@ echoAll-anywhere (n ∷ ns) none c d =
     ap (λ l. l ++ echoAll (columnAfterAll c (echo c n)) ns) (echo-anywhere c d n (h .0))
     ∙ ap (λ l. echo d n ++ l) (echoAll-anywhere ns (h .1) (columnAfterAll c (echo c n)) (columnAfterAll d (echo d n)))
 
-pub first-within : (kept : ℕ) (ns : List ℕ) → firstWorkedOut kept ns ≤ kept
-unfolding firstWorkedOut
-first-within kept ns = pick-case (λ first. first ≤ kept) _ (λ _. omega arith) (λ _. omega arith)
-
-pub first-kept : (kept : ℕ) (ns : List ℕ) → anyIs isTab (drop kept ns) ≡ false → firstWorkedOut kept ns ≡ kept
-unfolding firstWorkedOut
-first-kept kept ns none = pick-false 0 kept none
-
--- computed: a tab between two characters, of which 0 to 4 are kept
-first-by-tab : map (λ kept. firstWorkedOut kept (0x61 ∷ HT ∷ 0x62 ∷ [])) (0 ∷ 1 ∷ 2 ∷ 3 ∷ 4 ∷ []) ≡ 0 ∷ 0 ∷ 2 ∷ 3 ∷ 4 ∷ []
-unfolding firstWorkedOut anyIs isTab pick
-first-by-tab = refl
-
--- so what is found from the first character whose column is worked out is all there is
+-- so the marks from the first character on whose column is worked out are all the marks
 pub found-behind : (kept column : ℕ) (ns : List ℕ) →
     marksBehind (kept - firstWorkedOut kept ns) column (drop (firstWorkedOut kept ns) ns) ≡ marksBehind kept column ns
 unfolding firstWorkedOut marksBehind
@@ -162,6 +149,19 @@ found-behind kept column ns =
     (λ none.
     ap (λ k. marksBehind k column (drop kept ns)) none-left
     ∙ ap length (echoAll-anywhere (drop kept ns) none (reached column []) (reached column (take kept ns))))
+
+pub first-within : (kept : ℕ) (ns : List ℕ) → firstWorkedOut kept ns ≤ kept
+unfolding firstWorkedOut
+first-within kept ns = pick-case (λ first. first ≤ kept) _ (λ _. omega arith) (λ _. omega arith)
+
+pub first-kept : (kept : ℕ) (ns : List ℕ) → anyIs isTab (drop kept ns) ≡ false → firstWorkedOut kept ns ≡ kept
+unfolding firstWorkedOut
+first-kept kept ns none = pick-false 0 kept none
+
+-- computed, because with every character called a tab all other laws would hold: a tab between two characters, 0 to 4 of them kept
+first-by-tab : map (λ kept. firstWorkedOut kept (0x61 ∷ HT ∷ 0x62 ∷ [])) (0 ∷ 1 ∷ 2 ∷ 3 ∷ 4 ∷ []) ≡ 0 ∷ 0 ∷ 2 ∷ 3 ∷ 4 ∷ []
+unfolding firstWorkedOut anyIs isTab pick
+first-by-tab = refl
 
 -- a text that memory holds easily is counted to its end
 pub capped-whole : (kept column : ℕ) (ns : List ℕ) → length ns < 2 ^ 60 →

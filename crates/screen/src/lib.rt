@@ -18,8 +18,9 @@ pub struct Shown {
     pub at: usize,
 }
 
-// Marks and spaces to rub out, and how many columns were worked out to find them: one for each width that was asked.
-pub struct Found {
+// Marks and spaces to rub out, and how many columns were worked out to find them: one for each character whose width was
+// asked for.
+pub struct RubOut {
     pub marks: usize,
     pub columns: usize,
 }

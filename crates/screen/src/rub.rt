@@ -9,7 +9,7 @@ ghost use Rattle.rules.specs.Numbers.{topColumn};
 ghost use Rattle.rules.specs.Screen as rules;
 ghost use Rattle.screen.specs.View.{Writes};
 ghost use Rattle.screen.specs.Marks.{capped, isTab, firstWorkedOut, Finds};
-use crate::Found;
+use crate::RubOut;
 use crate::Screen;
 use crate::Shown;
 use crate::columns::further;
@@ -80,8 +80,8 @@ fn holds_tab(kept: usize, text: &[u8]) -> bool
     false
 }
 
-// The first character whose column is worked out. Only a tab's width goes by the column before it: where none goes, what stays
-// is passed over.
+// The first character whose column is worked out. Only a tab's width depends on the column before it: where none is deleted,
+// the kept characters are skipped.
 fn first_worked_out(kept: usize, text: &[u8]) -> usize
     ensures { λ r. ⌜ r ≡ firstWorkedOut kept (now (text .entry)) ⌝ }
 {
@@ -92,9 +92,9 @@ fn first_worked_out(kept: usize, text: &[u8]) -> usize
 }
 
 // The marks and spaces that stand on the screen for a text behind its first characters, shown from a column on. One pass: a
-// character's column is worked out once or not at all. Where what stays is passed over, the cursor is not the screen's, which
-// only a tab would ask for.
-pub fn find_marks(kept: usize, column: u16, text: &[u8]) -> Found
+// character's column is worked out once or not at all. Where the kept characters are skipped, the cursor is not the column on
+// the screen: only a tab's width would depend on it.
+pub fn find_marks(kept: usize, column: u16, text: &[u8]) -> RubOut
     ensures { λ r. ⌜ Finds kept column (now (text .entry)) r ⌝ }
 {
     let first = first_worked_out(kept, text);
@@ -111,7 +111,7 @@ pub fn find_marks(kept: usize, column: u16, text: &[u8]) -> Found
         cursor = column_behind(cursor, more);
         i += 1;
     }
-    Found { marks, columns }
+    RubOut { marks, columns }
 }
 
 // Back, a space over the mark, and back again.

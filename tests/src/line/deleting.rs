@@ -56,10 +56,10 @@ impl Line {
         let (stays, removed) = read.buffer[read.end_of_prompt..].split_at(end - read.end_of_prompt);
         if rub_out && read.echo {
             let marks = read.marks_after(end);
-            let more = read.marks_after(read.end_of_prompt) > marks;
             let tab = removed.contains(&HT);
+            let behind_text = tab && read.marks_after(read.end_of_prompt) > marks;
             self.seen.met_if(tab, Rule::RubTab);
-            self.seen.met_if(tab && more, Rule::RubTabBehindText);
+            self.seen.met_if(behind_text, Rule::RubTabBehindText);
             self.seen.met_if(tab && read.hides(read.end_of_prompt), Rule::RubTabBehindHiddenLf);
             self.seen.met_if(!tab && stays.contains(&HT), Rule::RubBehindTab);
             let control = |code: &u8| (*code < 32 && *code != HT) || *code == 127;

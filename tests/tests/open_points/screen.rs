@@ -1,6 +1,11 @@
-//! Points 35 to 42 and 92: the screen.
+//! Points 35 to 42, 92 and 94: the screen.
 
 use crate::common::*;
+
+/// What rubbing out so many marks writes.
+fn rubbed(marks: usize) -> String {
+    "08 20 08 ".repeat(marks).trim_end().to_owned()
+}
 
 #[test]
 fn point_35_tabs_and_the_column_of_the_display() {
@@ -10,8 +15,8 @@ fn point_35_tabs_and_the_column_of_the_display() {
     // A Write moves the cursor, not the column from which the replay runs.
     assert_eq!(bench.number("07 00 00 00 00 0D 41 41"), 0);
     assert_eq!(bench.typed(b"\t").0, "20 ".repeat(6).trim_end());
-    assert_eq!(bench.typed(&[127]).0, "08 20 08 ".repeat(8).trim_end());
-    assert_eq!(bench.typed(&[127]).0, "08 20 08 ".repeat(7).trim_end());
+    assert_eq!(bench.typed(&[127]).0, rubbed(8));
+    assert_eq!(bench.typed(&[127]).0, rubbed(7));
 }
 
 #[test]
@@ -26,7 +31,7 @@ fn point_36_the_top_column() {
     assert_eq!(bench.typed(b"\t").0, "20 20 20 20");
     assert_eq!(bench.line().column(), 999);
     assert_eq!(bench.typed(b"\t\t").0, "20 20");
-    assert_eq!(bench.typed(&[21]).0, "08 20 08 ".repeat(6).trim_end());
+    assert_eq!(bench.typed(&[21]).0, rubbed(6));
     assert_eq!(bench.line().column(), 993);
     assert_eq!(bench.host("07 00 04 00 00 09"), done("09", "08 00 06 00 00 00"));
     assert_eq!(bench.line().column(), 999);
@@ -115,8 +120,7 @@ fn point_42_lost_output() {
 
 #[test]
 fn point_92_rubbed_out_with_a_tab_and_without() {
-    let rubbed = |marks: usize| "08 20 08 ".repeat(marks).trim_end().to_owned();
-    // Marks for `a`, `b`, a tab from column 3 to 8, and `c`.
+    // On the screen: `?ab`, five spaces for the tab, `c`.
     let with_tab = || {
         let mut bench = Bench::initiated();
         start(ZZ1, b"?", b"").on(&mut bench);
@@ -132,7 +136,8 @@ fn point_92_rubbed_out_with_a_tab_and_without() {
         assert_eq!(bench.typed(&[127]).0, rubbed(marks));
     }
     let mut bench = with_tab();
-    assert_eq!(bench.typed(&[23]).0, rubbed(1));
+    bench.typed(b"d!\x01");
+    assert_eq!(bench.typed(&[23]).0, rubbed(5));
     assert_eq!(bench.typed(&[23]).0, rubbed(7));
     assert_eq!(with_tab().typed(&[21]).0, rubbed(8));
     assert_eq!(with_tab().key(24).1, rubbed(8));
@@ -145,8 +150,12 @@ fn point_92_rubbed_out_with_a_tab_and_without() {
     bench.typed(&[18]);
     assert_eq!(bench.typed(&[127]).0, rubbed(1));
     assert_eq!(bench.typed(&[127]).0, rubbed(6));
-    // F's LF takes no column, whether it stays or goes.
-    for (codes, marks) in [(&[127, 127][..], 2), (&[23, 127], 2), (&[23, 23], 9), (&[21], 9)] {
+}
+
+#[test]
+fn point_94_the_hidden_lf_is_not_rubbed_out() {
+    // It takes no column, left or deleted: the tab behind it is one space.
+    for (codes, marks) in [(&[127, 127][..], 2), (&[23, 23], 9), (&[21], 9)] {
         let mut bench = Bench::initiated();
         start(F | ZZ1, b"", b"\nabcdefg\tb").on(&mut bench);
         assert_eq!(bench.typed(codes).0, rubbed(marks));
