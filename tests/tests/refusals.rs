@@ -19,7 +19,7 @@ fn row_1_areas() {
         assert_eq!(bench.number("0C 00"), number);
         if number == 1 {
             // 1 comes before 2, 3, 4, 5 and 6.
-            for message in ["", "00", "03", INITIATE, "05", "07 01 00 00 00"] {
+            for message in ["", "00", "03", INITIATE, "05", "07 00 08 00 00"] {
                 bench.refused(1, &bytes(message));
             }
         }
@@ -158,11 +158,15 @@ fn row_6_reads_and_writes_not_carried() {
     }
     bench.refused(5, &start(ZZ2 | K | 3, b"", b"").bytes());
     bench.refused(6, &start(ZZ2 | V, b"", b"").bytes());
-    for flags in ["01 00", "02 00", "03 00", "04 00", "40 00", "80 00", "00 01", "00 02", "00 08"] {
+    // Transparent, alone and with everything else that a Write can ask.
+    for flags in ["00 08", "01 08", "BF 0E", "00 F8"] {
         bench.refused(6, &bytes(&format!("07 {flags} 00 00 41")));
     }
-    // The bits of first part, last part, status and the unused ones are no reason.
-    assert_eq!(bench.number("07 30 F4 09 09 41"), 0);
+    // Nothing else is a reason: locks, L, prefix, postfix, first part, last part,
+    // status and the unused bits.
+    for flags in ["01 00", "02 00", "03 00", "04 00", "40 00", "80 00", "00 01", "00 02", "30 F4"] {
+        assert_eq!(bench.number(&format!("07 {flags} 09 09 41")), 0);
+    }
 }
 
 #[test]

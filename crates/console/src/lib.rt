@@ -52,6 +52,8 @@ fn fresh_flow() -> Flow
         screen,
         discarding: false,
         quoting: false,
+        locked: false,
+        skip_linefeed: false,
         dropped: 0,
     };
     let typed = Typed {

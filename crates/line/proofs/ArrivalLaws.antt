@@ -82,7 +82,15 @@ module _ (w : Work) {v : Work} (x : Terminal) (h : v ≡ goesOn (onTerminal x (w
 
 -- one key more dropped
 abbrev withCount : ℕ → Terminal → Terminal
-withCount n t = record { screen = t .screen; discarding = t .discarding; quoting = t .quoting; dropped = n }
+withCount n t =
+    record {
+      screen = t .screen;
+      discarding = t .discarding;
+      quoting = t .quoting;
+      locked = t .locked;
+      «skip_linefeed» = t .«skip_linefeed»;
+      dropped = n;
+    }
 
 pub count-does : (w : Work) {v : Work} (n : ℕ) → n ≡ min topDropped (w .flow .terminal .dropped + 1) →
     v ≡ goesOn (onTerminal (withCount n (w .flow .terminal)) (w .flow)) w → (l : Line) (t m : List ℕ) →

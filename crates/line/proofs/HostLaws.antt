@@ -1,12 +1,10 @@
 -- What an accepted host message looks at, as the rules have it.
-use mathlib.Core.Path.{_≡_, refl, sym, ap, ap₂}
+use mathlib.Core.Path.{_≡_, sym, ap₂}
 use Prim.Native.Nat.{ℕ, _+_}
 use native.Mathlib.Omega.{arith}
-use mathlib.Core.Bool.{not, _&&_}
-use mathlib.Core.List.{List, [], _∷_}
+use mathlib.Core.Bool.{_&&_}
+use mathlib.Core.List.{List}
 use lib.Dec.{eqb}
-use lib.ListN.{length}
-use borrow.Author.Tests.{ne-eqb}
 use Rattle.rules.specs.Choice.{isEmpty}
 use Rattle.rules.specs.ReadData.{waitingCount}
 use Rattle.line.specs.declared.Typed.{Typed}
@@ -31,8 +29,3 @@ nothing-typed keys text f c full =
     sym (ap₂ _&&_
     (ap₂ _&&_ (keys-empty (t .«keys_len») keys) (empty-take (t .«token_len») (t .token) (omega (arith, c .typed .tokenLength, c .typed .token))))
     (input-empty (f .reading) text full))
-
-pub some-text : (text : List ℕ) → not (eqb (length text) 0) ≡ not (isEmpty text)
-unfolding isEmpty
-some-text [] = refl
-some-text (b ∷ bs) = ap not (ne-eqb (length (b ∷ bs)) 0 (λ e. omega arith))

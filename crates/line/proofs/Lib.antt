@@ -15,6 +15,7 @@ mod PendingRead
 mod OurInitiate
 mod StartRead
 mod HostLaws
+mod WriteLaws
 mod Unread
 mod HostAccepted
 mod ActsDone

@@ -10,7 +10,8 @@ use Rattle.rules.specs.Messages.Layout.{byteValues, byteAt}
 use Rattle.rules.specs.Messages.Forms.{readData, readDataHeader}
 use Rattle.rules.specs.Calls.{Event, Call, areaAfter}
 use Rattle.rules.specs.Bounds.{isByteEvent}
-use Rattle.rules.specs.Bench.{Exchange, runs, starred, warned}
+use Rattle.rules.specs.Bench.{Exchange, runs}
+use Rattle.rules.specs.Bench.Rows.{starred, warned}
 use Rattle.rules.specs.TwoRuns.{Supposition, supposed, inBand, unacted, blank, Seen}
 use Rattle.line.specs.declared.Line.{Line}
 use Rattle.line.specs.declared.Answer.{Answer}

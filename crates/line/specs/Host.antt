@@ -12,7 +12,8 @@ use Rattle.rules.specs.Messages.Codec.{Held, sound, allBytes}
 use Rattle.rules.specs.ReadData.{unreads, checksInput}
 use Rattle.rules.specs.Arrival.{rubbingOut, clearRule}
 use Rattle.rules.specs.StartRead.Acceptance.{begins}
-use Rattle.rules.specs.Host.{ourInitiate, writesOut, obeys}
+use Rattle.rules.specs.Write.{writesOut}
+use Rattle.rules.specs.Host.{ourInitiate, obeys}
 use Rattle.rules.specs.Characteristics.{withParameters}
 use Rattle.rules.specs.Calls.{received}
 use Rattle.areas.specs.Puts.{Puts}
@@ -81,7 +82,7 @@ flowRule s l (StartRead f) =
     begins codes (startReadIn s f) (readingOf l (readingAt s f (l .flow .terminal .screen .column)))
 flowRule s l (Unread condition) = unreads codes (plain unread (condition ∷ []))
 flowRule s l ClearInput = clearRule codes rubbingOut
-flowRule s l (Write f) = writesOut (writeIn s f)
+flowRule s l (Write f) = writesOut codes (writeIn s f)
 flowRule s l (ReadCharacteristics p) = still
 flowRule s l (Characteristics p) = still
 flowRule s l CheckInput = checksInput

@@ -19,7 +19,14 @@ use Rattle.line.specs.declared.Line.{Line}
 
 abbrev pub terminalOf : Terminal → rules.Terminal
 terminalOf t =
-    record { screen = screen.screenView (t .screen); discarding = t .discarding; quoting = t .quoting; dropped = t .dropped }
+    record {
+      screen = screen.screenView (t .screen);
+      discarding = t .discarding;
+      quoting = t .quoting;
+      locked = t .locked;
+      skipLinefeed = t .«skip_linefeed»;
+      dropped = t .dropped;
+    }
 
 -- what a quoted key has above its code
 abbrev pub quotedMark : ℕ

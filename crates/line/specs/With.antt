@@ -13,7 +13,15 @@ use Rattle.line.specs.declared.Line.{Line}
 use Rattle.line.specs.declared.Work.{Work}
 
 abbrev pub onScreen : Screen → Terminal → Terminal
-onScreen s t = record { screen = s; discarding = t .discarding; quoting = t .quoting; dropped = t .dropped }
+onScreen s t =
+    record {
+      screen = s;
+      discarding = t .discarding;
+      quoting = t .quoting;
+      locked = t .locked;
+      «skip_linefeed» = t .«skip_linefeed»;
+      dropped = t .dropped;
+    }
 
 abbrev pub onTerminal : Terminal → Flow → Flow
 onTerminal t f = record { terminal = t; typed = f .typed; pending = f .pending; reading = f .reading }

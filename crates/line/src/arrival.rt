@@ -126,6 +126,32 @@ impl Work {
         self.with_terminal(known)
     }
 
+    // 15 and immediate clear lift the lock of a Write.
+    fn unlocks(self) -> Work
+        requires { ⌜ CountedFlow (self .flow) ⌝ }
+        ensures counted { λ w. ⌜ CountedFlow (w .flow) ⌝ }
+        ensures rule { λ w. ⌜ ((l : Line) (t m : List ℕ) → Does rules.unlocks (on l self) t m (on l w) t m) ⌝ }
+    {
+        let flow = self.flow;
+        let mut known = flow.terminal;
+        known.locked = false;
+        self.with_terminal(known)
+    }
+
+    // Where output is discarded.
+    fn unlocks_if_discarding(self) -> Work
+        requires { ⌜ CountedFlow (self .flow) ⌝ }
+        ensures counted { λ w. ⌜ CountedFlow (w .flow) ⌝ }
+        ensures rule { λ w. ⌜ ((l : Line) (t m : List ℕ) → Does rules.unlocksIfDiscarding (on l self) t m (on l w) t m) ⌝ }
+    {
+        let flow = self.flow;
+        let known = flow.terminal;
+        if known.discarding {
+            return self.unlocks();
+        }
+        self
+    }
+
     // Rule 3, code 15; Discard State says 1 where output is not discarded.
     pub(crate) fn flips_discard(self, messages: &mut [u8]) -> Work
         requires { ⌜ CountedFlow (self .flow) ⌝ }
@@ -137,7 +163,8 @@ impl Work {
         known.discarding = !known.discarding;
         let kept = fields::bit_of(!known.discarding);
         let next = self.with_terminal(known);
-        next.sends_plain(messages, Message::DiscardState { kept })
+        let said = next.sends_plain(messages, Message::DiscardState { kept });
+        said.unlocks_if_discarding()
     }
 
     // Type-ahead and tokens go.
@@ -243,7 +270,7 @@ impl Work {
         self
     }
 
-    // Rule 2, immediate clear: Out-of-Band, the clear rule without rubbing out, then a pending read completes.
+    // Rule 2, immediate clear: Out-of-Band, unlocked, the clear rule without rubbing out, then a pending read completes.
     pub(crate) fn clears_at_once(self, messages: &mut [u8], c: u8, text: &[u8], t: Terms) -> Work
         requires { ⌜ CountedFlow (self .flow) ⌝ }
         requires { ⌜ length (now text) ≡ inputSize ⌝ }
@@ -251,7 +278,8 @@ impl Work {
         ensures rule { λ w. ⌜ ((l : Line) (a : List ℕ) → DoesOn (λ k. rules.clearsAtOnce codes c) (lent t (now (text .entry)) l) self a (now (messages .entry)) w a (now (messages .exit))) ⌝ }
     {
         let said = self.sends_out_of_band(messages, c);
-        let emptied = said.empties_typed();
+        let unlocked = said.unlocks();
+        let emptied = unlocked.empties_typed();
         let flow = emptied.flow;
         let reading = flow.reading;
         let cleared = emptied.clears_without_rubbing(flow.pending, reading, t);

@@ -83,7 +83,7 @@ impl Work {
             HostMessage::StartRead(f) => self.begins(terminal, messages, f, s, text, t),
             HostMessage::Unread(condition) => self.unreads(messages, condition, text, t),
             HostMessage::ClearInput => self.clears(terminal, text, t),
-            HostMessage::Write(f) => self.writes_out(terminal, messages, f, s),
+            HostMessage::Write(f) => self.writes_out(terminal, messages, f, s, text, t),
             HostMessage::ReadCharacteristics(_) => self,
             HostMessage::Characteristics(_) => self,
             HostMessage::CheckInput => self.checks_input(messages),

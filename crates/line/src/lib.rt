@@ -14,7 +14,6 @@ mod host;
 mod initiate;
 mod input;
 mod keys;
-mod output;
 mod read_data;
 mod refusals;
 mod sending;
@@ -25,12 +24,17 @@ mod steps;
 mod taking;
 mod tokens;
 mod waiting;
+mod write;
 
 // What is known of the terminal.
 pub struct Terminal {
     pub screen: Screen,
     pub discarding: bool,
     pub quoting: bool,
+    // no step acts
+    pub locked: bool,
+    // the skip-linefeed mark: the next Write leaves out a first LF
+    pub skip_linefeed: bool,
     pub dropped: u16,
 }
 

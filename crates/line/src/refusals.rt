@@ -21,9 +21,6 @@ use crate::events::HostMessage;
 use message::StartReadFields;
 use message::WriteFields;
 
-// Of a Write's UU, PP and QQ: no lock, prefix or postfix.
-const NONE: u8 = 0;
-
 // Both areas are large enough.
 pub(crate) fn are_roomy(terminal: usize, messages: usize) -> bool
     ensures { λ r. ⌜ r ≡ areRoomy terminal messages ⌝ }
@@ -68,15 +65,11 @@ fn carries_start_read(f: StartReadFields) -> bool
     (f.start_of_display == 0) & (f.continues == fields::OFF) & (f.vertical == fields::OFF)
 }
 
-// No locks, newline, prefix, postfix or transparent output.
+// No transparent output.
 fn carries_write(f: WriteFields) -> bool
     ensures { λ r. ⌜ ((s : List ℕ) → r ≡ rules.carriesWrite (writeIn s f)) ⌝ }
 {
-    (f.lock == NONE)
-        & (f.newline == fields::OFF)
-        & (f.transparent == fields::OFF)
-        & (f.prefix == NONE)
-        & (f.postfix == NONE)
+    f.transparent == fields::OFF
 }
 
 // Rows 1 to 4, in order; 0 if none applies.

@@ -81,7 +81,7 @@ impl Flow {
         t.takes_plain(raised, ends)
     }
 
-    // A whole held token goes first; `taken` is how the first key would be taken.
+    // A locked step does nothing. A whole held token goes first; `taken` is how the first key would be taken.
     pub(crate) fn act_of_step(self, held: bool, taken: Taken, t: Terms) -> Act
         requires { ⌜ CountedTyped (self .typed) ⌝ }
         ensures rule { λ a.
@@ -89,6 +89,10 @@ impl Flow {
             TakesFirst s (onFlow self (lent t (l .text) l)) taken → Meets (rules.steps codes) s (onFlow self (lent t (l .text) l)) a) ⌝ }
         ensures kind { λ a. ⌜ callKindsOf a .step ≡ true ⌝ }
     {
+        let known = self.terminal;
+        if known.locked {
+            return Act::Nothing;
+        }
         let pending = self.pending;
         if !pending {
             return Act::Nothing;

@@ -7,7 +7,8 @@ use mathlib.Core.List.{List, [], _∷_, _++_, List·Memᴰ, List·Memᴰ·head, 
 use native.Mathlib.Omega.{arith}
 use Rattle.rules.specs.Choice.{pick}
 use Rattle.rules.specs.Messages.Parameters.{setting, cut}
-use Rattle.rules.specs.Bench.{Case, starred, warned, holds, failures}
+use Rattle.rules.specs.Bench.{Case, holds, failures}
+use Rattle.rules.specs.Bench.Rows.{starred, warned}
 use Rattle.rules.specs.Whole.{whole}
 
 pub bench : failures 0 starred ≡ []

@@ -13,6 +13,7 @@ pub mod Received
 pub mod StartRead
 pub mod Characteristics
 pub mod Reports
+pub mod Write
 pub mod Host
 pub mod Settings
 pub mod Calls

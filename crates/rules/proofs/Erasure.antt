@@ -8,5 +8,6 @@ pub mod Editing
 pub mod Arrival
 pub mod StartRead
 pub mod Steps
+pub mod Write
 pub mod Host
 pub mod Calls

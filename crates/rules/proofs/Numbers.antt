@@ -3,6 +3,7 @@ use mathlib.Core.Path.{_≡_, refl}
 use Prim.Native.Nat.{ℕ, _+_, _*_, _≤_, _<_}
 use native.Mathlib.Omega.{arith}
 use Rattle.rules.specs.Numbers.{inputSize, typeAheadSize, tokenSize, messageSize, terminalArea, messageArea, topColumn, topDropped}
+use Rattle.rules.specs.Messages.Layout.{byteValues}
 use Rattle.rules.specs.Settings.{topLargestRead}
 
 -- rubbing out a whole buffer, three bytes for each of a character's eight marks; or one echo and a byte or two
@@ -10,9 +11,9 @@ pub rubbing-room : 24 * inputSize + 8 ≤ terminalArea
 unfolding inputSize terminalArea
 rubbing-room = omega arith
 
--- the data of one Write
-pub writing-room : messageSize ≤ terminalArea
-unfolding messageSize terminalArea
+-- a Write: its data, a prefix and a postfix, L's LF, and a redisplay, CR LF with eight marks for each of the prompt's and the input's characters
+pub writing-room : 2 * byteValues + messageSize + 8 * inputSize + 3 ≤ terminalArea
+unfolding messageSize inputSize terminalArea
 writing-room = omega arith
 
 -- a framed Read Data with a whole buffer behind a framed Out-of-Band

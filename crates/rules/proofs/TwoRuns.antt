@@ -10,6 +10,7 @@ pub mod Arrival
 pub mod Words
 pub mod Steps
 pub mod StartRead
+pub mod Write
 pub mod Host
 pub mod Calls
 pub mod Pairing

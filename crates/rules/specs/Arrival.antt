@@ -12,9 +12,9 @@ use Rattle.rules.specs.Messages.Forms.{plain}
 use Rattle.rules.specs.StartRead.{disablesControls}
 use Rattle.rules.specs.Screen.{BEL}
 use Rattle.rules.specs.State.{Characters, Reading, State}
-use Rattle.rules.specs.State.{withTerminal, withTyped, withRead, withIdle, withDiscarding, withQuoting, withDropped}
+use Rattle.rules.specs.State.{withTerminal, withTyped, withRead, withIdle, withDiscarding, withQuoting, withLocked, withDropped}
 use Rattle.rules.specs.Turns.{Rule, quote, clear, discard, outOfBand, arrived, control, crowdedOut, cleared}
-use Rattle.rules.specs.Turns.{still, writes, sends, tells, changes, here, _then_}
+use Rattle.rules.specs.Turns.{still, writes, sends, tells, changes, here, _then_, only}
 use Rattle.rules.specs.ReadData.{noEnding, byOutOfBand, completes}
 use Rattle.rules.specs.Editing.{deletes, deletesWithoutRubbing}
 use Rattle.rules.specs.Characteristics.{outOfBandField, immediateClear, hello}
@@ -77,12 +77,20 @@ module _ {C : Type 0} where
   unfoldable pub sendsDiscardState : Rule C
   sendsDiscardState = here (λ s. sends (plain forms.discardState (bit (not (s .terminal .discarding)) ∷ [])))
 
-  -- rule 3, code 15
+  -- 15 and immediate clear lift the lock of a Write (000, 4.12.2)
+  unfoldable pub unlocks : Rule C
+  unlocks = changes (λ s. withTerminal (withLocked false (s .terminal)) s)
+
+  unfoldable pub unlocksIfDiscarding : Rule C
+  unlocksIfDiscarding = here (λ s. only (s .terminal .discarding) unlocks)
+
+  -- rule 3, code 15; where it turns discard on, it unlocks
   unfoldable pub flipsDiscard : C → Rule C
   flipsDiscard c =
       tells (control discard c ∷ []) then
       changes (λ s. withTerminal (withDiscarding (not (s .terminal .discarding)) (s .terminal)) s) then
-      sendsDiscardState
+      sendsDiscardState then
+      unlocksIfDiscarding
 
   -- a pending read has DDD 3
   unfoldable pub areControlsOff : Option (Reading C) → Bool
@@ -122,7 +130,7 @@ module _ {C : Type 0} (chars : Characters C) where
 
   unfoldable pub clearsAtOnce : C → Rule C
   clearsAtOnce c =
-      sendsOutOfBand c then clearRule withoutRubbing then here (λ s. endsOutOfBand (s .pendingRead))
+      sendsOutOfBand c then unlocks then clearRule withoutRubbing then here (λ s. endsOutOfBand (s .pendingRead))
 
   -- rule 3, then 4
   unfoldable pub controlled : C → Rule C

@@ -1,4 +1,5 @@
--- Page 01, "Bench cases": the starred ones as one table, and what it is for a case to hold.
+-- Page 01, "Bench cases": what it is for one to hold, and the words that rows are written in. The rows stand in Bench/Rows.antt.
+pub mod Rows
 use Prim.Native.Nat.{ℕ, suc, _+_, _-_}
 use mathlib.Core.Bool.{Bool, true, false, _&&_}
 use mathlib.Core.List.{List, [], _∷_, _++_}
@@ -13,7 +14,7 @@ use Rattle.rules.specs.Screen.{HT, SP, DEL}
 use Rattle.rules.specs.State.{State, fresh, codes}
 use Rattle.rules.specs.Token.{ESC}
 use Rattle.rules.specs.Editing.{redisplayKey}
-use Rattle.rules.specs.Arrival.{quoteKey}
+use Rattle.rules.specs.Arrival.{discardKey}
 use Rattle.rules.specs.Settings.{foundSection}
 use Rattle.rules.specs.Calls.{Event, key, step, tick, message, load, Call, Answer, answer, messageBytes}
 
@@ -117,6 +118,14 @@ startA = 0x02 ∷ 0x01 ∷ 0x90 ∷ 0x00 ∷ 0x50 ∷ 0x00 ∷ 0x02 ∷ 0x00 ∷
 abbrev pub startedA : Exchange
 startedA = told startA accepted (0x3F ∷ 0x20 ∷ []) []
 
+-- a Write of one part, its flags without B and E, its prefix value and postfix value, and its data
+abbrev pub wrote : ℕ → ℕ → ℕ → ℕ → List ℕ → List ℕ → List ℕ → Exchange
+wrote low high before behind text terminal messages = told (0x07 ∷ (0x30 + low) ∷ high ∷ before ∷ behind ∷ text) accepted terminal messages
+
+-- 15 is typed; Discard State says 1 where output is not discarded
+abbrev pub flipped : ℕ → Exchange
+flipped kept = says (key discardKey) accepted [] (0x02 ∷ 0x00 ∷ 0x09 ∷ kept ∷ [])
+
 -- Characteristics that turn escape recognition on
 abbrev pub recognising : Exchange
 recognising = told (0x0B ∷ 0x00 ∷ 0x06 ∷ 0x02 ∷ 0x01 ∷ []) accepted [] []
@@ -186,196 +195,3 @@ abbrev pub inOrder : StartReadNumbers → List ℕ
 inOrder h =
     h .underflow ∷ h .clearsTypeAhead ∷ h .formats ∷ h .vertical ∷ h .continues ∷ h .raises ∷ h .disables ∷ h .silent ∷ h .terminatorEcho ∷ h .timed ∷
     h .setChoice ∷ h .escapes ∷ h .maxLength ∷ h .endOfData ∷ h .timeout ∷ h .endOfPrompt ∷ h .startOfDisplay ∷ h .lowWater ∷ []
-
--- The starred cases in order; D and H have two rows each. Request M-101 adds two.
-unfoldable pub starred : List Case
-starred =
-    -- A: UU 1, T 1, ZZ 2, 80 characters, prompt "? "
-    reads startA
-    (record {
-      kind = startRead;
-      numbers =
-          inOrder
-          (record {
-            underflow = 1;
-            clearsTypeAhead = 0;
-            formats = 0;
-            vertical = 0;
-            continues = 0;
-            raises = 0;
-            disables = 0;
-            silent = 0;
-            terminatorEcho = 1;
-            timed = 0;
-            setChoice = 2;
-            escapes = 0;
-            maxLength = 80;
-            endOfData = 2;
-            timeout = 0;
-            endOfPrompt = 2;
-            startOfDisplay = 0;
-            lowWater = 2;
-          });
-      set = [];
-      parameters = [];
-      text = 0x3F ∷ 0x20 ∷ [];
-    }) ∷
-    -- B: 4 DEL 3 5 CR
-    runs
-    (initiated ∷ startedA ∷
-    (typed 0x34 (0x34 ∷ []) [] ++
-    typed DEL (0x08 ∷ 0x20 ∷ 0x08 ∷ []) [] ++
-    typed 0x33 (0x33 ∷ []) [] ++
-    typed 0x35 (0x35 ∷ []) [] ++
-    typed 0x0D (0x0D ∷ 0x0A ∷ []) (0x0B ∷ 0x00 ∷ 0x03 ∷ 0x00 ∷ 0x02 ∷ 0x00 ∷ 0x01 ∷ 0x00 ∷ 0x02 ∷ 0x00 ∷ 0x33 ∷ 0x35 ∷ 0x0D ∷ []))) ∷
-    -- C: A without its last byte
-    runs (initiated ∷ told (take (length startA - 1) startA) unsound [] [] ∷ []) ∷
-    -- D: END-OF-DATA 132 of 132 completes at once; MAX-LENGTH 133 is 5
-    runs
-    (initiated ∷
-    told ((0x02 ∷ 0x00 ∷ 0x00 ∷ 0x00 ∷ 0x84 ∷ 0x00 ∷ 0x84 ∷ 0x00 ∷ 0x00 ∷ 0x00 ∷ 0x00 ∷ 0x00 ∷ 0x00 ∷ 0x00 ∷ 0x84 ∷ 0x00 ∷ 0x00 ∷ []) ++ replicate 132 0x41) accepted (replicate 132 0x41)
-    ((0x8C ∷ 0x00 ∷ 0x03 ∷ 0x04 ∷ 0x84 ∷ 0x00 ∷ 0x00 ∷ 0x84 ∷ 0x84 ∷ 0x00 ∷ []) ++ replicate 132 0x41) ∷ []) ∷
-    runs (initiated ∷ told (0x02 ∷ 0x00 ∷ 0x00 ∷ 0x00 ∷ 0x85 ∷ 0x00 ∷ 0x00 ∷ 0x00 ∷ 0x00 ∷ 0x00 ∷ 0x00 ∷ 0x00 ∷ 0x00 ∷ 0x00 ∷ 0x00 ∷ 0x00 ∷ 0x00 ∷ []) unsound [] [] ∷ []) ∷
-    -- E: MAX-LENGTH 0, buffer full, no data
-    runs (initiated ∷ told (0x02 ∷ 0x00 ∷ 0x00 ∷ 0x00 ∷ 0x00 ∷ 0x00 ∷ 0x00 ∷ 0x00 ∷ 0x00 ∷ 0x00 ∷ 0x00 ∷ 0x00 ∷ 0x00 ∷ 0x00 ∷ 0x00 ∷ 0x00 ∷ 0x00 ∷ []) accepted [] (0x08 ∷ 0x00 ∷ 0x03 ∷ 0x04 ∷ 0x00 ∷ 0x00 ∷ 0x00 ∷ 0x00 ∷ 0x00 ∷ 0x00 ∷ []) ∷ []) ∷
-    -- F: DEL at once
-    runs (initiated ∷ startedA ∷ typed DEL (0x07 ∷ []) []) ∷
-    -- G: 22, then 13 as data, which is returned with the 13 that ends the read
-    runs
-    (initiated ∷ startedA ∷ stored quoteKey ∷
-    (typed 0x0D (0x5E ∷ 0x4D ∷ []) [] ++
-    typed 0x0D (0x0D ∷ 0x0A ∷ []) (0x0A ∷ 0x00 ∷ 0x03 ∷ 0x00 ∷ 0x02 ∷ 0x00 ∷ 0x01 ∷ 0x00 ∷ 0x01 ∷ 0x00 ∷ 0x0D ∷ 0x0D ∷ []))) ∷
-    -- H: recognition on; a valid and an invalid token
-    tokenTyped (27 ∷ 91 ∷ 65 ∷ []) 0x01 ∷
-    tokenTyped (27 ∷ 91 ∷ 7 ∷ []) 0x02 ∷
-    -- I: room for 2, token of 3
-    runs
-    (initiated ∷ recognising ∷ told (0x02 ∷ 0x00 ∷ 0x80 ∷ 0x00 ∷ 0x02 ∷ 0x00 ∷ 0x00 ∷ 0x00 ∷ 0x00 ∷ 0x00 ∷ 0x00 ∷ 0x00 ∷ 0x00 ∷ 0x00 ∷ 0x00 ∷ 0x00 ∷ 0x00 ∷ []) accepted [] [] ∷
-    typedUnseen (27 ∷ 91 ∷ 65 ∷ []) (0x08 ∷ 0x00 ∷ 0x03 ∷ 0x18 ∷ 0x00 ∷ 0x00 ∷ 0x00 ∷ 0x00 ∷ 0x00 ∷ 0x00 ∷ [])) ∷
-    -- J: the 65th waiting key
-    runs
-    (initiated ∷
-    (replicate typeAheadSize (stored 0x30) ++
-    asked terminalArea messageArea (key 0x30) accepted (0x07 ∷ []) [] 1 ∷ [])) ∷
-    -- M-101: PF1 leaves no letter behind, nor does 27 63 65
-    tokenTyped (27 ∷ 79 ∷ 80 ∷ []) 0x01 ∷
-    tokenTyped (27 ∷ 63 ∷ 65 ∷ []) 0x01 ∷ []
-
--- Rows of our own, for mistakes that the starred cases do not show: those that page 01 warns of, those that settings and tokens invite, and some that edits of the definitions make.
-unfoldable pub warned : List Case
-warned =
-    -- waiting for one more key after the buffer is full
-    runs
-    (initiated ∷ told (0x02 ∷ 0x00 ∷ 0x80 ∷ 0x00 ∷ 0x02 ∷ 0x00 ∷ 0x00 ∷ 0x00 ∷ 0x00 ∷ 0x00 ∷ 0x00 ∷ 0x00 ∷ 0x00 ∷ 0x00 ∷ 0x00 ∷ 0x00 ∷ 0x00 ∷ []) accepted [] [] ∷
-    (typed 0x31 (0x31 ∷ []) [] ++
-    typed 0x32 (0x32 ∷ []) (0x0A ∷ 0x00 ∷ 0x03 ∷ 0x04 ∷ 0x00 ∷ 0x00 ∷ 0x00 ∷ 0x02 ∷ 0x02 ∷ 0x00 ∷ 0x31 ∷ 0x32 ∷ []))) ∷
-    -- testing the set before raising: "a", raised, is the terminator "A"
-    runs
-    (initiated ∷ told (0x02 ∷ 0x80 ∷ 0x40 ∷ 0x00 ∷ 0x50 ∷ 0x00 ∷ 0x00 ∷ 0x00 ∷ 0x00 ∷ 0x00 ∷ 0x00 ∷ 0x00 ∷ 0x00 ∷ 0x00 ∷ 0x00 ∷ 0x00 ∷ 0x09 ∷ 0x00 ∷ 0x00 ∷ 0x00 ∷ 0x00 ∷ 0x00 ∷ 0x00 ∷ 0x00 ∷ 0x00 ∷ 0x02 ∷ []) accepted [] [] ∷
-    typed 0x61 [] (0x09 ∷ 0x00 ∷ 0x03 ∷ 0x00 ∷ 0x00 ∷ 0x00 ∷ 0x00 ∷ 0x00 ∷ 0x00 ∷ 0x00 ∷ 0x41 ∷ [])) ∷
-    -- quoting after out-of-band: a quoted hello character is data
-    runs
-    (initiated ∷ told (0x0B ∷ 0x00 ∷ 0x02 ∷ 0x02 ∷ 0x03 ∷ 0xFF ∷ 0x03 ∷ []) accepted [] [] ∷ startedA ∷ stored quoteKey ∷ typed 3 (0x5E ∷ 0x43 ∷ []) []) ∷
-    -- rubbing out a tab as one column: from column 2 it is six
-    runs
-    (initiated ∷ startedA ∷
-    (typed HT (replicate 6 0x20) [] ++ typed DEL (joined (replicate 6 (0x08 ∷ 0x20 ∷ 0x08 ∷ []))) [])) ∷
-    -- echoing with a changed characteristic in mid read
-    runs (initiated ∷ startedA ∷ told (0x0B ∷ 0x00 ∷ 0x05 ∷ 0x02 ∷ 0x00 ∷ []) accepted [] [] ∷ typed 0x31 (0x31 ∷ []) []) ∷
-    -- a refused message leaves the read and what was typed as they were
-    runs
-    (initiated ∷ startedA ∷ told startA wrongTime [] [] ∷
-    (typed 0x31 (0x31 ∷ []) [] ++
-    typed 0x0D (0x0D ∷ 0x0A ∷ []) (0x0A ∷ 0x00 ∷ 0x03 ∷ 0x00 ∷ 0x02 ∷ 0x00 ∷ 0x01 ∷ 0x00 ∷ 0x01 ∷ 0x00 ∷ 0x31 ∷ 0x0D ∷ []))) ∷
-    -- no second counts while a key waits; the read ends with the TIMEOUT-th that does
-    runs
-    (initiated ∷ told (0x02 ∷ 0x00 ∷ 0xB0 ∷ 0x00 ∷ 0x50 ∷ 0x00 ∷ 0x00 ∷ 0x00 ∷ 0x01 ∷ 0x00 ∷ 0x00 ∷ 0x00 ∷ 0x00 ∷ 0x00 ∷ 0x00 ∷ 0x00 ∷ 0x00 ∷ []) accepted [] [] ∷
-    stored 0x31 ∷ says tick accepted [] [] ∷ stepped (0x31 ∷ []) [] ∷
-    says tick accepted [] (0x09 ∷ 0x00 ∷ 0x03 ∷ 0x05 ∷ 0x00 ∷ 0x00 ∷ 0x00 ∷ 0x01 ∷ 0x01 ∷ 0x00 ∷ 0x31 ∷ []) ∷ []) ∷
-    -- redisplay: a new line, the prompt and what was typed
-    runs (initiated ∷ startedA ∷ (typed 0x31 (0x31 ∷ []) [] ++ typed redisplayKey (0x0D ∷ 0x0A ∷ 0x3F ∷ 0x20 ∷ 0x31 ∷ []) [])) ∷
-    -- 127 as data, and rubbed out again: two marks
-    runs (initiated ∷ startedA ∷ stored quoteKey ∷ (typed DEL (0x5E ∷ 0x3F ∷ []) [] ++ typed DEL (joined (replicate 2 (0x08 ∷ 0x20 ∷ 0x08 ∷ []))) [])) ∷
-    -- an attribute changes where the mask has 1, a switch alone
-    runs
-    (initiated ∷ told (0x0B ∷ 0x00 ∷ 0x02 ∷ 0x02 ∷ 0x41 ∷ 0x0C ∷ 0x0F ∷ 0x05 ∷ 0x02 ∷ 0x00 ∷ []) accepted [] [] ∷
-    told (0x0A ∷ 0x00 ∷ 0x02 ∷ 0x02 ∷ 0x41 ∷ 0x04 ∷ 0x02 ∷ 0x05 ∷ 0x02 ∷ 0x06 ∷ 0x02 ∷ 0x09 ∷ 0x02 ∷ []) accepted []
-    (0x13 ∷ 0x00 ∷ 0x0B ∷ 0x00 ∷ 0x02 ∷ 0x02 ∷ 0x41 ∷ 0x7F ∷ 0x0C ∷ 0x04 ∷ 0x02 ∷ 0x00 ∷ 0x05 ∷ 0x02 ∷ 0x00 ∷ 0x06 ∷ 0x02 ∷ 0x00 ∷ 0x09 ∷ 0x02 ∷ 0x00 ∷ []) ∷ []) ∷
-    -- 59, 63, 79 and 91 begin forms of their own straight after 27 and nowhere else
-    tokenTyped (27 ∷ 32 ∷ 59 ∷ []) 0x01 ∷
-    tokenTyped (27 ∷ 32 ∷ 63 ∷ []) 0x01 ∷
-    tokenTyped (27 ∷ 32 ∷ 79 ∷ []) 0x01 ∷
-    tokenTyped (27 ∷ 59 ∷ 59 ∷ []) 0x01 ∷
-    tokenTyped (27 ∷ 63 ∷ 79 ∷ []) 0x01 ∷
-    tokenTyped (27 ∷ 91 ∷ 79 ∷ []) 0x01 ∷
-    tokenTyped (155 ∷ 79 ∷ []) 0x01 ∷
-    tokenTyped (27 ∷ 59 ∷ 91 ∷ []) 0x01 ∷
-    tokenTyped (27 ∷ 63 ∷ 91 ∷ []) 0x01 ∷
-    tokenTyped (27 ∷ 79 ∷ 91 ∷ []) 0x01 ∷
-    -- a final byte is one of 48 to 126 behind 27 59 and 27 63, and of 64 to 126 behind 27 79
-    tokenTyped (27 ∷ 59 ∷ 48 ∷ []) 0x01 ∷
-    tokenTyped (27 ∷ 59 ∷ 126 ∷ []) 0x01 ∷
-    tokenTyped (27 ∷ 59 ∷ 127 ∷ []) 0x02 ∷
-    tokenTyped (27 ∷ 63 ∷ 48 ∷ []) 0x01 ∷
-    tokenTyped (27 ∷ 63 ∷ 126 ∷ []) 0x01 ∷
-    tokenTyped (27 ∷ 63 ∷ 127 ∷ []) 0x02 ∷
-    tokenTyped (27 ∷ 79 ∷ 48 ∷ []) 0x02 ∷
-    tokenTyped (27 ∷ 79 ∷ 63 ∷ []) 0x02 ∷
-    tokenTyped (27 ∷ 79 ∷ 64 ∷ []) 0x01 ∷
-    tokenTyped (27 ∷ 79 ∷ 126 ∷ []) 0x01 ∷
-    tokenTyped (27 ∷ 79 ∷ 127 ∷ []) 0x02 ∷
-    -- any number of 32 to 47 may stand before it
-    tokenTyped (27 ∷ 59 ∷ 32 ∷ 47 ∷ 48 ∷ []) 0x01 ∷
-    tokenTyped (27 ∷ 63 ∷ 32 ∷ 47 ∷ 48 ∷ []) 0x01 ∷
-    tokenTyped (27 ∷ 79 ∷ 32 ∷ 47 ∷ 63 ∷ []) 0x02 ∷
-    tokenTyped (27 ∷ 79 ∷ 32 ∷ 47 ∷ 64 ∷ []) 0x01 ∷
-    -- Check Input counts the keys that wait and the bytes of a token
-    runs (initiated ∷ recognising ∷ startedA ∷ (typed ESC [] [] ++ (stored 0x31 ∷ stored 0x32 ∷ waiting 3 ∷ []))) ∷
-    -- a termination set of 33 bytes
-    runs (initiated ∷ told (0x02 ∷ 0x00 ∷ 0x50 ∷ 0x00 ∷ 0x50 ∷ 0x00 ∷ 0x00 ∷ 0x00 ∷ 0x00 ∷ 0x00 ∷ 0x00 ∷ 0x00 ∷ 0x00 ∷ 0x00 ∷ 0x00 ∷ 0x00 ∷ 0x21 ∷ replicate 33 0) unsound [] [] ∷ []) ∷
-    -- fields that the line ignores are kept, and unused bits are written 0
-    copies (0x02 ∷ 0x01 ∷ 0x90 ∷ 0xFC ∷ 0x50 ∷ 0x00 ∷ 0x02 ∷ 0x00 ∷ 0x07 ∷ 0x00 ∷ 0x02 ∷ 0x00 ∷ 0x00 ∷ 0x00 ∷ 0x02 ∷ 0x00 ∷ 0x02 ∷ 0xFF ∷ 0x00 ∷ 0x3F ∷ 0x20 ∷ []) accepted
-    (0x02 ∷ 0x01 ∷ 0x90 ∷ 0x00 ∷ 0x50 ∷ 0x00 ∷ 0x02 ∷ 0x00 ∷ 0x07 ∷ 0x00 ∷ 0x02 ∷ 0x00 ∷ 0x00 ∷ 0x00 ∷ 0x02 ∷ 0x00 ∷ 0x02 ∷ 0xFF ∷ 0x00 ∷ 0x3F ∷ 0x20 ∷ []) ∷
-    copies (0x0B ∷ 0xFF ∷ 0x02 ∷ 0x02 ∷ 0x41 ∷ 0xFF ∷ 0x83 ∷ 0x09 ∷ 0x02 ∷ 0xFF ∷ 0x0A ∷ 0x02 ∷ 0xF5 ∷ []) accepted
-    (0x0B ∷ 0x00 ∷ 0x02 ∷ 0x02 ∷ 0x41 ∷ 0xFF ∷ 0x03 ∷ 0x09 ∷ 0x02 ∷ 0x01 ∷ 0x0A ∷ 0x02 ∷ 0x05 ∷ []) ∷
-    -- a section's length is read low byte first
-    asks 2 (attributeRecord 2 (0x41 ∷ 0x04 ∷ [])) emptyRecord (0x41 ∷ 0x04 ∷ []) ∷
-    -- the own record's section goes before the site's
-    asks 4 (largestReadRecord 80) (largestReadRecord 72) (80 ∷ []) ∷
-    asks 4 emptyRecord (largestReadRecord 72) (72 ∷ []) ∷
-    -- unsound records: a set that ends in 0; a byte behind the last section; a code twice; deferred-clear; a largest read of 133; a switch of 2; a site record of another form
-    asks 3 (setRecord 2 (0x01 ∷ 0x00 ∷ [])) emptyRecord [] ∷
-    asks 4 (largestReadRecord 80 ++ (0x00 ∷ [])) emptyRecord [] ∷
-    asks 2 (attributeRecord 4 (0x41 ∷ 0x04 ∷ 0x41 ∷ 0x08 ∷ [])) emptyRecord [] ∷
-    asks 2 (attributeRecord 2 (0x41 ∷ 0x02 ∷ [])) emptyRecord [] ∷
-    asks 4 (largestReadRecord 132) emptyRecord (132 ∷ []) ∷
-    asks 4 (largestReadRecord 133) emptyRecord [] ∷
-    asks 1 (switchRecord 12 (0x04 ∷ 0x02 ∷ 0x00 ∷ 0x05 ∷ 0x02 ∷ 0x02 ∷ 0x06 ∷ 0x02 ∷ 0x00 ∷ 0x09 ∷ 0x02 ∷ 0x00 ∷ [])) emptyRecord [] ∷
-    asks 4 (largestReadRecord 80) (0x02 ∷ []) [] ∷
-    -- loaded attributes are all of them: a code that is not listed has 0
-    runs
-    (initiated ∷ told (0x0B ∷ 0x00 ∷ 0x02 ∷ 0x02 ∷ 0x41 ∷ 0xFF ∷ 0x04 ∷ []) accepted [] [] ∷
-    loading (attributeRecord 2 (0x42 ∷ 0x04 ∷ [])) emptyRecord accepted ∷
-    told (0x0A ∷ 0x00 ∷ 0x02 ∷ 0x02 ∷ 0x41 ∷ 0x02 ∷ 0x02 ∷ 0x42 ∷ []) accepted []
-    (0x0C ∷ 0x00 ∷ 0x0B ∷ 0x00 ∷ 0x02 ∷ 0x02 ∷ 0x41 ∷ 0x7F ∷ 0x00 ∷ 0x02 ∷ 0x02 ∷ 0x42 ∷ 0x7F ∷ 0x04 ∷ []) ∷ []) ∷
-    -- a largest read, loaded before Initiate: one more is 5, before V's 6, and as many are taken
-    runs
-    (loading (largestReadRecord 80) emptyRecord accepted ∷ initiated ∷
-    told (0x02 ∷ 0x11 ∷ 0x90 ∷ 0x00 ∷ 0x51 ∷ 0x00 ∷ 0x02 ∷ 0x00 ∷ 0x00 ∷ 0x00 ∷ 0x02 ∷ 0x00 ∷ 0x00 ∷ 0x00 ∷ 0x02 ∷ 0x00 ∷ 0x00 ∷ 0x3F ∷ 0x20 ∷ []) unsound [] [] ∷
-    told (0x02 ∷ 0x11 ∷ 0x90 ∷ 0x00 ∷ 0x50 ∷ 0x00 ∷ 0x02 ∷ 0x00 ∷ 0x00 ∷ 0x00 ∷ 0x02 ∷ 0x00 ∷ 0x00 ∷ 0x00 ∷ 0x02 ∷ 0x00 ∷ 0x00 ∷ 0x3F ∷ 0x20 ∷ []) notCarried [] [] ∷
-    startedA ∷ []) ∷
-    -- a loaded set is the one that ZZ 0 looks at: "A" ends the read
-    runs
-    (initiated ∷ loading (setRecord 9 (replicate 8 0x00 ++ (0x02 ∷ []))) emptyRecord accepted ∷
-    told (0x02 ∷ 0x01 ∷ 0x10 ∷ 0x00 ∷ 0x50 ∷ 0x00 ∷ 0x02 ∷ 0x00 ∷ 0x00 ∷ 0x00 ∷ 0x02 ∷ 0x00 ∷ 0x00 ∷ 0x00 ∷ 0x02 ∷ 0x00 ∷ 0x00 ∷ 0x3F ∷ 0x20 ∷ []) accepted (0x3F ∷ 0x20 ∷ []) [] ∷
-    typed 0x41 (0x41 ∷ []) (0x09 ∷ 0x00 ∷ 0x03 ∷ 0x00 ∷ 0x02 ∷ 0x00 ∷ 0x00 ∷ 0x03 ∷ 0x00 ∷ 0x00 ∷ 0x41 ∷ [])) ∷
-    -- echo turned off in mid read: the read keeps its own, and the next one does not echo
-    runs
-    (initiated ∷ startedA ∷
-    loading (switchRecord 12 (0x04 ∷ 0x02 ∷ 0x00 ∷ 0x05 ∷ 0x02 ∷ 0x00 ∷ 0x06 ∷ 0x02 ∷ 0x00 ∷ 0x09 ∷ 0x02 ∷ 0x00 ∷ [])) emptyRecord accepted ∷
-    (typed 0x31 (0x31 ∷ []) [] ++
-    typed 0x0D (0x0D ∷ 0x0A ∷ []) (0x0A ∷ 0x00 ∷ 0x03 ∷ 0x00 ∷ 0x02 ∷ 0x00 ∷ 0x01 ∷ 0x00 ∷ 0x01 ∷ 0x00 ∷ 0x31 ∷ 0x0D ∷ []) ++
-    (startedA ∷ typed 0x31 [] []))) ∷
-    -- a refused load, which is no record or one of another form, leaves the line as it was
-    runs
-    (initiated ∷ loading emptyRecord [] unsoundRecord ∷ loading (largestReadRecord 1) (0x02 ∷ []) unsoundRecord ∷ startedA ∷ []) ∷ []

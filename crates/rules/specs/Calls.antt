@@ -12,7 +12,7 @@ use Rattle.rules.specs.Messages.Parameters.{selector}
 use Rattle.rules.specs.Messages.Forms as forms
 use Rattle.rules.specs.Messages.Forms.{Message, typeIn, formOf}
 use Rattle.rules.specs.Messages.Codec.{Outcome, refused, sound, soundLength, definedKind, read, bytesAs}
-use Rattle.rules.specs.Messages.Fields.{noLock, noFix, lock, newline, prefix, postfix, transparent}
+use Rattle.rules.specs.Messages.Fields.{transparent}
 use Rattle.rules.specs.StartRead.{startOfDisplay, continues, vertical, soundStartRead}
 use Rattle.rules.specs.State.{Characters, Reading, State, fresh}
 use Rattle.rules.specs.Turns.{Turn, Rule, still}
@@ -72,8 +72,7 @@ unfoldable pub carriesStartRead : Message ℕ → Bool
 carriesStartRead m = eqb (startOfDisplay m) 0 && isOff (continues m) && isOff (vertical m)
 
 unfoldable pub carriesWrite : Message ℕ → Bool
-carriesWrite m =
-    eqb (lock m) noLock && isOff (newline m) && isOff (transparent m) && eqb (prefix m) noFix && eqb (postfix m) noFix
+carriesWrite m = isOff (transparent m)
 
 module _ {C : Type 0} where
   unfoldable pub isPending : Option (Reading C) → Bool

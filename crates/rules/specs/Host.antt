@@ -1,21 +1,21 @@
--- What an accepted host message does: Initiate, Clear Input, Write, and the rest by their own rules.
+-- What an accepted host message does: Initiate, Clear Input, and the rest by their own rules.
 use Prim.Native.Nat.{ℕ}
-use mathlib.Core.Bool.{true, false, not, _&&_}
+use mathlib.Core.Bool.{true}
 use mathlib.Core.List.{List, [], _∷_}
 use lib.Dec.{eqb}
 use lib.ListN.{replicate}
-use Rattle.rules.specs.Choice.{pick, isOn, bit, isEmpty}
+use Rattle.rules.specs.Choice.{pick}
 use Rattle.rules.specs.Numbers.{messageSize, inputSize}
 use Rattle.rules.specs.Messages.Layout.{wordBytes, bytesOf}
 use Rattle.rules.specs.Messages.Forms as forms
-use Rattle.rules.specs.Messages.Forms.{Message, plain, revisionSize}
-use Rattle.rules.specs.Messages.Fields.{keepsOutput, wantsCompletion}
-use Rattle.rules.specs.Screen.{SP, change}
-use Rattle.rules.specs.State.{Characters, State, withHost, withTerminal, withInitiated, withDiscarding}
-use Rattle.rules.specs.Turns.{Rule, writes, sends, changes, here, _then_, only}
+use Rattle.rules.specs.Messages.Forms.{Message, revisionSize}
+use Rattle.rules.specs.Screen.{SP}
+use Rattle.rules.specs.State.{Characters, withHost, withInitiated}
+use Rattle.rules.specs.Turns.{Rule, sends, changes, here, _then_}
 use Rattle.rules.specs.ReadData.{unreads, checksInput}
 use Rattle.rules.specs.Arrival.{rubbingOut, clearRule}
 use Rattle.rules.specs.StartRead.Acceptance.{startsRead}
+use Rattle.rules.specs.Write.{writesOut}
 use Rattle.rules.specs.Characteristics.{withParameters, report}
 
 -- VERSION, ECO and MOD of ours
@@ -60,36 +60,6 @@ module _ {C : Type 0} where
   unfoldable pub initiates : Rule C
   initiates = changes (λ s. withHost (withInitiated true (s .host)) s) then sends ourInitiate
 
-  -- positions are changes since the state before; output is lost when there was some and it was discarded
-  unfoldable pub completion : Message ℕ → State C → State C → Message C
-  completion m before now =
-      plain forms.writeCompletion
-      (bit (now .terminal .discarding && not (isEmpty (m .text))) ∷
-      change (now .terminal .screen .column) (before .terminal .screen .column) ∷
-      change (now .terminal .screen .line) (before .terminal .screen .line) ∷
-      [])
-
-  -- don't-discard turns output discard off, without a message
-  unfoldable pub stopsDiscarding : ℕ → Rule C
-  stopsDiscarding keeps = only (isOn keeps) (changes (λ s. withTerminal (withDiscarding false (s .terminal)) s))
-
-  -- data, unless output discard is on
-  unfoldable pub writesUnlessDiscarding : List ℕ → Rule C
-  writesUnlessDiscarding text = here (λ s. only (not (s .terminal .discarding)) (writes text))
-
-  -- Write Completion, when asked for
-  unfoldable pub sendsCompletion : ℕ → Message ℕ → State C → Rule C
-  sendsCompletion wants m before = only (isOn wants) (here (λ s. sends (completion m before s)))
-
-  -- Write sends its data unless output discard is on; don't-discard first turns it off. Echo and prompts are never discarded: no other rule that
-  -- writes looks at it. The flags for first and last part change nothing: none looks at them.
-  unfoldable pub writesOut : Message ℕ → Rule C
-  writesOut m =
-      here (λ before.
-      stopsDiscarding (keepsOutput m) then
-      writesUnlessDiscarding (m .text) then
-      sendsCompletion (wantsCompletion m) m before)
-
   unfoldable pub reports : Message ℕ → Rule C
   reports m = here (λ s. sends (report (s .host) m))
 
@@ -104,7 +74,7 @@ module _ {C : Type 0} (chars : Characters C) where
       (pick (eqb (m .kind) forms.startRead) (startsRead chars m)
       (pick (eqb (m .kind) forms.unread) (unreads chars m)
       (pick (eqb (m .kind) forms.clearInput) (clearRule chars rubbingOut)
-      (pick (eqb (m .kind) forms.write) (writesOut m)
+      (pick (eqb (m .kind) forms.write) (writesOut chars m)
       (pick (eqb (m .kind) forms.readCharacteristics) (reports m)
       (pick (eqb (m .kind) forms.characteristics) (setsCharacteristics m)
       checksInput))))))

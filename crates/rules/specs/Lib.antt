@@ -11,6 +11,7 @@ pub mod Editing
 pub mod Arrival
 pub mod Steps
 pub mod Characteristics
+pub mod Write
 pub mod Host
 pub mod Settings
 pub mod Calls

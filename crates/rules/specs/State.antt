@@ -61,6 +61,10 @@ pub record Terminal : Type 0 where
   pub screen : Screen
   pub discarding : Bool
   pub quoting : Bool
+  -- no step acts
+  pub locked : Bool
+  -- the skip-linefeed mark: the next Write leaves out a first LF
+  pub skipLinefeed : Bool
   pub dropped : ℕ
 
 -- a key that waits
@@ -124,7 +128,14 @@ freshHost =
 
 unfoldable pub freshTerminal : Terminal
 freshTerminal =
-    record { screen = record { column = 0; line = 0; afterCR = false }; discarding = false; quoting = false; dropped = 0 }
+    record {
+      screen = record { column = 0; line = 0; afterCR = false };
+      discarding = false;
+      quoting = false;
+      locked = false;
+      skipLinefeed = false;
+      dropped = 0;
+    }
 
 unfoldable pub fresh : {C : Type 0} → State C
 fresh = record { host = freshHost; terminal = freshTerminal; typed = record { typeAhead = []; token = [] }; pendingRead = none }
@@ -164,16 +175,28 @@ module _ {C : Type 0} where
   withRead x s = record { host = s .host; terminal = s .terminal; typed = s .typed; pendingRead = x }
 
 abbrev pub withScreen : Screen → Terminal → Terminal
-withScreen x t = record { screen = x; discarding = t .discarding; quoting = t .quoting; dropped = t .dropped }
+withScreen x t =
+    record { screen = x; discarding = t .discarding; quoting = t .quoting; locked = t .locked; skipLinefeed = t .skipLinefeed; dropped = t .dropped }
 
 abbrev pub withDiscarding : Bool → Terminal → Terminal
-withDiscarding x t = record { screen = t .screen; discarding = x; quoting = t .quoting; dropped = t .dropped }
+withDiscarding x t =
+    record { screen = t .screen; discarding = x; quoting = t .quoting; locked = t .locked; skipLinefeed = t .skipLinefeed; dropped = t .dropped }
 
 abbrev pub withQuoting : Bool → Terminal → Terminal
-withQuoting x t = record { screen = t .screen; discarding = t .discarding; quoting = x; dropped = t .dropped }
+withQuoting x t =
+    record { screen = t .screen; discarding = t .discarding; quoting = x; locked = t .locked; skipLinefeed = t .skipLinefeed; dropped = t .dropped }
+
+abbrev pub withLocked : Bool → Terminal → Terminal
+withLocked x t =
+    record { screen = t .screen; discarding = t .discarding; quoting = t .quoting; locked = x; skipLinefeed = t .skipLinefeed; dropped = t .dropped }
+
+abbrev pub withSkipLinefeed : Bool → Terminal → Terminal
+withSkipLinefeed x t =
+    record { screen = t .screen; discarding = t .discarding; quoting = t .quoting; locked = t .locked; skipLinefeed = x; dropped = t .dropped }
 
 abbrev pub withDropped : ℕ → Terminal → Terminal
-withDropped x t = record { screen = t .screen; discarding = t .discarding; quoting = t .quoting; dropped = x }
+withDropped x t =
+    record { screen = t .screen; discarding = t .discarding; quoting = t .quoting; locked = t .locked; skipLinefeed = t .skipLinefeed; dropped = x }
 
 module _ {C : Type 0} where
   abbrev pub withInput : List C → Reading C → Reading C

@@ -141,8 +141,9 @@ module _ {C : Type 0} (chars : Characters C) where
   stepsWhile none = still
   stepsWhile (some r) = here (λ s. pick (isWhole (tokenCodes chars s)) (takesToken r) (takesFirst (s .typed .typeAhead) r))
 
+  -- a locked step does nothing
   unfoldable pub steps : Rule C
-  steps = here (λ s. stepsWhile (s .pendingRead))
+  steps = here (λ s. only (not (s .terminal .locked)) (stepsWhile (s .pendingRead)))
 
   -- Tick: idle rises by one; at TIMEOUT the read completes
   unfoldable pub idles : Reading C → Rule C

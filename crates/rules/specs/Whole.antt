@@ -18,10 +18,12 @@ use Rattle.rules.specs.Arrival
 use Rattle.rules.specs.StartRead.Acceptance
 use Rattle.rules.specs.Steps
 use Rattle.rules.specs.Characteristics
+use Rattle.rules.specs.Write
 use Rattle.rules.specs.Host
 use Rattle.rules.specs.Settings
 use Rattle.rules.specs.Calls
 use Rattle.rules.specs.Bench
+use Rattle.rules.specs.Bench.Rows
 use Rattle.rules.specs.TwoRuns
 use Rattle.rules.specs.TwoRuns.Examples
 
@@ -82,7 +84,7 @@ unfolding Editing.isWord Editing.leading Editing.leftByDeleteWord Editing.endOf 
 openEditing = tt
 
 unfoldable pub openArrival : Unit {0}
-unfolding Arrival.isImmediateClear Arrival.isHello Arrival.idleAgain Arrival.keeps Arrival.countsDropped Arrival.drops Arrival.stores Arrival.storesQuoted Arrival.quotes Arrival.sendsDiscardState Arrival.flipsDiscard Arrival.areControlsOff Arrival.emptiesTyped Arrival.clearsInput Arrival.clearRule Arrival.clearsBy Arrival.sendsOutOfBand Arrival.endsOutOfBand Arrival.clearsAtOnce Arrival.controlled Arrival.byFirstRule Arrival.arrives
+unfolding Arrival.isImmediateClear Arrival.isHello Arrival.idleAgain Arrival.keeps Arrival.countsDropped Arrival.drops Arrival.stores Arrival.storesQuoted Arrival.quotes Arrival.sendsDiscardState Arrival.unlocks Arrival.unlocksIfDiscarding Arrival.flipsDiscard Arrival.areControlsOff Arrival.emptiesTyped Arrival.clearsInput Arrival.clearRule Arrival.clearsBy Arrival.sendsOutOfBand Arrival.endsOutOfBand Arrival.clearsAtOnce Arrival.controlled Arrival.byFirstRule Arrival.arrives
 openArrival = tt
 
 unfoldable pub openAcceptance : Unit {0}
@@ -97,8 +99,12 @@ unfoldable pub openCharacteristics : Unit {0}
 unfolding Characteristics.isCarried Characteristics.masked Characteristics.withAttribute Characteristics.withSwitch Characteristics.withParameter Characteristics.withParameters Characteristics.isDeferredClear Characteristics.switchOf Characteristics.reported Characteristics.report Characteristics.carriesSettings
 openCharacteristics = tt
 
+unfoldable pub openWrite : Unit {0}
+unfolding Write.fixBytes Write.ownBytes Write.hasOutput Write.unskipped Write.stopsDiscarding Write.writesOwn Write.endsLine Write.putsOut Write.completion Write.sendsCompletion Write.setsLock Write.redisplaysWhile Write.redisplaysAfter Write.writesOut
+openWrite = tt
+
 unfoldable pub openHost : Unit {0}
-unfolding Host.ourInitiate Host.initiates Host.completion Host.stopsDiscarding Host.writesUnlessDiscarding Host.sendsCompletion Host.writesOut Host.reports Host.setsCharacteristics Host.obeys
+unfolding Host.ourInitiate Host.initiates Host.reports Host.setsCharacteristics Host.obeys
 openHost = tt
 
 unfoldable pub openSettings : Unit {0}
@@ -110,7 +116,7 @@ unfolding Calls.areaAfter Calls.mapText Calls.sentBytes Calls.isServers Calls.is
 openCalls = tt
 
 unfoldable pub openBench : Unit {0}
-unfolding Bench.readsAs Bench.endsIn Bench.copyOf Bench.answersAs Bench.runsAs Bench.holds Bench.failures Bench.typedUnseen Bench.starred Bench.warned
+unfolding Bench.readsAs Bench.endsIn Bench.copyOf Bench.answersAs Bench.runsAs Bench.holds Bench.failures Bench.typedUnseen Rows.starred Rows.warned
 openBench = tt
 
 unfoldable pub openTwoRuns : Unit {0}
@@ -122,5 +128,5 @@ unfolding Examples.sameSeen Examples.looksSame Examples.hostReads Examples.conve
 openExamples = tt
 
 unfoldable pub whole : Unit {0}
-unfolding openChoice openNumbers openLayout openParameters openForms openCodec openUnused openStartRead openScreen openState openTurns openToken openReadData openEditing openArrival openAcceptance openSteps openCharacteristics openHost openSettings openCalls openBench openTwoRuns openExamples
+unfolding openChoice openNumbers openLayout openParameters openForms openCodec openUnused openStartRead openScreen openState openTurns openToken openReadData openEditing openArrival openAcceptance openSteps openCharacteristics openWrite openHost openSettings openCalls openBench openTwoRuns openExamples
 whole = tt

@@ -1,5 +1,5 @@
 -- Laws of areas, screens and echoes. Crates above cite the public ones.
 mod Cases
-mod Echoes
+pub mod Echoes
 mod Written
 pub mod Marks

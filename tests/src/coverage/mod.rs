@@ -2,10 +2,12 @@
 //! number, message type and rule of page 01 and the requests was met.
 
 pub mod tokens;
+pub mod writes;
 
 use crate::settings::{self, Flaw, Source, FLAWS, SECTIONS};
 use std::fmt;
 use tokens::Tokens;
+use writes::Writes;
 
 macro_rules! rules {
     ($($name:ident),* $(,)?) => {
@@ -48,9 +50,23 @@ rules! {
     AutoPrompt, SetLast, SetLastNone, SetLoaded, SetGiven, SetUniversal, RaiseOn, EscapesOn, NoEcho,
     EchoOffByCharacteristic, UnreadAlways, UnreadEmptyDone, UnreadEmptyWaiting,
     UnreadEmptyToken, UnreadEmptyInput, UnreadNoRead, ClearInput, CheckInput,
-    WriteSent, WriteEmpty, WriteDiscarded, WriteEndsDiscard, WriteLost, WriteNotLost,
     SetAttributes, SetRaise, SetEcho, SetEscapes, SetAutoPrompt, SetNothing, SetInMidRead,
     AnswerAttributes, AnswerRaise, AnswerEcho, AnswerEscapes, AnswerAutoPrompt, AnswerNothing,
+    // Write.
+    WriteSent, WriteEmpty, WriteDiscarded, WriteEndsDiscard, LockInLaterPart, NewlineInEarlierPart,
+    WriteLost, WriteNotLost, WriteNothingToLose, LostByPrefixAlone, LostByPostfixAlone,
+    LostByNewlineAlone, LfLeftOut, LfLeftOutAlone, LfBehindLeftOutSent, LfLeftOutBehindOthers,
+    LfLeftOutBehindCr, MarkSet, MarkSetAgain, MarkFalls, MarkStaysEmpty, MarkStaysDiscarded,
+    MarkNotSetDiscarded, WriteRedisplays, WriteRedisplaysPrompt, WriteRedisplaysNoEcho,
+    WriteRedisplaysNoEchoPrompt, WriteRedisplaysNothing, WriteRedisplaysDdd1, WriteRedisplaysDdd2,
+    WriteRedisplaysDdd3, WriteRedisplaysHiddenLf, WriteRedisplaysDiscarded, WriteRedisplaysUntold,
+    WriteRedisplaysIdle, WriteRedisplaysPartial, WriteRedisplaysElsewhere,
+    // While the line is locked, and what unlocks it besides a Write.
+    LockedStepNoRead, LockedStepHeld, LockedStepKey, LockedStepPartial, LockedStepTimeoutZero,
+    LockedStepEmpty, LockedTickWaiting, LockedTickIdle, LockedTickTimeout, LockedKeyStored,
+    LockedKeyDropped, LockedKeyQuote, LockedKeyHello, LockedKeyClearRead, LockedKeyClearIdle,
+    LockedReadPending, LockedReadFullAtOnce, LockedLoad, DiscardOnUnlocks, DiscardOffKeepsLock,
+    ImmediateClearUnlocksRead, ImmediateClearUnlocksIdle,
     // Settings.
     LoadOwnBeforeSite, LoadMixed, LoadNothing, LoadKeepsLargest, LargestReadMet,
     AskedOwn, AskedSite, AskedOwnBeforeSite, AskedEmpty, AskedOutside, AskedOwnUnsound,
@@ -58,9 +74,8 @@ rules! {
     // Refusals, one for each cause.
     TerminalAreaSmall, MessageAreaSmall, MessageEmpty, MessageLong, TypeUnknown, TypeOfServers,
     FirstNotInitiate, InitiateAgain, ReadAlreadyPending, CutShort, LeftOver, ValueUndefined,
-    SelectorUndefined, StartReadTest, StartOfDisplay, FlagK, FlagV, WriteLock, WriteNewline,
-    WriteTransparent, WritePrefix, WritePostfix, SelectorOutside, DeferredClear, AnswerLong,
-    LargestReadPassed, LargestReadBeforeNotCarried,
+    SelectorUndefined, StartReadTest, StartOfDisplay, FlagK, FlagV, WriteTransparent,
+    SelectorOutside, DeferredClear, AnswerLong, LargestReadPassed, LargestReadBeforeNotCarried,
 }
 
 /// When a load came.
@@ -87,6 +102,8 @@ pub struct Coverage {
     pub sent: [u64; 15],
     pub received: [u64; 15],
     pub read: [u64; 15],
+    /// Types accepted while the line was locked.
+    pub received_locked: [u64; 15],
     /// Refusals of reading without a line.
     pub read_numbers: [u64; 7],
     pub rules: [u64; RULES.len()],
@@ -97,6 +114,7 @@ pub struct Coverage {
     /// How often each section number was asked for.
     pub asked: [u64; DIGITS],
     pub tokens: Tokens,
+    pub writes: Writes,
 }
 
 impl Default for Coverage {
@@ -107,12 +125,14 @@ impl Default for Coverage {
             sent: [0; 15],
             received: [0; 15],
             read: [0; 15],
+            received_locked: [0; 15],
             read_numbers: [0; 7],
             rules: [0; RULES.len()],
             loaded: Default::default(),
             flaws: [[0; FLAWS.len()]; 2],
             asked: [0; DIGITS],
             tokens: Tokens::default(),
+            writes: Writes::default(),
         }
     }
 }
@@ -121,6 +141,8 @@ impl Default for Coverage {
 const CODES: std::ops::RangeInclusive<usize> = 0..=8;
 const SENT: [usize; 7] = [1, 3, 4, 8, 9, 11, 13];
 const RECEIVED: [usize; 8] = [1, 2, 5, 6, 7, 10, 11, 12];
+/// A line is locked after its Initiate only.
+const RECEIVED_LOCKED: [usize; 7] = [2, 5, 6, 7, 10, 11, 12];
 
 impl Coverage {
     pub fn met(&mut self, rule: Rule) {
@@ -168,6 +190,7 @@ impl Coverage {
         let pairs = pairs.chain(self.sent.iter_mut().zip(&other.sent));
         let pairs = pairs.chain(self.received.iter_mut().zip(&other.received));
         let pairs = pairs.chain(self.read.iter_mut().zip(&other.read));
+        let pairs = pairs.chain(self.received_locked.iter_mut().zip(&other.received_locked));
         let pairs = pairs.chain(self.read_numbers.iter_mut().zip(&other.read_numbers));
         let pairs = pairs.chain(self.asked.iter_mut().zip(&other.asked));
         let flaws = other.flaws.as_flattened();
@@ -179,6 +202,7 @@ impl Coverage {
             *mine += more;
         }
         self.tokens.add(&other.tokens);
+        self.writes.add(&other.writes);
     }
 
     /// Calls on a line, messages read and sections asked for without one.
@@ -194,10 +218,13 @@ impl Coverage {
         table.extend((0..8).map(|no| (format!("number {no}"), self.numbers[no])));
         table.extend(SENT.map(|kind| (format!("sent type {kind}"), self.sent[kind])));
         table.extend(RECEIVED.map(|kind| (format!("received type {kind}"), self.received[kind])));
+        let locked = |kind| (format!("received type {kind}, locked"), self.received_locked[kind]);
+        table.extend(RECEIVED_LOCKED.map(locked));
         table.extend((1..15).map(|kind| (format!("read type {kind}"), self.read[kind])));
         table.extend([0, 2, 3, 5].map(|no| (format!("reading {no}"), self.read_numbers[no])));
         table.extend(RULES.iter().map(|rule| (format!("{rule:?}"), self.rules[*rule as usize])));
         self.settings_table(&mut table);
+        table.extend(self.writes.table());
         table
     }
 

@@ -1,8 +1,8 @@
 //! Random messages, mostly sound ones.
 
 use super::random::Random;
-use super::typing;
-use crate::message::{self, Initiate, Message, ReadData, StartRead, Value, Wanted, Write};
+use super::{typing, writes};
+use crate::message::{self, Initiate, Message, ReadData, StartRead, Value, Wanted};
 
 const BOOLEANS: [u16; 7] = [0x201, 0x203, 0x204, 0x205, 0x206, 0x207, 0x209];
 const CARRIED: [u16; 4] = [0x204, 0x205, 0x206, 0x209];
@@ -120,37 +120,6 @@ fn any_start_read(random: &mut Random) -> StartRead {
     read
 }
 
-pub fn write(random: &mut Random) -> Write {
-    let length = match random.below(10) {
-        0 => 0,
-        1 => random.below(252),
-        _ => random.below(20),
-    };
-    Write {
-        keep: random.chance(20),
-        first: random.chance(50),
-        last: random.chance(50),
-        status: random.chance(60),
-        prefix_value: random.pick(&[0, 0, 7, 200]),
-        postfix_value: random.pick(&[0, 0, 7, 200]),
-        data: (0..length).map(|_| typing::written(random)).collect(),
-        ..Write::default()
-    }
-}
-
-fn any_write(random: &mut Random) -> Write {
-    let mut write = write(random);
-    match random.below(12) {
-        0 => write.lock = random.pick(&[1, 2, 3]),
-        1 => write.newline = true,
-        2 => write.transparent = true,
-        3 => write.prefix = random.pick(&[1, 2]),
-        4 => write.postfix = random.pick(&[1, 2]),
-        _ => {}
-    }
-    write
-}
-
 /// Characteristics that the line takes.
 pub fn carried_values(random: &mut Random) -> Vec<Value> {
     let count = random.pick(&[0, 1, 1, 1, 2, 3, 8]);
@@ -226,7 +195,7 @@ pub fn sound(kind: usize, random: &mut Random) -> Message {
         4 => Message::OutOfBand { discard: flag, character: random.byte() },
         5 => Message::Unread { if_empty: flag },
         6 => Message::ClearInput,
-        7 => Message::Write(any_write(random)),
+        7 => Message::Write(writes::any_write(random)),
         8 => Message::WriteCompletion {
             lost: flag,
             horizontal: random.next() as u16,

@@ -9,6 +9,7 @@ mod scenes;
 mod settings;
 mod tokens;
 mod typing;
+mod writes;
 
 use crate::line::Line;
 use crate::message::{Message, StartRead};
@@ -79,13 +80,14 @@ impl Generator {
 
     /// One scene; a script is a row of them.
     fn scene(&mut self) {
-        match self.random.below(110) {
+        self.lift_mostly();
+        match self.random.below(122) {
             0..=25 => self.read(),
             26 => self.many_lines(),
             27..=29 => self.idling(),
             30..=37 => self.tokens(),
             38..=47 => self.typing(),
-            48..=55 => self.write(),
+            48..=55 => self.writes(),
             56..=60 => self.characteristics(),
             61..=63 => self.read_characteristics(),
             64..=66 => self.out_of_band(),
@@ -105,7 +107,10 @@ impl Generator {
             96 => self.hidden_lf(),
             97 => self.narrow_tab(),
             98 | 99 => self.fresh(),
-            _ => self.settings(),
+            100..=110 => self.settings(),
+            111..=116 => self.locked(),
+            117..=119 => self.skipped_linefeed(),
+            _ => self.single_parts(),
         }
     }
 
@@ -154,16 +159,6 @@ impl Generator {
         }
         if self.line().waiting() > 12 && self.random.chance(60) {
             self.send(&[6, 0]);
-        }
-    }
-
-    fn write(&mut self) {
-        if self.random.chance(30) {
-            self.key(15);
-        }
-        for _ in 0..self.random.between(1, 3) {
-            let write = messages::write(&mut self.random);
-            self.host(&Message::Write(write));
         }
     }
 

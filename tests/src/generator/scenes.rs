@@ -36,8 +36,7 @@ impl Generator {
             if !self.line().read_pending() && self.random.chance(60) {
                 self.start(|_, _| {});
             }
-            let code = typing::key(&mut self.random);
-            self.key(code);
+            self.typed_key();
             if self.random.chance(pace) {
                 self.step();
             }
@@ -47,15 +46,20 @@ impl Generator {
         }
     }
 
+    pub(super) fn typed_key(&mut self) {
+        let code = typing::key(&mut self.random);
+        self.key(code);
+    }
+
     pub(super) fn steps(&mut self, count: usize) {
         for _ in 0..count {
             self.step();
         }
     }
 
-    /// Steps until nothing waits or the read completes.
+    /// Steps until nothing waits or no step may act.
     pub(super) fn settle(&mut self) {
-        while self.line().read_pending() && self.line().waiting() > 0 && self.random.chance(97) {
+        while self.line().may_step() && self.line().waiting() > 0 && self.random.chance(97) {
             self.step();
         }
     }
@@ -205,6 +209,18 @@ impl Generator {
     /// A token finds no room and meets the next read's ticks and requests
     /// before its steps.
     pub(super) fn absentee(&mut self) {
+        self.held_token();
+        for _ in 0..self.random.between(1, 4) {
+            match self.random.below(5) {
+                0 => self.step(),
+                1 => self.small_requests(),
+                _ => self.tick(),
+            }
+        }
+    }
+
+    /// A token found no room, and the next read has started.
+    pub(super) fn held_token(&mut self) {
         self.start(|random, read| {
             read.escapes = 2;
             read.end_of_data = 0;
@@ -223,12 +239,5 @@ impl Generator {
             read.timeout = random.pick(&[1, 2]);
             read.escapes = random.pick(&[0, 1, 2]);
         });
-        for _ in 0..self.random.between(1, 4) {
-            match self.random.below(5) {
-                0 => self.step(),
-                1 => self.small_requests(),
-                _ => self.tick(),
-            }
-        }
     }
 }

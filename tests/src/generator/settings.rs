@@ -61,8 +61,7 @@ impl Generator {
     /// Loads before Initiate, which has to keep what they left.
     pub(super) fn early_loads(&mut self) {
         for _ in 0..self.random.between(1, 3) {
-            let pair = any_pair(&mut self.random);
-            self.order(Order::Load(pair));
+            self.load();
         }
         if self.random.chance(30) {
             let code = self.random.pick(&typing::OUT_OF_BAND);
@@ -70,10 +69,14 @@ impl Generator {
         }
     }
 
+    pub(super) fn load(&mut self) {
+        let pair = any_pair(&mut self.random);
+        self.order(Order::Load(pair));
+    }
+
     fn loads(&mut self) {
         for _ in 0..self.random.between(1, 4) {
-            let pair = any_pair(&mut self.random);
-            self.order(Order::Load(pair));
+            self.load();
             if self.random.chance(40) {
                 self.read();
             }

@@ -7,13 +7,13 @@ use crate::message::Message;
 use crate::screen::BEL;
 
 /// The out-of-band field of an attribute.
-const OUT_OF_BAND: u8 = 3;
-const IMMEDIATE_CLEAR: u8 = 1;
-const HELLO: u8 = 3;
+pub const OUT_OF_BAND: u8 = 3;
+pub const IMMEDIATE_CLEAR: u8 = 1;
+pub const HELLO: u8 = 3;
 
-const DISCARD_KEY: u8 = 15;
-const QUOTE_KEY: u8 = 22;
-const CLEAR_KEY: u8 = 24;
+pub const DISCARD_KEY: u8 = 15;
+pub const QUOTE_KEY: u8 = 22;
+pub const CLEAR_KEY: u8 = 24;
 
 impl Line {
     pub(super) fn arrive(&mut self, code: u8, out: &mut Answer) {
@@ -33,6 +33,7 @@ impl Line {
         match (out_of_band, code) {
             (HELLO, _) => {
                 self.seen.met(Rule::KeyHello);
+                self.seen.met_if(self.locked, Rule::LockedKeyHello);
                 self.seen.met_if(self.loaded.attributes, Rule::KeyLoadedHello);
                 self.send(Message::OutOfBand { discard: false, character: code }, out);
             }
@@ -51,11 +52,14 @@ impl Line {
         self.seen.met_if(self.loaded.attributes, Rule::KeyLoadedClear);
         self.send(Message::OutOfBand { discard: false, character: code }, out);
         self.clear(false, out);
+        let locked = std::mem::replace(&mut self.locked, false);
         if self.read.is_some() {
             self.seen.met(Rule::KeyImmediateClearRead);
+            self.seen.met_if(locked, Rule::ImmediateClearUnlocksRead);
             self.complete(super::reads::OUT_OF_BAND, 0, out);
         } else {
             self.seen.met(Rule::KeyImmediateClearIdle);
+            self.seen.met_if(locked, Rule::ImmediateClearUnlocksIdle);
         }
     }
 
@@ -63,31 +67,45 @@ impl Line {
         match code {
             QUOTE_KEY => {
                 self.seen.met(Rule::KeyQuote);
+                self.seen.met_if(self.locked, Rule::LockedKeyQuote);
                 self.quote_pending = true;
             }
             CLEAR_KEY => {
                 let pending = self.read.is_some();
                 self.seen.met(if pending { Rule::KeyClearRead } else { Rule::KeyClearIdle });
+                self.seen.met_if(self.locked && pending, Rule::LockedKeyClearRead);
+                self.seen.met_if(self.locked && !pending, Rule::LockedKeyClearIdle);
                 self.clear(true, out);
             }
-            _ => {
-                self.discard = !self.discard;
-                let rule = if self.discard { Rule::KeyDiscardOn } else { Rule::KeyDiscardOff };
-                self.seen.met(rule);
-                self.send(Message::DiscardState { shown: !self.discard }, out);
-            }
+            _ => self.flip_discard(out),
         }
+    }
+
+    /// 15; when it turns discard on it unlocks too.
+    fn flip_discard(&mut self, out: &mut Answer) {
+        self.discard = !self.discard;
+        if self.discard {
+            self.seen.met(Rule::KeyDiscardOn);
+            self.seen.met_if(self.locked, Rule::DiscardOnUnlocks);
+            self.locked = false;
+        } else {
+            self.seen.met(Rule::KeyDiscardOff);
+            self.seen.met_if(self.locked, Rule::DiscardOffKeepsLock);
+        }
+        self.send(Message::DiscardState { shown: !self.discard }, out);
     }
 
     fn store(&mut self, code: u8, quoted: bool, out: &mut Answer) {
         if self.type_ahead.len() == TYPE_AHEAD {
             self.seen.met(Rule::KeyDropped);
+            self.seen.met_if(self.locked, Rule::LockedKeyDropped);
             self.seen.met_if(quoted, Rule::KeyQuotedDropped);
             self.screen.send(BEL, &mut out.terminal);
             self.dropped = self.dropped.saturating_add(1);
             return;
         }
         self.seen.met(Rule::KeyStored);
+        self.seen.met_if(self.locked, Rule::LockedKeyStored);
         self.type_ahead.push_back(Key { code, quoted });
         self.idle = 0;
     }

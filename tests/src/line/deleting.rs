@@ -80,14 +80,10 @@ impl Line {
         }
     }
 
-    /// 18: shows the prompt and the input again on a new line.
+    /// Shows the prompt and the input again on a new line, as 18 does.
     pub(super) fn redisplay(&mut self, out: &mut Answer) {
         self.screen.send_all(&[CR, LF], &mut out.terminal);
         self.show_prompt(out);
-        let Some(read) = &self.read else { return };
-        let rule = if read.echo { Rule::Redisplay } else { Rule::RedisplayNoEcho };
-        self.seen.met(rule);
-        self.seen.met_if(read.hidden_lf, Rule::HiddenLfRedisplayed);
         self.show_input(out);
     }
 

@@ -3,8 +3,8 @@
 use super::{Answer, Line, Loaded, MESSAGE_AREA};
 use crate::coverage::Rule;
 use crate::message::{
-    self, Fault, Initiate, Message, StartRead, Value, Wanted, Write, AUTO_PROMPT, INPUT_ESCAPES,
-    LONGEST, NORMAL_ECHO, RAISE_INPUT,
+    self, Fault, Initiate, Message, StartRead, Value, Wanted, AUTO_PROMPT, INPUT_ESCAPES, LONGEST,
+    NORMAL_ECHO, RAISE_INPUT,
 };
 
 const INITIATE: u8 = 1;
@@ -61,7 +61,7 @@ impl Line {
     fn not_carried(&self, message: &Message) -> Option<Rule> {
         match message {
             Message::StartRead(read) => read_not_carried(read),
-            Message::Write(write) => write_not_carried(write),
+            Message::Write(write) => write.transparent.then_some(Rule::WriteTransparent),
             Message::ReadCharacteristics(wanted) => {
                 if wanted.iter().any(|one| matches!(one, Wanted::Plain(s) if !carried(*s))) {
                     return Some(Rule::SelectorOutside);
@@ -125,7 +125,7 @@ impl Line {
                 self.seen.met(Rule::ClearInput);
                 self.clear(true, out);
             }
-            Message::Write(write) => self.write(write, out),
+            Message::Write(write) => self.write(&write, out),
             Message::ReadCharacteristics(wanted) => self.answer_characteristics(&wanted, out),
             Message::Characteristics(values) => self.set_characteristics(&values),
             Message::CheckInput => {
@@ -167,29 +167,6 @@ impl Line {
         self.seen.met(rule);
         if done {
             self.complete(super::reads::UNREAD, 0, out);
-        }
-    }
-
-    fn write(&mut self, write: Write, out: &mut Answer) {
-        if write.keep {
-            self.seen.met_if(self.discard, Rule::WriteEndsDiscard);
-            self.discard = false;
-        }
-        let (column, line) = (self.screen.column, self.screen.line);
-        let lost = self.discard && !write.data.is_empty();
-        self.seen.met(match (lost, write.data.is_empty()) {
-            (true, _) => Rule::WriteDiscarded,
-            (false, true) => Rule::WriteEmpty,
-            (false, false) => Rule::WriteSent,
-        });
-        if !lost {
-            self.screen.send_all(&write.data, &mut out.terminal);
-        }
-        if write.status {
-            self.seen.met(if lost { Rule::WriteLost } else { Rule::WriteNotLost });
-            let horizontal = self.screen.column.wrapping_sub(column) & 255;
-            let vertical = u16::from(self.screen.line.wrapping_sub(line));
-            self.send(Message::WriteCompletion { lost, horizontal, vertical }, out);
         }
     }
 
@@ -254,17 +231,6 @@ fn read_not_carried(read: &StartRead) -> Option<Rule> {
     } else {
         read.vertical.then_some(Rule::FlagV)
     }
-}
-
-fn write_not_carried(write: &Write) -> Option<Rule> {
-    let causes = [
-        (write.lock != 0, Rule::WriteLock),
-        (write.newline, Rule::WriteNewline),
-        (write.transparent, Rule::WriteTransparent),
-        (write.prefix != 0, Rule::WritePrefix),
-        (write.postfix != 0, Rule::WritePostfix),
-    ];
-    causes.into_iter().find(|cause| cause.0).map(|cause| cause.1)
 }
 
 /// Only the bits that the MASK selects change.

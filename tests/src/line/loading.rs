@@ -88,6 +88,7 @@ impl Line {
             (true, true) => Moment::MidRead,
             (true, false) => Moment::NoRead,
         };
+        self.seen.met_if(self.locked, Rule::LockedLoad);
         let mut sources = Vec::new();
         for place in 0..SECTIONS {
             let (section, source) = settings::find(place, own, site);

@@ -1,12 +1,13 @@
 //! One line of the console end and its calls.
 
-mod arrival;
+pub mod arrival;
 mod deleting;
 mod host;
 mod loading;
 mod reads;
 mod steps;
 pub mod tokens;
+mod writes;
 
 use crate::coverage::{Coverage, Rule};
 use crate::message::{self, Message, BUFFER};
@@ -101,6 +102,10 @@ pub struct Line {
     escapes: bool,
     auto_prompt: bool,
     discard: bool,
+    /// A Write has locked the line: steps are held back.
+    locked: bool,
+    /// The skip-linefeed mark: if the next Write begins with LF, it is left out.
+    skip_linefeed: bool,
     attributes: [u8; 256],
     screen: Screen,
     type_ahead: VecDeque<Key>,
@@ -128,6 +133,8 @@ impl Default for Line {
             escapes: false,
             auto_prompt: false,
             discard: false,
+            locked: false,
+            skip_linefeed: false,
             attributes: [0; 256],
             screen: Screen::default(),
             type_ahead: VecDeque::with_capacity(TYPE_AHEAD),
@@ -167,6 +174,15 @@ impl Line {
         self.read.is_some()
     }
 
+    pub fn locked(&self) -> bool {
+        self.locked
+    }
+
+    /// Whether a step may act.
+    pub fn may_step(&self) -> bool {
+        self.read.is_some() && !self.locked
+    }
+
     /// How many keys are in type-ahead.
     pub fn waiting(&self) -> usize {
         self.type_ahead.len()
@@ -196,6 +212,7 @@ impl Line {
         match self.judge(bytes) {
             Ok(message) => {
                 self.seen.received[usize::from(message.kind())] += 1;
+                self.seen.received_locked[usize::from(message.kind())] += u64::from(self.locked);
                 self.act(message, &mut out);
                 self.close(out)
             }

@@ -59,9 +59,11 @@ impl Line {
         self.show_input(out);
         if full {
             self.seen.met(Rule::ReadFullAtOnce);
+            self.seen.met_if(self.locked, Rule::LockedReadFullAtOnce);
             self.complete(BUFFER_FULL, 0, out);
         } else {
             self.seen.met(Rule::ReadPending);
+            self.seen.met_if(self.locked, Rule::LockedReadPending);
         }
     }
 

@@ -13,10 +13,10 @@ const REDISPLAY: u8 = 18;
 
 impl Line {
     pub(super) fn take_step(&mut self, out: &mut Answer) {
-        let Some(read) = &self.read else {
-            self.seen.met(Rule::StepNoRead);
-            return;
-        };
+        if !self.may_step() {
+            return self.note_step_not_taken();
+        }
+        let Some(read) = &self.read else { return };
         if let Some(token) = self.held.take() {
             self.seen.met_if(!read.escapes, Rule::StepHeldUnrecognised);
             let fits = self.offer(token, out);
@@ -32,6 +32,22 @@ impl Line {
             }
             None => self.seen.met(Rule::StepEmpty),
         }
+    }
+
+    /// Counts a step that may not act, by what it would have done.
+    fn note_step_not_taken(&mut self) {
+        let Some(read) = &self.read else {
+            self.seen.met_if(self.locked, Rule::LockedStepNoRead);
+            return self.seen.met(Rule::StepNoRead);
+        };
+        let partial = !self.partial.is_empty();
+        self.seen.met(match self.type_ahead.is_empty() {
+            _ if self.held.is_some() => Rule::LockedStepHeld,
+            false if partial => Rule::LockedStepPartial,
+            false => Rule::LockedStepKey,
+            true if read.timeout == Some(0) => Rule::LockedStepTimeoutZero,
+            true => Rule::LockedStepEmpty,
+        });
     }
 
     /// The seven step rules.
@@ -107,7 +123,11 @@ impl Line {
         let Some(read) = &self.read else { return };
         let some = read.has_input();
         let end = match code {
-            REDISPLAY => return self.redisplay(out),
+            REDISPLAY => {
+                self.seen.met(if read.echo { Rule::Redisplay } else { Rule::RedisplayNoEcho });
+                self.seen.met_if(read.hidden_lf, Rule::HiddenLfRedisplayed);
+                return self.redisplay(out);
+            }
             DELETE_LINE => read.end_of_prompt,
             DELETE_WORD => read.word_start(),
             _ => read.buffer.len().saturating_sub(1),
@@ -177,16 +197,19 @@ impl Line {
             _ => return self.seen.met(Rule::TickNothing),
         };
         if !self.type_ahead.is_empty() {
+            self.seen.met_if(self.locked, Rule::LockedTickWaiting);
             return self.seen.met(Rule::TickWaiting);
         }
         if self.held.is_some() {
             return self.seen.met(Rule::TickHeld);
         }
         self.seen.met(Rule::TickIdle);
+        self.seen.met_if(self.locked, Rule::LockedTickIdle);
         self.seen.met_if(!self.partial.is_empty(), Rule::TickIdlePartial);
         self.idle += 1;
         if self.idle >= timeout {
             self.seen.met(Rule::TickTimeout);
+            self.seen.met_if(self.locked, Rule::LockedTickTimeout);
             self.complete(TIMEOUT, 0, out);
         }
     }

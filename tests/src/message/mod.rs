@@ -22,6 +22,17 @@ pub const INPUT_COUNT_STATE: u16 = 0x0208;
 pub const AUTO_PROMPT: u16 = 0x0209;
 pub const ERROR_PROCESSING: u16 = 0x020A;
 
+/// Lock values of Write, UU in 000, 4.16.8.
+pub const UNLOCK: u8 = 0;
+pub const LOCK: u8 = 1;
+pub const UNLOCK_AFTER: u8 = 2;
+pub const REDISPLAY_AFTER: u8 = 3;
+
+/// Prefix and postfix codes of Write.
+pub const NO_AFFIX: u8 = 0;
+pub const NEWLINES: u8 = 1;
+pub const CHARACTER: u8 = 2;
+
 #[derive(Clone, Debug, PartialEq, Eq)]
 pub enum Message {
     Initiate(Initiate),

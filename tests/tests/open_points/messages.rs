@@ -84,7 +84,7 @@ fn point_07_the_mask_answered() {
 fn point_08_five_before_six() {
     let mut bench = Bench::initiated();
     bench.refused(5, &bytes("0A 00 01 02 0B 02"));
-    bench.refused(5, &bytes("07 01 03 00 00"));
+    bench.refused(5, &bytes("07 00 0B 00 00"));
     bench.refused(5, &start(K | ZZ2, b"", b"").max(133).bytes());
 }
 
@@ -209,6 +209,6 @@ fn point_18_the_buffer_limit_without_a_line() {
 #[test]
 fn point_19_a_prefix_of_zero_newlines() {
     let mut bench = Bench::initiated();
-    bench.refused(6, &bytes("07 40 00 00 00"));
-    bench.refused(6, &bytes("07 00 01 00 00"));
+    assert_eq!(bench.host("07 40 00 00 00"), done("0D", ""));
+    assert_eq!(bench.host("07 00 01 00 00"), done("0D", ""));
 }

@@ -2,22 +2,22 @@
 use mathlib.Core.Path.{_≡_}
 use Prim.Native.Nat.{ℕ, _+_, _*_, _<_}
 use native.Mathlib.Omega.{arith}
-use mathlib.Core.Bool.{Bool, true, false, not}
+use mathlib.Core.Bool.{Bool, true, false}
 use mathlib.Core.List.{[], _∷_, map-append}
 use mathlib.Core.Option.{Option, none, some}
 use lib.ListN.{length, length-append}
 use borrow.Author.Tests.{ltb-true}
 use Rattle.rules.specs.Numbers.{inputSize, typeAheadSize}
-use Rattle.rules.specs.State.{Reading, State, codes, withTerminal, withDiscarding, withQuoting, withIdle}
+use Rattle.rules.specs.State.{Reading, State, codes, withIdle}
 use Rattle.rules.specs.Turns.{cleared}
 use Rattle.rules.specs.Editing.{endOf}
 use Rattle.rules.specs.ReadData.{byOutOfBand}
-use Rattle.rules.specs.Arrival.{idleAgain, keeps, countsDropped, drops, stores, storesQuoted, quotes, sendsDiscardState, flipsDiscard, emptiesTyped, clearsInput}
+use Rattle.rules.specs.Arrival.{idleAgain, keeps, countsDropped, drops, stores, storesQuoted, quotes, sendsDiscardState, unlocks, unlocksIfDiscarding, flipsDiscard, emptiesTyped, clearsInput}
 use Rattle.rules.specs.Arrival.{Rubbing, rubbingOut, withoutRubbing, clearRule, clearsBy, sendsOutOfBand, endsOutOfBand, clearsAtOnce, controlled, byFirstRule, arrives}
 use Rattle.rules.specs.Bounds.{BoundedReading, BoundedRead}
 use Rattle.rules.proofs.Bounds.Bytes.{no-bytes, one-byte, bytes-append}
-use Rattle.rules.proofs.Bounds.Turns.{OfRead, Steady, Good, Fine, fine, reset, retyped, reread}
-use Rattle.rules.proofs.Bounds.Turns.{still-good, changes-good, writes-good, sends-good, tells-then, changes-then, then-good, quiet-then, pick-good}
+use Rattle.rules.proofs.Bounds.Turns.{OfRead, Steady, Good, Fine, fine, reset, reflagged, retyped, reread}
+use Rattle.rules.proofs.Bounds.Turns.{still-good, changes-good, writes-good, sends-good, tells-then, changes-then, then-good, quiet-then, then-quiet, pick-good, only-good}
 use Rattle.rules.proofs.Bounds.Messages.{discardState-sent, outOfBand-sent}
 use Rattle.rules.proofs.Bounds.ReadData.{bounded-answerable, completes-good}
 use Rattle.rules.proofs.Bounds.Editing.{deletesWithoutRubbing-good, deletes-good}
@@ -60,21 +60,17 @@ module _ {area : ℕ} {s : State ℕ} (c : ℕ) (byte : c < 256) (h : Steady Bou
   stores-good quoted =
       pick-good _ _ _ (λ y. keeps-good quoted (ltb-true (length (s .typed .typeAhead)) typeAheadSize y)) (λ n. drops-good)
 
--- quoting and discarding may be anything
-pub terminal-same : {R : OfRead} {s : State ℕ} (discarding quoting : Bool) → Steady R s →
-    Steady R (withTerminal (withDiscarding discarding (withQuoting quoting (s .terminal))) s)
-terminal-same discarding quoting h = reset h (record { column = h .terminal .column; line = h .terminal .line; dropped = h .terminal .dropped })
-
 module _ {s : State ℕ} (c : ℕ) (h : Steady BoundedRead s) where
   quotes-good : {bytes area : ℕ} → Good BoundedRead bytes area (quotes c s)
   unfolding quotes
-  quotes-good = tells-then _ _ (changes-good _ (terminal-same (s .terminal .discarding) true h))
+  quotes-good = tells-then _ _ (changes-good _ (reflagged h))
 
   flipsDiscard-good : {bytes : ℕ} → Good BoundedRead bytes 4 (flipsDiscard c s)
-  unfolding flipsDiscard sendsDiscardState
+  unfolding flipsDiscard sendsDiscardState unlocks unlocksIfDiscarding
   flipsDiscard-good =
       tells-then _ _ (changes-then _ _
-      (sends-good _ (discardState-sent _) (omega arith) (terminal-same (not (s .terminal .discarding)) (s .terminal .quoting) h)))
+      (then-quiet _ _ (sends-good _ (discardState-sent _) (omega arith) (reflagged h)) λ s₁ h₁.
+      only-good _ _ (λ y. changes-good _ (reflagged h₁)) (λ n. h₁)))
 
 -- The clear rule, and how many bytes it writes at most.
 abbrev rubbed : Rubbing → ℕ
@@ -114,12 +110,13 @@ module _ {s : State ℕ} (h : Steady BoundedRead s) where
     sendsOutOfBand-good = tells-then _ _ (sends-good _ (outOfBand-sent c byte) (omega arith) h)
 
     clearsAtOnce-fine : Fine (clearsAtOnce codes c s)
-    unfolding clearsAtOnce
+    unfolding clearsAtOnce unlocks
     clearsAtOnce-fine =
         fine 0 (inputSize + 15) (omega arith) (omega arith)
         (then-good _ _ 0 0 5 (10 + inputSize) (omega arith) (omega arith) sendsOutOfBand-good λ s₁ h₁.
-        quiet-then _ _ (clearRule-good h₁ withoutRubbing) λ s₂ h₂.
-        endsOutOfBand-good h₂ (s₂ .pendingRead) (h₂ .pendingRead))
+        changes-then _ _
+        (quiet-then _ _ (clearRule-good (reflagged h₁) withoutRubbing) λ s₂ h₂.
+        endsOutOfBand-good h₂ (s₂ .pendingRead) (h₂ .pendingRead)))
 
     stores-fine : (quoted : Bool) → Fine (stores typeAheadSize quoted c s)
     stores-fine quoted = fine 1 0 (omega arith) (omega arith) (stores-good c byte h quoted)
@@ -136,7 +133,7 @@ module _ {s : State ℕ} (h : Steady BoundedRead s) where
     unfolding byFirstRule storesQuoted
     byFirstRule-fine =
         pick-good _ _ _
-        (λ y. changes-then _ _ (fine 1 0 (omega arith) (omega arith) (stores-good c byte (terminal-same (s .terminal .discarding) false h) true))) λ n.
+        (λ y. changes-then _ _ (fine 1 0 (omega arith) (omega arith) (stores-good c byte (reflagged h) true))) λ n.
         pick-good _ _ _ (λ y. fine 0 5 (omega arith) (omega arith) sendsOutOfBand-good) λ n.
         pick-good _ _ _ (λ y. clearsAtOnce-fine) λ n.
         pick-good _ _ _ (λ y. stores-fine false) λ n.

@@ -9,9 +9,10 @@ use lib.ListN.{length, getD}
 use borrow.Author.Tests.{leb-true, eqb-true, eq-eqb}
 use Rattle.rules.specs.Choice.{isEmpty}
 use Rattle.rules.specs.Numbers.{inputSize, messageSize}
-use Rattle.rules.specs.Messages.Layout.{fits, sizeOf, widthsOf}
+use Rattle.rules.specs.Messages.Layout.{byteValues, fits, sizeOf, widthsOf}
 use Rattle.rules.specs.Messages.Forms.{Message, forms, formOf, startRead, write}
 use Rattle.rules.specs.Messages.Codec.{allBytes, definedFields, tailBytes, fitsTail, fitsAs, setSize}
+use Rattle.rules.specs.Messages.Fields.{prefixValue, postfixValue}
 use Rattle.rules.specs.StartRead.{soundFields, soundStartRead, underflow, vertical, continues, raises, disables, setChoice, escapes}
 use Rattle.rules.specs.StartRead.{maxLength, endOfData, timeout, endOfPrompt, startOfDisplay, lowWater}
 use Rattle.rules.specs.State.{State}
@@ -47,6 +48,14 @@ write-text m e h =
     let n = subst (λ k. length (sentBytes m) ≡ 1 + sizeOf (formOf k .head) + length (tailBytes (formOf k .tail) m)) e (sent-length m) in
     let l = h .size in
     omega arith
+
+-- and its prefix and postfix values are bytes
+pub write-values : (m : Message ℕ) → m .kind ≡ write → Fit m → (prefixValue m < byteValues) × (postfixValue m < byteValues)
+unfolding formOf forms widthsOf
+write-values m e h =
+    let head = fit-parts m write e h .0 in
+    let at = fits-at (widthsOf (formOf write .head)) (m .numbers) in
+    (at 9 head (omega arith), at 10 head (omega arith))
 
 -- A line's Start Read test, of one that passes without a line: its largest read alone.
 pub start-passes : (s : State ℕ) (m : Message ℕ) → m .kind ≡ startRead → definedFields m ≡ true → passesTest s m ≡ leb (maxLength m) (s .host .largestRead)

@@ -211,7 +211,7 @@ module _ {s : State ℕ} (h : Steady BoundedRead s) where
 
   pub steps-fine : Fine (steps codes s)
   unfolding steps
-  steps-fine = stepsWhile-fine (s .pendingRead) (h .pendingRead)
+  steps-fine = only-good _ _ (λ y. stepsWhile-fine (s .pendingRead) (h .pendingRead)) (λ n. h)
 
   pub ticks-fine : Fine (ticks codes s)
   unfolding ticks

@@ -43,6 +43,21 @@ module _ {R : OfRead} {s : State ℕ} (h : Steady R s) where
   pub reset : {x : Terminal} → BoundedTerminal x → Steady R (withTerminal x s)
   reset b = record { host = h .host; terminal = b; typed = h .typed; pendingRead = h .pendingRead }
 
+  -- the terminal's flags may be anything
+  pub reflagged : {discarding quoting locked skipLinefeed : Bool} →
+      Steady R
+      (withTerminal
+      (record {
+        screen = s .terminal .screen;
+        discarding = discarding;
+        quoting = quoting;
+        locked = locked;
+        skipLinefeed = skipLinefeed;
+        dropped = s .terminal .dropped;
+      })
+      s)
+  reflagged = reset (record { column = h .terminal .column; line = h .terminal .line; dropped = h .terminal .dropped })
+
   pub retyped : {keys : List (Key ℕ)} {token : List ℕ} → BoundedTyped (record { typeAhead = keys; token = token }) → Steady R (withTyped keys token s)
   retyped b = record { host = h .host; terminal = h .terminal; typed = b; pendingRead = h .pendingRead }
 

@@ -7,12 +7,12 @@ use mathlib.Core.Option.{Option, none, some, Option·map}
 use lib.ListN.{length-map}
 use Rattle.rules.specs.State.{Characters, Reading}
 use Rattle.rules.specs.Turns.{cleared}
-use Rattle.rules.specs.Arrival.{idleAgain, keeps, countsDropped, drops, stores, storesQuoted, quotes, sendsDiscardState, flipsDiscard, areControlsOff}
+use Rattle.rules.specs.Arrival.{idleAgain, keeps, countsDropped, drops, stores, storesQuoted, quotes, sendsDiscardState, unlocks, unlocksIfDiscarding, flipsDiscard, areControlsOff}
 use Rattle.rules.specs.Arrival.{Rubbing, rubbingOut, withoutRubbing, emptiesTyped, clearsInput, clearRule, clearsBy}
 use Rattle.rules.specs.Arrival.{sendsOutOfBand, endsOutOfBand, clearsAtOnce, controlled, byFirstRule, arrives}
 use Rattle.rules.proofs.Erasure.Maps.{Maps, mapReading}
 use Rattle.rules.proofs.Erasure.Turns.{Erases, erases-here, erases-still, erases-writes, erases-plain, erases-tells, erases-changes}
-use Rattle.rules.proofs.Erasure.Turns.{erases-then, erases-pick}
+use Rattle.rules.proofs.Erasure.Turns.{erases-then, erases-pick, erases-only}
 use Rattle.rules.proofs.Erasure.ReadData.{erase-completes}
 use Rattle.rules.proofs.Erasure.Editing.{erase-deletes, erase-deletesWithoutRubbing}
 
@@ -44,11 +44,17 @@ module _ {C D : Type 0} {f : C → D} {cs : Characters C} {ds : Characters D} (m
   unfolding quotes
   erase-quotes c = erases-then (erases-tells _ refl) (erases-changes _ _ (λ s. refl))
 
+  erase-unlocks : Erases f unlocks unlocks
+  unfolding unlocks
+  erase-unlocks = erases-changes _ _ (λ s. refl)
+
   erase-flipsDiscard : (c : C) → Erases f (flipsDiscard c) (flipsDiscard (f c))
-  unfolding flipsDiscard sendsDiscardState
+  unfolding flipsDiscard sendsDiscardState unlocksIfDiscarding
   erase-flipsDiscard c =
       erases-then (erases-tells _ refl)
-      (erases-then (erases-changes _ _ (λ s. refl)) (record { at = λ s. erases-here s (erases-plain _ refl) }))
+      (erases-then (erases-changes _ _ (λ s. refl))
+      (erases-then (record { at = λ s. erases-here s (erases-plain _ refl) })
+      (record { at = λ s. erases-here s (erases-only refl erase-unlocks) })))
 
   erase-areControlsOff : (x : Option (Reading C)) → areControlsOff (Option·map (mapReading f) x) ≡ areControlsOff x
   unfolding areControlsOff
@@ -88,7 +94,8 @@ module _ {C D : Type 0} {f : C → D} {cs : Characters C} {ds : Characters D} (m
   unfolding clearsAtOnce
   erase-clearsAtOnce c =
       erases-then (erase-sendsOutOfBand c)
-      (erases-then (erase-clearRule withoutRubbing) (record { at = λ s. erases-here s (erase-endsOutOfBand (s .pendingRead)) }))
+      (erases-then erase-unlocks
+      (erases-then (erase-clearRule withoutRubbing) (record { at = λ s. erases-here s (erase-endsOutOfBand (s .pendingRead)) })))
 
   erase-controlled : (c : C) → Erases f (controlled cs c) (controlled ds (f c))
   unfolding controlled

@@ -6,31 +6,20 @@ use Rattle.rules.specs.Messages.Forms.{Message}
 use Rattle.rules.specs.State.{Characters}
 use Rattle.rules.specs.Characteristics.{report}
 use Rattle.rules.specs.Arrival.{rubbingOut}
-use Rattle.rules.specs.Host.{ourInitiate, initiates, completion, stopsDiscarding, writesUnlessDiscarding, sendsCompletion, writesOut, reports, setsCharacteristics, obeys}
+use Rattle.rules.specs.Host.{ourInitiate, initiates, reports, setsCharacteristics, obeys}
 use Rattle.rules.specs.Settings.{loads}
 use Rattle.rules.specs.Calls.{mapText}
 use Rattle.rules.proofs.Erasure.Maps.{Maps}
-use Rattle.rules.proofs.Erasure.Turns.{Erases, erases-here, erases-writes, erases-sends, erases-plain, erases-changes}
-use Rattle.rules.proofs.Erasure.Turns.{erases-then, erases-pick, erases-only}
+use Rattle.rules.proofs.Erasure.Turns.{Erases, erases-here, erases-sends, erases-changes, erases-then, erases-pick}
 use Rattle.rules.proofs.Erasure.ReadData.{erase-unreads, erase-checksInput}
 use Rattle.rules.proofs.Erasure.Arrival.{erase-clearRule}
 use Rattle.rules.proofs.Erasure.StartRead.{erase-startsRead}
+use Rattle.rules.proofs.Erasure.Write.{erase-writesOut}
 
 module _ {C D : Type 0} {f : C → D} {cs : Characters C} {ds : Characters D} (m : Maps f cs ds) where
   erase-initiates : Erases f initiates initiates
   unfolding initiates ourInitiate mapText
   erase-initiates = erases-then (erases-changes _ _ (λ s. refl)) (erases-sends _ refl)
-
-  erase-writesOut : (n : Message ℕ) → Erases f (writesOut n) (writesOut n)
-  unfolding writesOut stopsDiscarding writesUnlessDiscarding sendsCompletion completion
-  erase-writesOut n =
-      record {
-        at = λ s.
-            erases-here s
-            (erases-then (erases-only refl (erases-changes _ _ (λ s. refl)))
-            (erases-then (record { at = λ s. erases-here s (erases-only refl (erases-writes refl)) })
-            (erases-only refl (record { at = λ s. erases-here s (erases-plain _ refl) }))));
-      }
 
   erase-reports : (n : Message ℕ) → Erases f (reports n) (reports n)
   unfolding reports report mapText
@@ -51,7 +40,7 @@ module _ {C D : Type 0} {f : C → D} {cs : Characters C} {ds : Characters D} (m
       (erases-pick refl (erase-startsRead m n)
       (erases-pick refl (erase-unreads m n)
       (erases-pick refl (erase-clearRule m rubbingOut)
-      (erases-pick refl (erase-writesOut n)
+      (erases-pick refl (erase-writesOut m n)
       (erases-pick refl (erase-reports n)
       (erases-pick refl (erase-setsCharacteristics n)
       (erase-checksInput m)))))))

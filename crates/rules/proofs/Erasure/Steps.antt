@@ -135,7 +135,7 @@ module _ {C D : Type 0} {f : C → D} {cs : Characters C} {ds : Characters D} (m
 
   pub erase-steps : Erases f (steps cs) (steps ds)
   unfolding steps
-  erase-steps = record { at = λ s. erases-here s (erase-stepsWhile (s .pendingRead)) }
+  erase-steps = record { at = λ s. erases-here s (erases-only refl (erase-stepsWhile (s .pendingRead))) }
 
   erase-idles : (r : Reading C) → Erases f (idles cs r) (idles ds (mapReading f r))
   unfolding idles setsIdle

@@ -8,7 +8,7 @@ use Rattle.rules.specs.Messages.Forms as forms
 use Rattle.rules.specs.Messages.Forms.{plain}
 use Rattle.rules.specs.State.{Reading, State}
 use Rattle.rules.specs.Turns.{cleared}
-use Rattle.rules.specs.Arrival.{isHello, isImmediateClear, idleAgain, keeps, countsDropped, drops, stores, storesQuoted, quotes, sendsDiscardState, flipsDiscard}
+use Rattle.rules.specs.Arrival.{isHello, isImmediateClear, idleAgain, keeps, countsDropped, drops, stores, storesQuoted, quotes, sendsDiscardState, unlocks, unlocksIfDiscarding, flipsDiscard}
 use Rattle.rules.specs.Arrival.{Rubbing, rubbingOut, withoutRubbing, emptiesTyped, clearsInput, clearRule, clearsBy}
 use Rattle.rules.specs.Arrival.{sendsOutOfBand, endsOutOfBand, clearsAtOnce, controlled, byFirstRule, arrives}
 use Rattle.rules.proofs.Choice.{pick-cases}
@@ -16,7 +16,7 @@ use Rattle.rules.proofs.TwoRuns.Printing.{printing}
 use Rattle.rules.proofs.TwoRuns.Twins.{Twin, isBoth, code₁, code₂, first-chars, second-chars, same-code}
 use Rattle.rules.proofs.TwoRuns.Twins.{LevelRead, Level, isGuarded, RulesAt, Agreeing}
 use Rattle.rules.proofs.TwoRuns.Turns.{level-emptied, agrees-terminal, agrees-then, agrees-still, agrees-changes, agrees-writes, agrees-sends, told-at, told}
-use Rattle.rules.proofs.TwoRuns.Turns.{agrees-pick, by-test, by-code}
+use Rattle.rules.proofs.TwoRuns.Turns.{agrees-pick, agrees-only, by-test, by-code}
 use Rattle.rules.proofs.TwoRuns.Bands.{attributeAt, Passed, Initiated}
 use Rattle.rules.proofs.TwoRuns.ReadData.{completes-agrees}
 use Rattle.rules.proofs.TwoRuns.Editing.{deletesWithoutRubbing-agrees, deletes-agrees}
@@ -51,9 +51,15 @@ module _ {changed : ℕ → Bool} where
   unfolding quotes
   quotes-agrees c = told _ _ (λ x y. agrees-terminal _)
 
+  unlocks-agrees : Agreeing {changed = changed} (λ chars. unlocks)
+  unfolding unlocks
+  unlocks-agrees = agrees-terminal _
+
   flipsDiscard-agrees : (c : Twin changed) → Agreeing (λ chars. flipsDiscard c)
-  unfolding flipsDiscard sendsDiscardState isGuarded
-  flipsDiscard-agrees c = told _ _ (λ x y. agrees-then (agrees-terminal _) (λ s. agrees-sends refl refl s))
+  unfolding flipsDiscard sendsDiscardState unlocksIfDiscarding isGuarded
+  flipsDiscard-agrees c =
+      told _ _ (λ x y.
+      agrees-then (agrees-terminal _) (agrees-then (λ s. agrees-sends refl refl s) (λ s. agrees-only refl unlocks-agrees s)))
 
   -- The clear rule.
 
@@ -91,7 +97,8 @@ module _ {changed : ℕ → Bool} where
   unfolding clearsAtOnce
   clearsAtOnce-agrees c b =
       agrees-then (sendsOutOfBand-agrees c b)
-      (agrees-then (clearRule-agrees withoutRubbing) (λ s. endsOutOfBand-agrees (s .pendingRead) s))
+      (agrees-then unlocks-agrees
+      (agrees-then (clearRule-agrees withoutRubbing) (λ s. endsOutOfBand-agrees (s .pendingRead) s)))
 
   -- The rules of arrival.
 

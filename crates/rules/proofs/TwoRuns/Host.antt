@@ -7,25 +7,19 @@ use Rattle.rules.specs.Messages.Forms.{Message}
 use Rattle.rules.specs.Arrival.{rubbingOut}
 use Rattle.rules.specs.ReadData.{checksInput}
 use Rattle.rules.specs.Characteristics.{report}
-use Rattle.rules.specs.Host.{ourInitiate, initiates, completion, stopsDiscarding, writesUnlessDiscarding, sendsCompletion, writesOut, reports, setsCharacteristics, obeys}
+use Rattle.rules.specs.Host.{ourInitiate, initiates, reports, setsCharacteristics, obeys}
 use Rattle.rules.specs.Settings.{loads}
 use Rattle.rules.proofs.TwoRuns.Twins.{isGuarded, Agreeing}
-use Rattle.rules.proofs.TwoRuns.Turns.{agrees-terminal, agrees-host, agrees-then, agrees-writes, agrees-sends, agrees-pick, agrees-only}
+use Rattle.rules.proofs.TwoRuns.Turns.{agrees-host, agrees-then, agrees-sends, agrees-pick}
 use Rattle.rules.proofs.TwoRuns.ReadData.{unreads-agrees}
 use Rattle.rules.proofs.TwoRuns.Arrival.{clearRule-agrees}
 use Rattle.rules.proofs.TwoRuns.StartRead.{startsRead-agrees}
+use Rattle.rules.proofs.TwoRuns.Write.{writesOut-agrees}
 
 module _ {changed : ℕ → Bool} where
   initiates-agrees : Agreeing {changed = changed} (λ chars. initiates)
   unfolding initiates ourInitiate isGuarded
   initiates-agrees = agrees-then (agrees-host _) (agrees-sends refl refl)
-
-  writesOut-agrees : (m : Message ℕ) → Agreeing {changed = changed} (λ chars. writesOut m)
-  unfolding writesOut stopsDiscarding writesUnlessDiscarding sendsCompletion completion isGuarded
-  writesOut-agrees m before =
-      agrees-then (agrees-only refl (agrees-terminal _))
-      (agrees-then (λ s. agrees-only refl (agrees-writes refl) s)
-      (agrees-only refl (λ s. agrees-sends refl refl s))) before
 
   reports-agrees : (m : Message ℕ) → Agreeing {changed = changed} (λ chars. reports m)
   unfolding reports report isGuarded

@@ -147,7 +147,7 @@ module _ {changed : ℕ → Bool} where
 
   pub steps-agrees : Agreeing {changed = changed} steps
   unfolding steps
-  steps-agrees s l = stepsWhile-agrees (s .pendingRead) (l .pendingRead) s l
+  steps-agrees s l = agrees-only refl (stepsWhile-agrees (s .pendingRead) (l .pendingRead)) s l
 
   -- The tick.
 

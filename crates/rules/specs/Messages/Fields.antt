@@ -11,7 +11,7 @@ module _ {D : Type 0} where
   abbrev pub unreadCondition : Message D → ℕ
   unreadCondition m = fieldAt m 0
 
-  -- Write, UU: 0 is no lock handling
+  -- Write, UU
   abbrev pub lock : Message D → ℕ
   lock m = fieldAt m 0
 
@@ -23,7 +23,7 @@ module _ {D : Type 0} where
   abbrev pub keepsOutput : Message D → ℕ
   keepsOutput m = fieldAt m 2
 
-  -- PP; 0 is none, and so it is of QQ
+  -- PP
   abbrev pub prefix : Message D → ℕ
   prefix m = fieldAt m 5
 
@@ -39,11 +39,25 @@ module _ {D : Type 0} where
   abbrev pub transparent : Message D → ℕ
   transparent m = fieldAt m 8
 
+  abbrev pub prefixValue : Message D → ℕ
+  prefixValue m = fieldAt m 9
+
+  abbrev pub postfixValue : Message D → ℕ
+  postfixValue m = fieldAt m 10
+
 abbrev pub unreadAlways : ℕ
 unreadAlways = 0
 
-abbrev pub noLock : ℕ
-noLock = 0
+-- UU: 1 locks; any other leaves the line unlocked, and 3 redisplays
+abbrev pub locks : ℕ
+locks = 1
 
-abbrev pub noFix : ℕ
-noFix = 0
+abbrev pub redisplaysBehind : ℕ
+redisplaysBehind = 3
+
+-- PP and QQ: 0 is none, 1 a number of lines, 2 a character
+abbrev pub newLines : ℕ
+newLines = 1
+
+abbrev pub oneCharacter : ℕ
+oneCharacter = 2

@@ -7,7 +7,7 @@ use Rattle.rules.specs.Choice.{bit}
 use Rattle.rules.specs.Messages.Forms.{plain, writeCompletion}
 use Rattle.rules.specs.Messages.Codec as codec
 use Rattle.rules.specs.Screen.{change}
-use Rattle.rules.specs.Host.{completion, sendsCompletion}
+use Rattle.rules.specs.Write.{completion, sendsCompletion}
 use Rattle.message.specs.Found.{heldIn}
 use Rattle.writing.specs.Spans.{spansOf, inside}
 use Rattle.line.proofs.FlowChanges.{here-rule}

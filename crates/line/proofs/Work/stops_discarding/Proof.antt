@@ -3,7 +3,7 @@ use mathlib.Core.Bool.{false}
 use borrow.Author.Needs.{needs}
 use borrow.Author.Tests.{eq-eqb, ne-eqb}
 use Rattle.rules.specs.State.{withDiscarding}
-use Rattle.rules.specs.Host.{stopsDiscarding}
+use Rattle.rules.specs.Write.{stopsDiscarding}
 use Rattle.line.proofs.Turns.{still-does, only-does, not-does}
 use Rattle.line.proofs.ArrivalLaws.{terminal-counted, terminal-does}
 use Rattle.line.proofs.Work.stops_discarding.Statement.{statement}

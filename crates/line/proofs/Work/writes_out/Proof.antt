@@ -1,26 +1,33 @@
-use mathlib.Core.Path.{refl, ap, _∙_}
-use mathlib.Core.Bool.{not}
+use mathlib.Core.Path.{refl}
 use borrow.Author.Needs.{needs}
-use Rattle.rules.specs.Choice.{isEmpty}
-use Rattle.rules.specs.Host.{writesUnlessDiscarding, writesOut}
+use Rattle.rules.specs.Write.{writesOut}
 use Rattle.message.specs.Found.{writeIn}
+use Rattle.line.specs.With.{lent}
 use Rattle.line.proofs.Turns.{then-does}
-use Rattle.line.proofs.FlowChanges.{here-rule, for-equal}
-use Rattle.line.proofs.HostLaws.{some-text}
+use Rattle.line.proofs.FlowChanges.{here-rule}
 use Rattle.line.proofs.Work.writes_out.Statement.{statement}
 use Rattle.line.proofs.Work.writes_out.Tie as tie
 
 span-of-requires : tie.Need-span-of-requires
 span-of-requires c κs = search needs
 
+has-output-requires : tie.Need-has-output-requires
+has-output-requires c κs = search needs
+
 stops-discarding-requires : tie.Need-stops-discarding-requires
 stops-discarding-requires c κs = search needs
 
-writes-unless-discarding-requires : tie.Need-writes-unless-discarding-requires
-writes-unless-discarding-requires c κs = c .before .stops-discarding .ensures .0
+puts-out-requires : tie.Need-puts-out-requires
+puts-out-requires c κs = c .before .stops-discarding .ensures .0
 
 sends-completion-requires : tie.Need-sends-completion-requires
-sends-completion-requires c κs = c .before .before .before .writes-unless-discarding .ensures .0
+sends-completion-requires c κs = c .before .before .before .puts-out .ensures .0
+
+sets-lock-requires : tie.Need-sets-lock-requires
+sets-lock-requires c κs = c .before .before .sends-completion .ensures .0
+
+redisplays-after-requires : tie.Need-redisplays-after-requires
+redisplays-after-requires c κs = (c .before .sets-lock .ensures .0, c .before .before .before .before .before .before .before .before .before .before .before .before .before .before .before .before .before .before .before .before .pre .1)
 
 same-length : tie.Need-same-length
 same-length c = search needs
@@ -31,16 +38,23 @@ same-length-2 c = search needs
 returns : tie.Need-returns
 unfolding writesOut
 returns c =
-    let text = c .before .before .before .before .before .before .before .before .before .span-of .ensures in
-    let start = c .before .before .before .before .before .before .before .before .before .before .before .before .before .before .before .before in
-    let said = c .before .before .sends-completion .ensures in (
-      said .0,
+    let a = c .before .before .before .before .before .before .before .before .before .before .before .before .before .before .before .before .before .before .before .before .before .before .before .args in
+    let text = c .before .before .before .before .before .before .before .before .before .before .before .before .before .before .before .span-of .ensures in
+    let some = c .before .before .before .before .before .before .before .before .before .before .before .before .before .before .has-output .ensures (a .s .now) text in
+    let kept = c .before .before .before .before .before .before .before .before .before .before .before .before .before .stops-discarding .ensures .1 in
+    let written = c .before .before .before .before .before .before .before .before .before .before .before .puts-out .ensures .1 (a .s .now) text in
+    let said = c .before .before .before .before .before .before .before .sends-completion .ensures .1 in
+    let locked = c .before .before .before .before .sets-lock .ensures .1 in
+    let shown = c .before .before .redisplays-after .ensures in (
+      shown .0,
       λ l.
+          let line = lent (a .t) (a .text .now) l in
           here-rule refl
-          (then-does (c .before .before .before .before .before .before .before .before .stops-discarding .ensures .1 l _ _)
-          (then-does
-          (for-equal writesUnlessDiscarding text (c .before .before .before .before .before .before .writes-unless-discarding .ensures .1 l _))
-          (said .1 (writeIn (start .args .s .now) (start .args .f)) _ (some-text _ ∙ ap (λ bs. not (isEmpty bs)) text) refl l _))),
+          (then-does (kept line _ _)
+          (then-does (written line _)
+          (then-does (said (writeIn (a .s .now) (a .f)) _ some refl line _)
+          (then-does (locked line _ _)
+          (shown .1 l _))))),
     )
 
 pub writes-out-spec : {M : Type 1} → statement M
@@ -48,9 +62,12 @@ writes-out-spec =
     tie.close
     (tie.spec
     span-of-requires
+    has-output-requires
     stops-discarding-requires
-    writes-unless-discarding-requires
+    puts-out-requires
     sends-completion-requires
+    sets-lock-requires
+    redisplays-after-requires
     same-length
     same-length-2
     returns)
