@@ -50,11 +50,11 @@ fn fresh_flow() -> Flow
     };
     let terminal = Terminal {
         screen,
+        dropped: 0,
         discarding: false,
         quoting: false,
         locked: false,
         skip_linefeed: false,
-        dropped: 0,
     };
     let typed = Typed {
         keys_len: 0,

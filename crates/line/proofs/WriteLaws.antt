@@ -9,12 +9,12 @@ use lib.ListN.{length, getD, take, drop, replicate}
 use borrow.Author.Tests.{eq-eqb, ne-eqb}
 use Rattle.rules.specs.Choice.{pick, isEmpty, joined}
 use Rattle.rules.specs.Area.{puts}
-use Rattle.rules.specs.Messages.Fields.{redisplaysBehind, newLines, oneCharacter}
+use Rattle.rules.specs.Messages.Fields.{asksRedisplay, newLines, oneCharacter}
 use Rattle.rules.specs.Screen.{CR, LF, shownAll}
 use Rattle.rules.specs.State.{State, codes, withTerminal, withScreen, withSkipLinefeed}
 use Rattle.rules.specs.Turns.{writes, changes, behind, _then_, only}
 use Rattle.rules.specs.Editing.{redisplays}
-use Rattle.rules.specs.Write.{fixBytes, unskipped, writesOwn, redisplaysWhile, redisplaysAfter}
+use Rattle.rules.specs.Write.{fixBytes, unskipped, writesOwn, redisplaysWhile, redisplaysIfAsked}
 use Rattle.rules.specs.Calls.{messageBytes}
 use Rattle.rules.proofs.Choice.{pick-true, pick-false, pick-both, halves}
 use Rattle.screen.proofs.Echoes.{shownAll-append}
@@ -126,19 +126,19 @@ module _ (code value : ℕ) where
 
 -- The redisplay, of a pending read and with UU 3.
 module _ (w : Progress) (lock : ℕ) where
-  pub redisplays-now : {r : Progress} {t t′ m m′ : List ℕ} → eqb lock redisplaysBehind && w .line .flow .pending ≡ true →
-      Does (redisplays codes (readingOf (w .line) (w .line .flow .reading))) w t m r t′ m′ → Does (redisplaysAfter codes lock) w t m r t′ m′
-  unfolding redisplaysAfter redisplaysWhile
+  pub redisplays-now : {r : Progress} {t t′ m m′ : List ℕ} → eqb lock asksRedisplay && w .line .flow .pending ≡ true →
+      Does (redisplays codes (readingOf (w .line) (w .line .flow .reading))) w t m r t′ m′ → Does (redisplaysIfAsked codes lock) w t m r t′ m′
+  unfolding redisplaysIfAsked redisplaysWhile
   redisplays-now e h =
-      let both = halves (eqb lock redisplaysBehind) (w .line .flow .pending) e in
+      let both = halves (eqb lock asksRedisplay) (w .line .flow .pending) e in
       only-does _ (both .0) (here-rule refl (pending-does (redisplaysWhile codes) (readingOf (w .line) (w .line .flow .reading)) (both .1) h))
 
-  redisplays-by : (asked pending : Bool) → eqb lock redisplaysBehind ≡ asked → w .line .flow .pending ≡ pending → asked && pending ≡ false →
-      (t m : List ℕ) → Does (redisplaysAfter codes lock) w t m w t m
-  unfolding redisplaysAfter redisplaysWhile
+  redisplays-by : (asked pending : Bool) → eqb lock asksRedisplay ≡ asked → w .line .flow .pending ≡ pending → asked && pending ≡ false →
+      (t m : List ℕ) → Does (redisplaysIfAsked codes lock) w t m w t m
+  unfolding redisplaysIfAsked redisplaysWhile
   redisplays-by true pending a p e t m =
       only-does _ a (here-rule refl (idle-does (redisplaysWhile codes) (readingOf (w .line) (w .line .flow .reading)) (p ∙ e) (still-does w t m)))
   redisplays-by false pending a p e t m = not-does _ a (still-does w t m)
 
-  pub redisplays-not : (t m : List ℕ) → eqb lock redisplaysBehind && w .line .flow .pending ≡ false → Does (redisplaysAfter codes lock) w t m w t m
-  redisplays-not t m e = redisplays-by (eqb lock redisplaysBehind) (w .line .flow .pending) refl refl e t m
+  pub redisplays-not : (t m : List ℕ) → eqb lock asksRedisplay && w .line .flow .pending ≡ false → Does (redisplaysIfAsked codes lock) w t m w t m
+  redisplays-not t m e = redisplays-by (eqb lock asksRedisplay) (w .line .flow .pending) refl refl e t m

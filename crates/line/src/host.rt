@@ -31,7 +31,8 @@ impl Work {
     {
         let flow = self.flow;
         let typed = flow.typed;
-        let count = typed.keys_len + typed.token_len;
+        let waiting = typed.keys_len + typed.token_len;
+        let count = waiting as u16;
         self.sends_plain(messages, Message::InputCount { count })
     }
 

@@ -29,20 +29,20 @@ mod write;
 // What is known of the terminal.
 pub struct Terminal {
     pub screen: Screen,
+    pub dropped: u16,
     pub discarding: bool,
     pub quoting: bool,
     // no step acts
     pub locked: bool,
     // the skip-linefeed mark: the next Write leaves out a first LF
     pub skip_linefeed: bool,
-    pub dropped: u16,
 }
 
 // Typed and not yet in a read: how many keys wait, and a partial or held token.
 pub struct Typed {
-    pub keys_len: u16,
+    pub keys_len: u8,
     pub token: [u8; rules::TOKEN_SIZE],
-    pub token_len: u16,
+    pub token_len: u8,
 }
 
 // What is fixed for the whole of a read.

@@ -26,7 +26,7 @@ use screen::Screen;
 // UU: 1 locks; any other leaves the line unlocked, and 3 redisplays.
 const LOCKS: u8 = 1;
 
-const REDISPLAYS_BEHIND: u8 = 3;
+const ASKS_REDISPLAY: u8 = 3;
 
 // PP and QQ: 0 is none, 1 a number of lines, 2 a character.
 const NEW_LINES: u8 = 1;
@@ -188,17 +188,17 @@ impl Work {
     }
 
     // UU 3: a pending read is redisplayed as 18 does.
-    fn redisplays_after(self, terminal: &mut [u8], lock: u8, text: &[u8], t: Terms) -> Work
+    fn redisplays_if_asked(self, terminal: &mut [u8], lock: u8, text: &[u8], t: Terms) -> Work
         requires { ⌜ CountedFlow (self .flow) ⌝ }
         requires { ⌜ length (now text) ≡ inputSize ⌝ }
         requires { ⌜ t .«prompt_len» ≤ inputSize ⌝ }
         ensures counted { λ w. ⌜ CountedFlow (w .flow) ⌝ }
         ensures rule { λ w.
             ⌜ ((l : Line) (m : List ℕ) →
-            DoesOn (λ k. rules.redisplaysAfter codes lock) (lent t (now (text .entry)) l) self (now (terminal .entry)) m w (now (terminal .exit)) m) ⌝ }
+            DoesOn (λ k. rules.redisplaysIfAsked codes lock) (lent t (now (text .entry)) l) self (now (terminal .entry)) m w (now (terminal .exit)) m) ⌝ }
     {
         let flow = self.flow;
-        if (lock == REDISPLAYS_BEHIND) & flow.pending {
+        if (lock == ASKS_REDISPLAY) & flow.pending {
             let r = flow.reading;
             return self.redisplays(terminal, r, text, t);
         }
@@ -233,6 +233,6 @@ impl Work {
         let written = kept.puts_out(terminal, f, output);
         let said = written.sends_completion(messages, f.wants_completion, some, before);
         let locked = said.sets_lock(f.lock);
-        locked.redisplays_after(terminal, f.lock, text, t)
+        locked.redisplays_if_asked(terminal, f.lock, text, t)
     }
 }

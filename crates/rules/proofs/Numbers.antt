@@ -35,16 +35,16 @@ pub largest-read-room : topLargestRead ≤ inputSize
 unfolding inputSize
 largest-read-room = omega arith
 
--- counts and positions fit words
+-- counts and positions fit words, counts of keys and of a token's bytes fit a byte together
 pub input-word : inputSize < 65536
 unfolding inputSize
 input-word = omega arith
 
-pub waiting-word : typeAheadSize + tokenSize < 65536
+pub waiting-byte : typeAheadSize + tokenSize < byteValues
 unfolding typeAheadSize tokenSize
-waiting-word = omega arith
+waiting-byte = omega arith
 
--- and so does a message's length in the area
+-- a message's length in the area fits a word
 pub area-word : messageArea < 65536
 unfolding messageArea
 area-word = omega arith

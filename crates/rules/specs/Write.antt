@@ -9,7 +9,7 @@ use Rattle.rules.specs.Choice.{pick, isOn, bit, isEmpty}
 use Rattle.rules.specs.Messages.Forms as forms
 use Rattle.rules.specs.Messages.Forms.{Message, plain}
 use Rattle.rules.specs.Messages.Fields.{lock, newline, keepsOutput, prefix, postfix, prefixValue, postfixValue, wantsCompletion}
-use Rattle.rules.specs.Messages.Fields.{locks, redisplaysBehind, newLines, oneCharacter}
+use Rattle.rules.specs.Messages.Fields.{locks, asksRedisplay, newLines, oneCharacter}
 use Rattle.rules.specs.Screen.{CR, LF, change}
 use Rattle.rules.specs.State.{Characters, Reading, State, withTerminal, withDiscarding, withLocked, withSkipLinefeed}
 use Rattle.rules.specs.Turns.{Rule, still, writes, sends, changes, here, _then_, only}
@@ -78,8 +78,8 @@ module _ {C : Type 0} (chars : Characters C) where
   redisplaysWhile (some r) = redisplays chars r
 
   -- UU 3
-  unfoldable pub redisplaysAfter : ℕ → Rule C
-  redisplaysAfter lock = only (eqb lock redisplaysBehind) (here (λ s. redisplaysWhile (s .pendingRead)))
+  unfoldable pub redisplaysIfAsked : ℕ → Rule C
+  redisplaysIfAsked lock = only (eqb lock asksRedisplay) (here (λ s. redisplaysWhile (s .pendingRead)))
 
   -- A Write, in order. Echo and prompts are never discarded: no other rule that writes looks at output discard. The flags for first and last part
   -- change nothing: none looks at them.
@@ -90,4 +90,4 @@ module _ {C : Type 0} (chars : Characters C) where
       putsOut m then
       sendsCompletion (wantsCompletion m) m before then
       setsLock (lock m) then
-      redisplaysAfter (lock m))
+      redisplaysIfAsked (lock m))

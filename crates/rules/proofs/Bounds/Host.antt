@@ -14,7 +14,7 @@ use Rattle.rules.specs.Host.{ourInitiate, initiates, obeys}
 use Rattle.rules.specs.Calls.{isCarriedBy}
 use Rattle.rules.specs.Bounds.{BoundedRead}
 use Rattle.rules.proofs.Choice.{pick-true, pick-false}
-use Rattle.rules.proofs.Numbers.{initiate-room, waiting-word}
+use Rattle.rules.proofs.Numbers.{initiate-room, waiting-byte}
 use Rattle.rules.proofs.Bounds.Sent.{Sent}
 use Rattle.rules.proofs.Bounds.Turns.{Steady, Fine, fine, rehosted, still-good, sends-good, changes-then, pick-good, only-good}
 use Rattle.rules.proofs.Bounds.Messages.{inputCount-sent, initiate-sent}
@@ -38,7 +38,7 @@ module _ {s : State ℕ} (h : Steady BoundedRead s) where
   checksInput-fine : Fine (checksInput s)
   unfolding checksInput waitingCount
   checksInput-fine =
-      let word = waiting-word in
+      let byte = waiting-byte in
       fine 0 6 (omega arith) (omega arith) (sends-good _ (inputCount-sent _ (omega arith)) (omega arith) h)
 
   unreadsWhile-fine : (o : Option (Reading ℕ)) (m : Message ℕ) → BoundedRead o → Fine (unreadsWhile codes o m s)

@@ -13,7 +13,7 @@ use Rattle.rules.specs.Messages.Fields.{prefix, postfix, prefixValue, po
 use Rattle.rules.specs.Screen.{LF}
 use Rattle.rules.specs.State.{Reading, State, codes}
 use Rattle.rules.specs.Write.{fixBytes, ownBytes, unskipped, stopsDiscarding, writesOwn, endsLine, putsOut}
-use Rattle.rules.specs.Write.{completion, sendsCompletion, setsLock, redisplaysWhile, redisplaysAfter, writesOut}
+use Rattle.rules.specs.Write.{completion, sendsCompletion, setsLock, redisplaysWhile, redisplaysIfAsked, writesOut}
 use Rattle.rules.specs.Bounds.{BoundedRead}
 use Rattle.rules.proofs.Choice.{pick-case}
 use Rattle.rules.proofs.Numbers.{writing-room, answer-room}
@@ -84,7 +84,7 @@ module _ {s : State ℕ} (h : Steady BoundedRead s) (m : Message ℕ) (text : le
       (λ n. k)
 
   pub writesOut-fine : Fine (writesOut codes m s)
-  unfolding writesOut stopsDiscarding sendsCompletion completion setsLock redisplaysAfter
+  unfolding writesOut stopsDiscarding sendsCompletion completion setsLock redisplaysIfAsked
   writesOut-fine =
       let answers = answer-room in
       let room = writing-room in

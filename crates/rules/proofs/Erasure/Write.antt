@@ -5,7 +5,7 @@ use mathlib.Core.List.{List}
 use mathlib.Core.Option.{Option, none, some, Option·map}
 use Rattle.rules.specs.Messages.Forms.{Message}
 use Rattle.rules.specs.State.{Characters, Reading}
-use Rattle.rules.specs.Write.{stopsDiscarding, writesOwn, endsLine, putsOut, completion, sendsCompletion, setsLock, redisplaysWhile, redisplaysAfter, writesOut}
+use Rattle.rules.specs.Write.{stopsDiscarding, writesOwn, endsLine, putsOut, completion, sendsCompletion, setsLock, redisplaysWhile, redisplaysIfAsked, writesOut}
 use Rattle.rules.proofs.Erasure.Maps.{Maps, mapReading}
 use Rattle.rules.proofs.Erasure.Turns.{Erases, erases-here, erases-still, erases-writes, erases-plain, erases-changes, erases-then, erases-only}
 use Rattle.rules.proofs.Erasure.Editing.{erase-redisplays}
@@ -28,9 +28,9 @@ module _ {C D : Type 0} {f : C → D} {cs : Characters C} {ds : Characters D} (m
   erase-redisplaysWhile none = erases-still
   erase-redisplaysWhile (some r) = erase-redisplays m r
 
-  erase-redisplaysAfter : (lock : ℕ) → Erases f (redisplaysAfter cs lock) (redisplaysAfter ds lock)
-  unfolding redisplaysAfter
-  erase-redisplaysAfter lock = erases-only refl (record { at = λ s. erases-here s (erase-redisplaysWhile (s .pendingRead)) })
+  erase-redisplaysIfAsked : (lock : ℕ) → Erases f (redisplaysIfAsked cs lock) (redisplaysIfAsked ds lock)
+  unfolding redisplaysIfAsked
+  erase-redisplaysIfAsked lock = erases-only refl (record { at = λ s. erases-here s (erase-redisplaysWhile (s .pendingRead)) })
 
   pub erase-writesOut : (n : Message ℕ) → Erases f (writesOut cs n) (writesOut ds n)
   unfolding writesOut stopsDiscarding sendsCompletion completion setsLock
@@ -42,5 +42,5 @@ module _ {C D : Type 0} {f : C → D} {cs : Characters C} {ds : Characters D} (m
             (erases-then (erase-putsOut n)
             (erases-then (erases-only refl (record { at = λ s. erases-here s (erases-plain _ refl) }))
             (erases-then (erases-changes _ _ (λ s. refl))
-            (erase-redisplaysAfter _)))));
+            (erase-redisplaysIfAsked _)))));
       }

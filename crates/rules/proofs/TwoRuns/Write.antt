@@ -6,7 +6,7 @@ use mathlib.Core.List.{List}
 use mathlib.Core.Option.{Option, none, some}
 use Rattle.rules.specs.Messages.Forms.{Message}
 use Rattle.rules.specs.State.{Reading}
-use Rattle.rules.specs.Write.{stopsDiscarding, writesOwn, endsLine, putsOut, completion, sendsCompletion, setsLock, redisplaysWhile, redisplaysAfter, writesOut}
+use Rattle.rules.specs.Write.{stopsDiscarding, writesOwn, endsLine, putsOut, completion, sendsCompletion, setsLock, redisplaysWhile, redisplaysIfAsked, writesOut}
 use Rattle.rules.proofs.TwoRuns.Twins.{Twin, LevelRead, isGuarded, Agreeing}
 use Rattle.rules.proofs.TwoRuns.Turns.{agrees-still, agrees-terminal, agrees-then, agrees-writes, agrees-sends, agrees-only}
 use Rattle.rules.proofs.TwoRuns.Editing.{redisplays-agrees}
@@ -29,9 +29,9 @@ module _ {changed : ℕ → Bool} where
   redisplaysWhile-agrees none h = agrees-still
   redisplaysWhile-agrees (some r) h = redisplays-agrees r h
 
-  redisplaysAfter-agrees : (lock : ℕ) → Agreeing {changed = changed} (λ chars. redisplaysAfter chars lock)
-  unfolding redisplaysAfter
-  redisplaysAfter-agrees lock = agrees-only refl (λ s l. redisplaysWhile-agrees (s .pendingRead) (l .pendingRead) s l)
+  redisplaysIfAsked-agrees : (lock : ℕ) → Agreeing {changed = changed} (λ chars. redisplaysIfAsked chars lock)
+  unfolding redisplaysIfAsked
+  redisplaysIfAsked-agrees lock = agrees-only refl (λ s l. redisplaysWhile-agrees (s .pendingRead) (l .pendingRead) s l)
 
   pub writesOut-agrees : (m : Message ℕ) → Agreeing {changed = changed} (λ chars. writesOut chars m)
   unfolding writesOut stopsDiscarding sendsCompletion completion setsLock isGuarded
@@ -40,4 +40,4 @@ module _ {changed : ℕ → Bool} where
       (agrees-then (putsOut-agrees m)
       (agrees-then (agrees-only refl (λ s. agrees-sends refl refl s))
       (agrees-then (agrees-terminal _)
-      (redisplaysAfter-agrees _)))) before
+      (redisplaysIfAsked-agrees _)))) before

@@ -52,8 +52,8 @@ unreadAlways = 0
 abbrev pub locks : ℕ
 locks = 1
 
-abbrev pub redisplaysBehind : ℕ
-redisplaysBehind = 3
+abbrev pub asksRedisplay : ℕ
+asksRedisplay = 3
 
 -- PP and QQ: 0 is none, 1 a number of lines, 2 a character
 abbrev pub newLines : ℕ

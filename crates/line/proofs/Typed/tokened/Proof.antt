@@ -1,6 +1,6 @@
 use native.Mathlib.Omega.{arith}
 use borrow.Author.Needs.{needs}
-use Rattle.rules.proofs.Numbers.{token-size, waiting-word}
+use Rattle.rules.proofs.Numbers.{token-size, waiting-byte}
 use Rattle.line.proofs.Typed.tokened.Statement.{statement}
 use Rattle.line.proofs.Typed.tokened.Tie as tie
 
@@ -11,7 +11,7 @@ array-write-token : tie.Need-array-write-token
 array-write-token c = omega (arith, token-size)
 
 add-next : tie.Need-add-next
-add-next c = omega (arith, waiting-word)
+add-next c = omega (arith, waiting-byte)
 
 returns : tie.Need-returns
 returns c = search needs

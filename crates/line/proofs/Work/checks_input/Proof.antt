@@ -5,7 +5,7 @@ use borrow.Author.Needs.{needs}
 use Rattle.rules.specs.Messages.Forms.{plain, inputCount}
 use Rattle.rules.specs.Messages.Codec as codec
 use Rattle.rules.specs.ReadData.{checksInput}
-use Rattle.rules.proofs.Numbers.{waiting-word}
+use Rattle.rules.proofs.Numbers.{waiting-byte}
 use Rattle.message.specs.Found.{heldIn}
 use Rattle.writing.specs.Spans.{spansOf, inside}
 use Rattle.line.proofs.FlowChanges.{here-rule}
@@ -13,8 +13,11 @@ use Rattle.line.proofs.HostLaws.{waiting-count}
 use Rattle.line.proofs.Work.checks_input.Statement.{statement}
 use Rattle.line.proofs.Work.checks_input.Tie as tie
 
-add-count : tie.Need-add-count
-add-count c = omega (arith, waiting-word)
+add-waiting : tie.Need-add-waiting
+add-waiting c = omega (arith, waiting-byte)
+
+cast-count : tie.Need-cast-count
+cast-count c = search needs
 
 sends-plain-requires : tie.Need-sends-plain-requires
 sends-plain-requires c κs = search needs
@@ -36,4 +39,4 @@ returns c =
 
 pub checks-input-spec : {M : Type 1} → statement M
 checks-input-spec =
-    tie.close (tie.spec add-count sends-plain-requires same-length returns)
+    tie.close (tie.spec add-waiting cast-count sends-plain-requires same-length returns)

@@ -4,7 +4,7 @@ use borrow.Author.Needs.{needs}
 use Rattle.line.specs.View.{tokenOf}
 use Rattle.line.specs.With.{lent}
 use Rattle.rules.specs.Steps.{endsByToken}
-use Rattle.rules.proofs.Numbers.{waiting-word}
+use Rattle.rules.proofs.Numbers.{waiting-byte}
 use Rattle.line.proofs.Turns.{then-does}
 use Rattle.line.proofs.TokenBytes.{token-length, token-counted, untokened-counted}
 use Rattle.line.proofs.FlowChanges.{here-rule, completes-as, typed-counted, cleared-does, ended-does}
@@ -44,7 +44,7 @@ with-typed-requires : tie.Need-with-typed-requires
 with-typed-requires c κs = search needs
 
 cast-completes : tie.Need-cast-completes
-cast-completes c = omega (arith, c .before .before .before .before .before .before .before .before .before .before .before .before .pre .0 .typed .tokenLength, waiting-word)
+cast-completes c = omega (arith, c .before .before .before .before .before .before .before .before .before .before .before .before .pre .0 .typed .tokenLength, waiting-byte)
 
 completes-requires : tie.Need-completes-requires
 completes-requires c κs =

@@ -6,7 +6,7 @@ use lib.ListN.{length}
 use borrow.Author.Tests.{le-leb, lt-leb}
 use Rattle.rules.specs.Editing.{endOf}
 use Rattle.rules.specs.Steps.{takesToken}
-use Rattle.rules.proofs.Numbers.{input-word, waiting-word}
+use Rattle.rules.proofs.Numbers.{input-word, waiting-byte}
 use Rattle.line.specs.View.{readingOf, tokenOf}
 use Rattle.line.specs.With.{lent}
 use Rattle.line.proofs.InputAppended.{end-is}
@@ -30,7 +30,7 @@ cast-if1 c = search needs
 add-if1 : tie.Need-add-if1
 add-if1 c =
     let pre = c .before .before .before .before .before .pre in
-    omega (arith, c .before .end .ensures, pre .1 .1 .room, pre .1 .1 .largest, pre .0 .typed .tokenLength, input-word, waiting-word)
+    omega (arith, c .before .end .ensures, pre .1 .1 .room, pre .1 .1 .largest, pre .0 .typed .tokenLength, input-word, waiting-byte)
 
 cast-if1-2 : tie.Need-cast-if1-2
 cast-if1-2 c = search needs

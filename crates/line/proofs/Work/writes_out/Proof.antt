@@ -26,8 +26,8 @@ sends-completion-requires c κs = c .before .before .before .puts-out .ensures .
 sets-lock-requires : tie.Need-sets-lock-requires
 sets-lock-requires c κs = c .before .before .sends-completion .ensures .0
 
-redisplays-after-requires : tie.Need-redisplays-after-requires
-redisplays-after-requires c κs = (c .before .sets-lock .ensures .0, c .before .before .before .before .before .before .before .before .before .before .before .before .before .before .before .before .before .before .before .before .pre .1)
+redisplays-if-asked-requires : tie.Need-redisplays-if-asked-requires
+redisplays-if-asked-requires c κs = (c .before .sets-lock .ensures .0, c .before .before .before .before .before .before .before .before .before .before .before .before .before .before .before .before .before .before .before .before .pre .1)
 
 same-length : tie.Need-same-length
 same-length c = search needs
@@ -45,7 +45,7 @@ returns c =
     let written = c .before .before .before .before .before .before .before .before .before .before .before .puts-out .ensures .1 (a .s .now) text in
     let said = c .before .before .before .before .before .before .before .sends-completion .ensures .1 in
     let locked = c .before .before .before .before .sets-lock .ensures .1 in
-    let shown = c .before .before .redisplays-after .ensures in (
+    let shown = c .before .before .redisplays-if-asked .ensures in (
       shown .0,
       λ l.
           let line = lent (a .t) (a .text .now) l in
@@ -67,7 +67,7 @@ writes-out-spec =
     puts-out-requires
     sends-completion-requires
     sets-lock-requires
-    redisplays-after-requires
+    redisplays-if-asked-requires
     same-length
     same-length-2
     returns)

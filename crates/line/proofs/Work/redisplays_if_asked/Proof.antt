@@ -2,8 +2,8 @@ use borrow.Author.Needs.{needs}
 use Rattle.line.specs.With.{lent}
 use Rattle.line.specs.Promise.{on}
 use Rattle.line.proofs.WriteLaws.{redisplays-now, redisplays-not}
-use Rattle.line.proofs.Work.redisplays_after.Statement.{statement}
-use Rattle.line.proofs.Work.redisplays_after.Tie as tie
+use Rattle.line.proofs.Work.redisplays_if_asked.Statement.{statement}
+use Rattle.line.proofs.Work.redisplays_if_asked.Tie as tie
 
 redisplays-requires : tie.Need-redisplays-requires
 redisplays-requires c κs =
@@ -25,5 +25,5 @@ returns-2 c =
     let a = start .args in
     (start .pre .0, λ l m. redisplays-not (on (lent (a .t) (a .text .now) l) (a .self)) (a .lock) _ m (c .if1 .left))
 
-pub redisplays-after-spec : {M : Type 1} → statement M
-redisplays-after-spec = tie.close (tie.spec redisplays-requires same-length returns returns-2)
+pub redisplays-if-asked-spec : {M : Type 1} → statement M
+redisplays-if-asked-spec = tie.close (tie.spec redisplays-requires same-length returns returns-2)
