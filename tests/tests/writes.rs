@@ -1,4 +1,5 @@
-//! One test or more for each point of request M-103, named by its subject.
+//! One test or more for each point of `docs/DECISIONS.md` from 99 to 109, which
+//! are request M-103's, but for 110.
 
 mod common;
 
@@ -14,12 +15,13 @@ mod redisplay;
 use common::*;
 use second::line::arrival::{CLEAR_KEY, DISCARD_KEY, QUOTE_KEY};
 use second::line::tokens::ESC;
+use second::message;
 use second::screen::{CR, HT, LF};
 
 /// FLAGS of Write by 000's letters; UU by what it does.
-const LOCK: u16 = 1;
-const UNLOCK_AFTER: u16 = 2;
-const REDISPLAY_AFTER: u16 = 3;
+const LOCK: u16 = message::LOCK as u16;
+const UNLOCK_AFTER: u16 = message::UNLOCK_AFTER as u16;
+const REDISPLAY_AFTER: u16 = message::REDISPLAY_AFTER as u16;
 const L: u16 = 1 << 2;
 const D: u16 = 1 << 3;
 const B: u16 = 1 << 4;

@@ -15,10 +15,9 @@ use Rattle.rules.specs.Settings.{setSection, isSound, areSound, foundSection, f
 use Rattle.rules.specs.Calls.{Call, load, refuses, does, answersLoad, answers, answer, messageBytes, areaAfter}
 use Rattle.rules.specs.Bounds as bounds
 use Rattle.rules.specs.Bounds.{isByteEvent, Within}
-use Rattle.rules.proofs.Choice.{pick-true, pick-false}
+use Rattle.rules.proofs.Choice.{pick-true, pick-false, empty-length}
 use Rattle.rules.proofs.Bounds.Calls.{call-within}
 use Rattle.rules.proofs.Bounds.Settings.{set-found}
-use Rattle.settings.proofs.Empty.{empty-length}
 use Rattle.line.specs.declared.Line.{Line}
 use Rattle.line.specs.declared.Answer.{Answer}
 use Rattle.line.specs.View.{view}

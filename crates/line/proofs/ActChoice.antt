@@ -1,15 +1,13 @@
 -- Which act an event meets.
 use mathlib.Core.Path.{_≡_, refl, sym, ap, _∙_, subst}
 use Prim.Native.Nat.{ℕ}
-use mathlib.Core.Bool.{Bool, true, false, not}
+use mathlib.Core.Bool.{Bool, true, false}
 use mathlib.Core.List.{List}
 use lib.ListN.{length}
 use mathlib.Core.Option.{Option, none, some}
 use Rattle.rules.specs.Choice.{pick}
 use Rattle.rules.specs.State as rules
-use Rattle.rules.specs.State.{codes}
-use Rattle.rules.specs.Turns.{Fate, Rule, still, tells, changes, behind, _then_, only}
-use Rattle.rules.specs.Steps.{stepsWhile, steps}
+use Rattle.rules.specs.Turns.{Fate, Rule, tells, changes, behind, _then_}
 use Rattle.rules.specs.Area.{puts, spot}
 use Rattle.rules.specs.Calls.{areRoomy, messageBytes}
 use Rattle.line.specs.declared.Line.{Line}
@@ -67,11 +65,6 @@ module _ {s : List ℕ} {l : Line} {a : Act} where
 
     pub meets-none : l .flow .pending ≡ false → Meets (F none) s l a → Meets (λ v. F (v .pendingRead) v) s l a
     meets-none e h = meets-as (ap (λ p. F (pendingOf p (readingOf l (l .flow .reading))) (view l)) e) h
-
-  -- a step while the line is not locked
-  pub meets-unlocked : l .flow .terminal .locked ≡ false → Meets (λ v. stepsWhile codes (v .pendingRead) v) s l a → Meets (steps codes) s l a
-  unfolding steps only
-  meets-unlocked e h = meets-first still refl (ap not e) (meets-as refl h)
 
   -- what became of keys is not seen
   pub meets-told : {f : Rule ℕ} (fs : List (Fate ℕ)) → Meets f s l a → Meets (tells fs then f) s l a

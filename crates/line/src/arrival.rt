@@ -126,19 +126,19 @@ impl Work {
         self.with_terminal(known)
     }
 
-    // 15 and immediate clear lift the lock of a Write.
-    fn unlocks(self) -> Work
+    // The lock of a Write.
+    pub(crate) fn sets_locked(self, locked: bool) -> Work
         requires { ⌜ CountedFlow (self .flow) ⌝ }
         ensures counted { λ w. ⌜ CountedFlow (w .flow) ⌝ }
-        ensures rule { λ w. ⌜ ((l : Line) (t m : List ℕ) → Does rules.unlocks (on l self) t m (on l w) t m) ⌝ }
+        ensures rule { λ w. ⌜ ((l : Line) (t m : List ℕ) → Does (rules.setsLocked locked) (on l self) t m (on l w) t m) ⌝ }
     {
         let flow = self.flow;
         let mut known = flow.terminal;
-        known.locked = false;
+        known.locked = locked;
         self.with_terminal(known)
     }
 
-    // Where output is discarded.
+    // Unlocks where output is discarded: 15 has just turned discard on.
     fn unlocks_if_discarding(self) -> Work
         requires { ⌜ CountedFlow (self .flow) ⌝ }
         ensures counted { λ w. ⌜ CountedFlow (w .flow) ⌝ }
@@ -147,12 +147,12 @@ impl Work {
         let flow = self.flow;
         let known = flow.terminal;
         if known.discarding {
-            return self.unlocks();
+            return self.sets_locked(false);
         }
         self
     }
 
-    // Rule 3, code 15; Discard State says 1 where output is not discarded.
+    // Rule 3, code 15; where it turns discard on, it unlocks. Discard State says 1 where output is not discarded.
     pub(crate) fn flips_discard(self, messages: &mut [u8]) -> Work
         requires { ⌜ CountedFlow (self .flow) ⌝ }
         ensures counted { λ w. ⌜ CountedFlow (w .flow) ⌝ }
@@ -278,7 +278,7 @@ impl Work {
         ensures rule { λ w. ⌜ ((l : Line) (a : List ℕ) → DoesOn (λ k. rules.clearsAtOnce codes c) (lent t (now (text .entry)) l) self a (now (messages .entry)) w a (now (messages .exit))) ⌝ }
     {
         let said = self.sends_out_of_band(messages, c);
-        let unlocked = said.unlocks();
+        let unlocked = said.sets_locked(false);
         let emptied = unlocked.empties_typed();
         let flow = emptied.flow;
         let reading = flow.reading;

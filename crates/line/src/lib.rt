@@ -26,7 +26,7 @@ mod tokens;
 mod waiting;
 mod write;
 
-// What is known of the terminal.
+// What is known of the terminal. `dropped` stands before the flags because the flow is then copied faster.
 pub struct Terminal {
     pub screen: Screen,
     pub dropped: u16,
@@ -34,11 +34,11 @@ pub struct Terminal {
     pub quoting: bool,
     // no step acts
     pub locked: bool,
-    // the skip-linefeed mark: the next Write leaves out a first LF
+    // the skip-linefeed mark: of the next Write's own bytes a first LF is left out
     pub skip_linefeed: bool,
 }
 
-// Typed and not yet in a read: how many keys wait, and a partial or held token.
+// Typed and not yet in a read: how many keys wait, and a partial or held token. The counts are bytes, so that the flow has 40.
 pub struct Typed {
     pub keys_len: u8,
     pub token: [u8; rules::TOKEN_SIZE],

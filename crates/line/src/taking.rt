@@ -3,7 +3,7 @@ ghost use Prim.Native.Nat.{ℕ, _<_};
 ghost use mathlib.Core.Path.{_≡_};
 ghost use mathlib.Core.Bool.{true};
 ghost use mathlib.Core.List.{List, []};
-ghost use lib.ListN.{length, getD};
+ghost use lib.ListN.{length};
 ghost use Rattle.rules.specs.Numbers.{inputSize, typeAheadSize};
 ghost use Rattle.rules.specs.State.{codes};
 ghost use Rattle.rules.specs.StartRead.{inSet};

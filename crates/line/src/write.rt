@@ -24,41 +24,44 @@ use rules::characters;
 use screen::Screen;
 
 // UU: 1 locks; any other leaves the line unlocked, and 3 redisplays.
-const LOCKS: u8 = 1;
+const LOCK: u8 = 1;
 
-const ASKS_REDISPLAY: u8 = 3;
+const REDISPLAY_AFTER: u8 = 3;
 
 // PP and QQ: 0 is none, 1 a number of lines, 2 a character.
 const NEW_LINES: u8 = 1;
 
-const ONE_CHARACTER: u8 = 2;
+const CHARACTER: u8 = 2;
+
+// The longest prefix or postfix: CR, and as many LF as a byte can say.
+const LONGEST_AFFIX: usize = rules::forms::BYTE_VALUES as usize;
 
 // Where what is written of own bytes begins: behind an LF that the mark leaves out.
-fn first_written(mark: bool, own: &[u8]) -> usize
+fn first_written(skips: bool, own: &[u8]) -> usize
     ensures within { λ r. ⌜ r ≤ length (now (own .entry)) ⌝ }
-    ensures left { λ r. ⌜ drop r (now (own .entry)) ≡ rules.unskipped mark (now (own .entry)) ⌝ }
+    ensures left { λ r. ⌜ drop r (now (own .entry)) ≡ rules.unskipped skips (now (own .entry)) ⌝ }
 {
     if own.len() == 0 {
         return 0;
     }
-    if mark & (own[0] == characters::LF) {
+    if skips & (own[0] == characters::LF) {
         return 1;
     }
     0
 }
 
 // A prefix or a postfix of this code has bytes.
-fn is_fix(code: u8) -> bool
-    ensures { λ r. ⌜ ((value : ℕ) → r ≡ not (isEmpty (rules.fixBytes code value))) ⌝ }
+fn has_affix(code: u8) -> bool
+    ensures { λ r. ⌜ ((value : ℕ) → r ≡ not (isEmpty (rules.affixBytes code value))) ⌝ }
 {
-    (code == NEW_LINES) | (code == ONE_CHARACTER)
+    (code == NEW_LINES) | (code == CHARACTER)
 }
 
 // There is something to put out.
-fn has_output(f: WriteFields, text: &[u8]) -> bool
-    ensures { λ r. ⌜ ((s : List ℕ) → now (text .entry) ≡ spanOf s (f .text) → r ≡ rules.hasOutput (writeIn s f)) ⌝ }
+fn has_output(f: WriteFields, data: &[u8]) -> bool
+    ensures { λ r. ⌜ ((s : List ℕ) → now («data» .entry) ≡ spanOf s (f .text) → r ≡ rules.hasOutput (writeIn s f)) ⌝ }
 {
-    is_fix(f.prefix) | (text.len() != 0) | is_fix(f.postfix) | (f.newline == fields::ON)
+    has_affix(f.prefix) | (data.len() != 0) | has_affix(f.postfix) | (f.newline == fields::ON)
 }
 
 impl Work {
@@ -94,19 +97,19 @@ impl Work {
     }
 
     // A prefix or a postfix.
-    fn writes_fix(self, terminal: &mut [u8], code: u8, value: u8) -> Work
+    fn writes_affix(self, terminal: &mut [u8], code: u8, value: u8) -> Work
         requires { ⌜ CountedFlow (self .flow) ⌝ }
         ensures counted { λ w. ⌜ CountedFlow (w .flow) ⌝ }
         ensures rule { λ w.
-            ⌜ ((l : Line) (m : List ℕ) → Does (rules.writesOwn (rules.fixBytes code value)) (on l self) (now (terminal .entry)) m (on l w) (now (terminal .exit)) m) ⌝ }
+            ⌜ ((l : Line) (m : List ℕ) → Does (rules.writesOwn (rules.affixBytes code value)) (on l self) (now (terminal .entry)) m (on l w) (now (terminal .exit)) m) ⌝ }
     {
         if code == NEW_LINES {
-            let mut lines = [characters::LF; rules::CODE_COUNT];
+            let mut lines = [characters::LF; LONGEST_AFFIX];
             lines[0] = characters::CR;
             let end = value as usize + 1;
             return self.writes_own(terminal, &lines[..end]);
         }
-        if code == ONE_CHARACTER {
+        if code == CHARACTER {
             let character = [value];
             return self.writes_own(terminal, &character);
         }
@@ -130,21 +133,21 @@ impl Work {
     }
 
     // Prefix, data, postfix and L's LF, unless output is discarded.
-    fn puts_out(self, terminal: &mut [u8], f: WriteFields, text: &[u8]) -> Work
+    fn writes_output(self, terminal: &mut [u8], f: WriteFields, data: &[u8]) -> Work
         requires { ⌜ CountedFlow (self .flow) ⌝ }
         ensures counted { λ w. ⌜ CountedFlow (w .flow) ⌝ }
         ensures rule { λ w.
-            ⌜ ((s : List ℕ) → now (text .entry) ≡ spanOf s (f .text) → (l : Line) (m : List ℕ) →
-            Does (rules.putsOut (writeIn s f)) (on l self) (now (terminal .entry)) m (on l w) (now (terminal .exit)) m) ⌝ }
+            ⌜ ((s : List ℕ) → now («data» .entry) ≡ spanOf s (f .text) → (l : Line) (m : List ℕ) →
+            Does (rules.writesOutput (writeIn s f)) (on l self) (now (terminal .entry)) m (on l w) (now (terminal .exit)) m) ⌝ }
     {
         let flow = self.flow;
         let known = flow.terminal;
         if known.discarding {
             return self;
         }
-        let prefixed = self.writes_fix(terminal, f.prefix, f.prefix_value);
-        let written = prefixed.writes_own(terminal, text);
-        let postfixed = written.writes_fix(terminal, f.postfix, f.postfix_value);
+        let prefixed = self.writes_affix(terminal, f.prefix, f.prefix_value);
+        let written = prefixed.writes_own(terminal, data);
+        let postfixed = written.writes_affix(terminal, f.postfix, f.postfix_value);
         postfixed.ends_line(terminal, f.newline)
     }
 
@@ -175,18 +178,6 @@ impl Work {
         self
     }
 
-    // The lock, by UU.
-    fn sets_lock(self, lock: u8) -> Work
-        requires { ⌜ CountedFlow (self .flow) ⌝ }
-        ensures counted { λ w. ⌜ CountedFlow (w .flow) ⌝ }
-        ensures rule { λ w. ⌜ ((l : Line) (t m : List ℕ) → Does (rules.setsLock lock) (on l self) t m (on l w) t m) ⌝ }
-    {
-        let flow = self.flow;
-        let mut known = flow.terminal;
-        known.locked = lock == LOCKS;
-        self.with_terminal(known)
-    }
-
     // UU 3: a pending read is redisplayed as 18 does.
     fn redisplays_if_asked(self, terminal: &mut [u8], lock: u8, text: &[u8], t: Terms) -> Work
         requires { ⌜ CountedFlow (self .flow) ⌝ }
@@ -198,7 +189,7 @@ impl Work {
             DoesOn (λ k. rules.redisplaysIfAsked codes lock) (lent t (now (text .entry)) l) self (now (terminal .entry)) m w (now (terminal .exit)) m) ⌝ }
     {
         let flow = self.flow;
-        if (lock == ASKS_REDISPLAY) & flow.pending {
+        if (lock == REDISPLAY_AFTER) & flow.pending {
             let r = flow.reading;
             return self.redisplays(terminal, r, text, t);
         }
@@ -227,12 +218,12 @@ impl Work {
         let flow = self.flow;
         let known = flow.terminal;
         let before = known.screen;
-        let output = fields::span_of(s, f.text);
-        let some = has_output(f, output);
+        let data = fields::span_of(s, f.text);
+        let some = has_output(f, data);
         let kept = self.stops_discarding(f.keeps_output);
-        let written = kept.puts_out(terminal, f, output);
+        let written = kept.writes_output(terminal, f, data);
         let said = written.sends_completion(messages, f.wants_completion, some, before);
-        let locked = said.sets_lock(f.lock);
+        let locked = said.sets_locked(f.lock == LOCK);
         locked.redisplays_if_asked(terminal, f.lock, text, t)
     }
 }

@@ -2,12 +2,13 @@
 use mathlib.Core.Path.{_≡_, refl, sym, ap, _∙_}
 use Prim.Native.Nat.{ℕ, zero, suc, _+_, _≤_, _<_}
 use native.Mathlib.Numerals.{add-one}
+use native.Mathlib.Omega.{arith}
 use mathlib.Core.Bool.{Bool, true, false, _&&_, _||_, false≢true, and-assoc}
 use mathlib.Core.List.{List, [], _∷_, _++_, map, List·Memᴰ, List·Memᴰ·head, List·Memᴰ·tail}
 use lib.Dec.{leb, eqb}
 use lib.ListN.{length, getD, set, take, drop, take-append-drop, drop-of-length-le}
 use lib.Seq.{drop-cons}
-use borrow.Author.Tests.{leb-true, le-leb, eqb-true, eq-eqb}
+use borrow.Author.Tests.{leb-true, le-leb, eqb-true, eq-eqb, ne-eqb}
 use Rattle.rules.specs.Choice.{pick, Row, firstOf, within, isEmpty, allAre, anyIs, joined, same, sameAll}
 
 -- The choice.
@@ -148,6 +149,11 @@ module _ {A : Type 0} where
   unfolding isEmpty
   isEmpty-nil [] e = refl
   isEmpty-nil (x ∷ xs) e = absurd (false≢true e)
+
+  pub empty-length : (xs : List A) → isEmpty xs ≡ eqb (length xs) 0
+  unfolding isEmpty
+  empty-length [] = refl
+  empty-length (x ∷ xs) = sym (ne-eqb (length (x ∷ xs)) 0 (λ e. omega arith))
 
   module _ (test : A → Bool) where
     pub all-cons : (x : A) (xs : List A) → allAre test (x ∷ xs) ≡ true → (test x ≡ true) × (allAre test xs ≡ true)

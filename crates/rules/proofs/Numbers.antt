@@ -35,11 +35,12 @@ pub largest-read-room : topLargestRead ≤ inputSize
 unfolding inputSize
 largest-read-room = omega arith
 
--- counts and positions fit words, counts of keys and of a token's bytes fit a byte together
+-- counts and positions fit words
 pub input-word : inputSize < 65536
 unfolding inputSize
 input-word = omega arith
 
+-- keys that wait and a token's bytes, counted together, fit a byte
 pub waiting-byte : typeAheadSize + tokenSize < byteValues
 unfolding typeAheadSize tokenSize
 waiting-byte = omega arith

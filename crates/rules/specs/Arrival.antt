@@ -77,9 +77,12 @@ module _ {C : Type 0} where
   unfoldable pub sendsDiscardState : Rule C
   sendsDiscardState = here (λ s. sends (plain forms.discardState (bit (not (s .terminal .discarding)) ∷ [])))
 
-  -- 15 and immediate clear lift the lock of a Write (000, 4.12.2)
+  abbrev pub setsLocked : Bool → Rule C
+  setsLocked locked = changes (λ s. withTerminal (withLocked locked (s .terminal)) s)
+
+  -- a 15 that turns discard on, and immediate clear, lift the lock of a Write (000, 4.12.2)
   unfoldable pub unlocks : Rule C
-  unlocks = changes (λ s. withTerminal (withLocked false (s .terminal)) s)
+  unlocks = setsLocked false
 
   unfoldable pub unlocksIfDiscarding : Rule C
   unlocksIfDiscarding = here (λ s. only (s .terminal .discarding) unlocks)

@@ -1,22 +1,20 @@
 -- Page 01, "Bench cases": what it is for one to hold, and the words that rows are written in. The rows stand in Bench/Rows.antt.
 pub mod Rows
-use Prim.Native.Nat.{ℕ, suc, _+_, _-_}
+use Prim.Native.Nat.{ℕ, suc, _+_}
 use mathlib.Core.Bool.{Bool, true, false, _&&_}
 use mathlib.Core.List.{List, [], _∷_, _++_}
 use lib.Dec.{eqb}
-use lib.ListN.{length, take, replicate}
-use Rattle.rules.specs.Choice.{pick, joined, same, sameAll}
-use Rattle.rules.specs.Numbers.{terminalArea, messageArea, typeAheadSize, accepted, wrongTime, unsound, notCarried, unsoundRecord}
-use Rattle.rules.specs.Messages.Forms.{Message, revisionSize, readDataHeader, startRead}
+use lib.ListN.{length, replicate}
+use Rattle.rules.specs.Choice.{pick, same, sameAll}
+use Rattle.rules.specs.Numbers.{terminalArea, messageArea, accepted}
+use Rattle.rules.specs.Messages.Forms.{Message, revisionSize, readDataHeader}
 use Rattle.rules.specs.Messages.Codec as codec
 use Rattle.rules.specs.Messages.Codec.{Outcome, refused, sound, read, written}
-use Rattle.rules.specs.Screen.{HT, SP, DEL}
+use Rattle.rules.specs.Screen.{SP}
 use Rattle.rules.specs.State.{State, fresh, codes}
-use Rattle.rules.specs.Token.{ESC}
-use Rattle.rules.specs.Editing.{redisplayKey}
 use Rattle.rules.specs.Arrival.{discardKey}
 use Rattle.rules.specs.Settings.{foundSection}
-use Rattle.rules.specs.Calls.{Event, key, step, tick, message, load, Call, Answer, answer, messageBytes}
+use Rattle.rules.specs.Calls.{Event, key, step, message, load, Call, Answer, answer, messageBytes}
 
 -- a call and what it is to answer: number, terminal bytes, the message area's bytes, and the dropped count after it
 pub record Exchange : Type 0 where

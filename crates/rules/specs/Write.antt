@@ -9,28 +9,29 @@ use Rattle.rules.specs.Choice.{pick, isOn, bit, isEmpty}
 use Rattle.rules.specs.Messages.Forms as forms
 use Rattle.rules.specs.Messages.Forms.{Message, plain}
 use Rattle.rules.specs.Messages.Fields.{lock, newline, keepsOutput, prefix, postfix, prefixValue, postfixValue, wantsCompletion}
-use Rattle.rules.specs.Messages.Fields.{locks, asksRedisplay, newLines, oneCharacter}
+use Rattle.rules.specs.Messages.Fields.{lockValue, redisplayAfter, newLines, character}
 use Rattle.rules.specs.Screen.{CR, LF, change}
-use Rattle.rules.specs.State.{Characters, Reading, State, withTerminal, withDiscarding, withLocked, withSkipLinefeed}
+use Rattle.rules.specs.State.{Characters, Reading, State, withTerminal, withDiscarding, withSkipLinefeed}
 use Rattle.rules.specs.Turns.{Rule, still, writes, sends, changes, here, _then_, only}
 use Rattle.rules.specs.Editing.{redisplays}
+use Rattle.rules.specs.Arrival.{setsLocked}
 
 -- what a prefix or a postfix is, by its code and value: CR and so many LF, or the value as a character, raw
-unfoldable pub fixBytes : ℕ → ℕ → List ℕ
-fixBytes code value = pick (eqb code newLines) (CR ∷ replicate value LF) (pick (eqb code oneCharacter) (value ∷ []) [])
+unfoldable pub affixBytes : ℕ → ℕ → List ℕ
+affixBytes code value = pick (eqb code newLines) (CR ∷ replicate value LF) (pick (eqb code character) (value ∷ []) [])
 
 -- a Write's own bytes: prefix, DATA and postfix, in their order
 unfoldable pub ownBytes : Message ℕ → List ℕ
-ownBytes m = fixBytes (prefix m) (prefixValue m) ++ m .text ++ fixBytes (postfix m) (postfixValue m)
+ownBytes m = affixBytes (prefix m) (prefixValue m) ++ m .text ++ affixBytes (postfix m) (postfixValue m)
 
 -- with L there is an LF besides
 unfoldable pub hasOutput : Message ℕ → Bool
 hasOutput m = not (isEmpty (ownBytes m)) || isOn (newline m)
 
--- what is left of the bytes: where the mark is set, a first one that is LF is left out
+-- what is left of the bytes: where the skip-linefeed mark is set, a first one that is LF is left out
 unfoldable pub unskipped : Bool → List ℕ → List ℕ
-unskipped mark [] = []
-unskipped mark (b ∷ bs) = pick (mark && eqb b LF) bs (b ∷ bs)
+unskipped skips [] = []
+unskipped skips (b ∷ bs) = pick (skips && eqb b LF) bs (b ∷ bs)
 
 module _ {C : Type 0} where
   -- don't-discard turns output discard off, without a message
@@ -38,7 +39,7 @@ module _ {C : Type 0} where
   stopsDiscarding keeps = only (isOn keeps) (changes (λ s. withTerminal (withDiscarding false (s .terminal)) s))
 
   abbrev pub setsSkipLinefeed : (State C → Bool) → Rule C
-  setsSkipLinefeed mark = changes (λ s. withTerminal (withSkipLinefeed (mark s) (s .terminal)) s)
+  setsSkipLinefeed skips = changes (λ s. withTerminal (withSkipLinefeed (skips s) (s .terminal)) s)
 
   -- own bytes; where there are any, the mark falls
   unfoldable pub writesOwn : List ℕ → Rule C
@@ -51,8 +52,8 @@ module _ {C : Type 0} where
   endsLine newline = only (isOn newline) (writes (LF ∷ []) then setsSkipLinefeed (λ s. true))
 
   -- all of it, unless output discard is on: then the mark stays, too
-  unfoldable pub putsOut : Message ℕ → Rule C
-  putsOut m = here (λ s. only (not (s .terminal .discarding)) (writesOwn (ownBytes m) then endsLine (newline m)))
+  unfoldable pub writesOutput : Message ℕ → Rule C
+  writesOutput m = here (λ s. only (not (s .terminal .discarding)) (writesOwn (ownBytes m) then endsLine (newline m)))
 
   -- positions are changes since the state before; output is lost when there was some and it was discarded
   unfoldable pub completion : Message ℕ → State C → State C → Message C
@@ -69,7 +70,7 @@ module _ {C : Type 0} where
 
   -- the lock, by UU
   unfoldable pub setsLock : ℕ → Rule C
-  setsLock lock = changes (λ s. withTerminal (withLocked (eqb lock locks) (s .terminal)) s)
+  setsLock lock = setsLocked (eqb lock lockValue)
 
 module _ {C : Type 0} (chars : Characters C) where
   -- a pending read is redisplayed as 18 does, under any DDD
@@ -79,7 +80,7 @@ module _ {C : Type 0} (chars : Characters C) where
 
   -- UU 3
   unfoldable pub redisplaysIfAsked : ℕ → Rule C
-  redisplaysIfAsked lock = only (eqb lock asksRedisplay) (here (λ s. redisplaysWhile (s .pendingRead)))
+  redisplaysIfAsked lock = only (eqb lock redisplayAfter) (here (λ s. redisplaysWhile (s .pendingRead)))
 
   -- A Write, in order. Echo and prompts are never discarded: no other rule that writes looks at output discard. The flags for first and last part
   -- change nothing: none looks at them.
@@ -87,7 +88,7 @@ module _ {C : Type 0} (chars : Characters C) where
   writesOut m =
       here (λ before.
       stopsDiscarding (keepsOutput m) then
-      putsOut m then
+      writesOutput m then
       sendsCompletion (wantsCompletion m) m before then
       setsLock (lock m) then
       redisplaysIfAsked (lock m))

@@ -8,8 +8,7 @@ use lib.ListN.{length}
 use borrow.Author.Tests.{leb-true, eq-eqb, ne-eqb}
 use Rattle.rules.specs.Choice.{within, isEmpty}
 use Rattle.rules.specs.Settings.{sectionIn, isSound, areSound, foundSection}
-use Rattle.rules.proofs.Choice.{pick-true, pick-false, thirds}
-use Rattle.settings.proofs.Empty.{empty-length}
+use Rattle.rules.proofs.Choice.{pick-true, pick-false, thirds, empty-length}
 
 -- the code's test: there is such a section, and both records are sound
 abbrev pub asked : ℕ → Bool → Bool → Bool

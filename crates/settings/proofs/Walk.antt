@@ -10,8 +10,8 @@ use lib.Seq.{drop-length}
 use borrow.Author.Tests.{le-leb, lt-leb}
 use Rattle.rules.specs.Messages.Layout.{wordBytes}
 use Rattle.rules.specs.Settings.{behindForm, sectionLength, frontSection, behindSection, areWhole, sectionBehind}
+use Rattle.rules.proofs.Choice.{empty-length}
 use Rattle.fields.proofs.Pieces.{all-behind, none-behind}
-use Rattle.settings.proofs.Empty.{empty-length}
 
 -- all from a place on
 pub from : (s : List ℕ) (at : ℕ) → take (length s - at) (drop at s) ≡ drop at s

@@ -63,8 +63,8 @@ rules! {
     WriteRedisplaysIdle, WriteRedisplaysPartial, WriteRedisplaysElsewhere,
     // While the line is locked, and what unlocks it besides a Write.
     LockedStepNoRead, LockedStepHeld, LockedStepKey, LockedStepPartial, LockedStepTimeoutZero,
-    LockedStepEmpty, LockedTickWaiting, LockedTickIdle, LockedTickTimeout, LockedKeyStored,
-    LockedKeyDropped, LockedKeyQuote, LockedKeyHello, LockedKeyClearRead, LockedKeyClearIdle,
+    LockedStepEmpty, LockedTickWaiting, LockedTickHeld, LockedTickIdle, LockedTickTimeout, LockedKeyStored,
+    LockedKeyDropped, LockedKeyDiscardDdd3, LockedKeyQuote, LockedKeyHello, LockedKeyClearRead, LockedKeyClearIdle,
     LockedReadPending, LockedReadFullAtOnce, LockedLoad, DiscardOnUnlocks, DiscardOffKeepsLock,
     ImmediateClearUnlocksRead, ImmediateClearUnlocksIdle,
     // Settings.

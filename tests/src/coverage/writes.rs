@@ -136,7 +136,7 @@ fn first(write: &Write) -> (usize, bool) {
 #[cfg(test)]
 mod tests {
     use super::*;
-    use crate::message::{NEWLINES, REDISPLAY_AFTER};
+    use crate::message::{NEW_LINES, REDISPLAY_AFTER};
 
     #[test]
     fn a_write_is_counted_by_what_it_asks_and_finds() {
@@ -145,7 +145,7 @@ mod tests {
         let data = vec![LF];
         writes.note(&Write { lock: REDISPLAY_AFTER, data, ..Write::default() }, &found);
         let found = Found { echo: None, discard: true, locked: false, skip_linefeed: false };
-        let (postfix, postfix_value) = (NEWLINES, LF);
+        let (postfix, postfix_value) = (NEW_LINES, LF);
         writes.note(&Write { newline: true, postfix, postfix_value, ..Write::default() }, &found);
         let table = writes.table();
         let met: Vec<&str> =

@@ -6,7 +6,7 @@ use super::{typing, Generator};
 use crate::line::arrival::{CLEAR_KEY, DISCARD_KEY, HELLO, IMMEDIATE_CLEAR, OUT_OF_BAND};
 use crate::line::tokens::{CSI, ESC};
 use crate::message::{
-    Message, Value, Write, CHARACTER, LOCK, LONGEST, NEWLINES, NO_AFFIX, REDISPLAY_AFTER, UNLOCK,
+    Message, Value, Write, CHARACTER, LOCK, LONGEST, NEW_LINES, NO_AFFIX, REDISPLAY_AFTER, UNLOCK,
     UNLOCK_AFTER,
 };
 use crate::screen::{CR, LF};
@@ -15,7 +15,7 @@ use crate::screen::{CR, LF};
 /// until the next unlock.
 const LOCKING: usize = 10;
 const UNLOCKING: [u8; 5] = [UNLOCK, UNLOCK, UNLOCK_AFTER, REDISPLAY_AFTER, REDISPLAY_AFTER];
-const CODES: [u8; 5] = [NO_AFFIX, NO_AFFIX, NO_AFFIX, NEWLINES, CHARACTER];
+const CODES: [u8; 5] = [NO_AFFIX, NO_AFFIX, NO_AFFIX, NEW_LINES, CHARACTER];
 
 /// Type, FLAGS and the two values stand before DATA.
 const LONGEST_DATA: usize = LONGEST - 5;
@@ -72,7 +72,7 @@ pub fn any_write(random: &mut Random) -> Write {
 fn one_part(random: &mut Random) -> Write {
     let newline = random.chance(40);
     let mut one = Write { newline, status: random.chance(80), ..Write::default() };
-    let code = random.pick(&[NEWLINES, CHARACTER, CHARACTER]);
+    let code = random.pick(&[NEW_LINES, CHARACTER, CHARACTER]);
     let value = random.pick(&[0, 1, LF, LF, CR, b'A']);
     match random.below(4) {
         0 => (one.prefix, one.prefix_value) = (code, value),

@@ -42,7 +42,9 @@ impl Line {
             _ => {
                 self.seen.met_if(all_off && code == QUOTE_KEY, Rule::KeyQuoteDdd3);
                 self.seen.met_if(all_off && code == CLEAR_KEY, Rule::KeyClearDdd3);
-                self.seen.met_if(all_off && code == DISCARD_KEY, Rule::KeyDiscardDdd3);
+                let discard_stored = all_off && code == DISCARD_KEY;
+                self.seen.met_if(discard_stored, Rule::KeyDiscardDdd3);
+                self.seen.met_if(discard_stored && self.locked, Rule::LockedKeyDiscardDdd3);
                 self.store(code, false, out);
             }
         }

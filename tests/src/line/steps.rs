@@ -201,6 +201,7 @@ impl Line {
             return self.seen.met(Rule::TickWaiting);
         }
         if self.held.is_some() {
+            self.seen.met_if(self.locked, Rule::LockedTickHeld);
             return self.seen.met(Rule::TickHeld);
         }
         self.seen.met(Rule::TickIdle);

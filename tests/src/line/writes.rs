@@ -4,7 +4,7 @@ use super::{Answer, Line};
 use crate::coverage::writes::Found;
 use crate::coverage::Rule;
 use crate::message::{
-    Message, Write, CHARACTER, LOCK, NEWLINES, NO_AFFIX, REDISPLAY_AFTER, UNLOCK,
+    Message, Write, CHARACTER, LOCK, NEW_LINES, NO_AFFIX, REDISPLAY_AFTER, UNLOCK,
 };
 use crate::screen::{CR, LF};
 
@@ -16,10 +16,10 @@ impl Line {
         }
         self.note_write(write);
         let (column, line) = (self.screen.column, self.screen.line);
-        let carried = carried(write);
-        let lost = self.discard && (!carried.is_empty() || write.newline);
+        let own = own_bytes(write);
+        let lost = self.discard && (!own.is_empty() || write.newline);
         if !self.discard {
-            self.send_write(&carried, write.newline, out);
+            self.send_write(&own, write.newline, out);
         }
         if write.status {
             self.note_completion(write, lost);
@@ -33,16 +33,16 @@ impl Line {
         }
     }
 
-    /// Sends what a Write carries, and L's LF. The mark looks at the first byte
-    /// carried; L's LF is never left out.
-    fn send_write(&mut self, carried: &[u8], newline: bool, out: &mut Answer) {
-        let mut sent = carried;
-        if let (true, [LF, behind @ ..]) = (self.skip_linefeed, carried) {
+    /// Sends a Write's own bytes and L's LF. The mark looks at the first of its
+    /// own; L's LF is never left out.
+    fn send_write(&mut self, own: &[u8], newline: bool, out: &mut Answer) {
+        let mut sent = own;
+        if let (true, [LF, behind @ ..]) = (self.skip_linefeed, own) {
             self.note_left_out(behind);
             sent = behind;
         }
         self.screen.send_all(sent, &mut out.terminal);
-        if !carried.is_empty() {
+        if !own.is_empty() {
             self.seen.met_if(self.skip_linefeed, Rule::MarkFalls);
             self.skip_linefeed = false;
         }
@@ -129,7 +129,7 @@ impl Line {
 }
 
 /// Prefix, DATA and postfix.
-fn carried(write: &Write) -> Vec<u8> {
+fn own_bytes(write: &Write) -> Vec<u8> {
     let mut bytes = affix(write.prefix, write.prefix_value);
     bytes.extend(&write.data);
     bytes.extend(affix(write.postfix, write.postfix_value));
@@ -139,7 +139,7 @@ fn carried(write: &Write) -> Vec<u8> {
 /// What a prefix or postfix is.
 fn affix(code: u8, value: u8) -> Vec<u8> {
     match code {
-        NEWLINES => {
+        NEW_LINES => {
             let mut bytes = vec![LF; 1 + usize::from(value)];
             bytes[0] = CR;
             bytes

@@ -30,7 +30,7 @@ pub const REDISPLAY_AFTER: u8 = 3;
 
 /// Prefix and postfix codes of Write.
 pub const NO_AFFIX: u8 = 0;
-pub const NEWLINES: u8 = 1;
+pub const NEW_LINES: u8 = 1;
 pub const CHARACTER: u8 = 2;
 
 #[derive(Clone, Debug, PartialEq, Eq)]

@@ -1,4 +1,4 @@
-//! Points 5 and 6: what locks and unlocks, and a locked line.
+//! Points 104 to 107: what locks and unlocks, and a locked line.
 
 use super::*;
 
@@ -22,22 +22,22 @@ fn is_locked(bench: &mut Bench) -> bool {
 /// Whether steps are held back when all keys were cleared or the read is gone:
 /// a read is started, and a key arrives for it.
 fn stays_locked(bench: &mut Bench) -> bool {
-    bench.host("05 00");
-    bench.host("06 00");
+    assert_eq!(bench.number("05 00"), 0);
+    assert_eq!(bench.number("06 00"), 0);
     start(ZZ1, b"", b"").on(bench);
     bench.keys(b"c");
     is_locked(bench)
 }
 
 #[test]
-fn point_5_a_fresh_line_is_unlocked() {
+fn point_108_a_fresh_line_is_unlocked() {
     let mut bench = half_typed(0);
     bench.keys(b"c");
     assert!(!is_locked(&mut bench));
 }
 
 #[test]
-fn point_5_uu_locks_and_unlocks() {
+fn point_104_uu_locks_and_unlocks() {
     let locks = [(0, false), (LOCK, true), (UNLOCK_AFTER, false), (REDISPLAY_AFTER, false)];
     for (lock, after) in locks {
         for data in [&b""[..], b"A"] {
@@ -53,7 +53,7 @@ fn point_5_uu_locks_and_unlocks() {
 }
 
 #[test]
-fn point_5_uu_acts_under_discard() {
+fn point_105_uu_acts_under_discard() {
     let mut bench = half_typed(0);
     bench.key(DISCARD_KEY);
     bench.keys(b"ccc");
@@ -68,7 +68,7 @@ fn point_5_uu_acts_under_discard() {
 }
 
 #[test]
-fn point_5_uu_acts_in_any_part() {
+fn point_105_uu_acts_in_any_part() {
     for part in [0, B, E, B | E] {
         let mut bench = half_typed(0);
         bench.keys(b"c");
@@ -84,7 +84,7 @@ fn point_5_uu_acts_in_any_part() {
 }
 
 #[test]
-fn point_5_15_unlocks_when_it_turns_discard_on() {
+fn point_106_15_unlocks_when_it_turns_discard_on() {
     let mut bench = locked();
     assert_eq!(bench.key(DISCARD_KEY), done("", "09 00"));
     assert!(!is_locked(&mut bench));
@@ -94,14 +94,14 @@ fn point_5_15_unlocks_when_it_turns_discard_on() {
     assert!(is_locked(&mut bench));
     assert_eq!(bench.key(DISCARD_KEY), done("", "09 00"));
     assert!(!is_locked(&mut bench));
-    // Don't-discard does not unlock: UU does.
+    // Don't-discard does not undo the lock of its Write.
     bench.keys(b"c");
     write(LOCK | D, b"").on(&mut bench);
     assert!(is_locked(&mut bench));
 }
 
 #[test]
-fn point_5_a_stored_or_quoted_15_does_not_unlock() {
+fn point_106_a_stored_or_quoted_15_does_not_unlock() {
     let mut bench = locked();
     bench.keys(&[QUOTE_KEY, DISCARD_KEY]);
     assert!(is_locked(&mut bench));
@@ -113,20 +113,20 @@ fn point_5_a_stored_or_quoted_15_does_not_unlock() {
 }
 
 #[test]
-fn point_5_immediate_clear_unlocks() {
+fn point_106_immediate_clear_unlocks() {
     let mut bench = locked();
     assert_eq!(bench.number("0B 00 02 02 03 03 01"), 0);
     // The read completes, two columns behind the prompt; nothing is rubbed out.
     assert_eq!(bench.key(BAND_KEY), done("", "04 00 03 | 03 03 02 00 00 04 00 00"));
     assert!(!stays_locked(&mut bench));
-    bench.host("05 00");
+    assert_eq!(bench.number("05 00"), 0);
     write(LOCK, b"").on(&mut bench);
     assert_eq!(bench.key(BAND_KEY), done("", "04 00 03"));
     assert!(!stays_locked(&mut bench));
 }
 
 #[test]
-fn point_5_what_leaves_the_lock() {
+fn point_106_what_leaves_the_lock() {
     let mut bench = locked();
     // 24 rubs out `ab`, and the keys that wait are gone.
     assert_eq!(bench.key(CLEAR_KEY), done("08 20 08 08 20 08", ""));
@@ -134,15 +134,17 @@ fn point_5_what_leaves_the_lock() {
     assert_eq!(bench.number("0B 00 02 02 03 03 03"), 0);
     assert_eq!(bench.key(BAND_KEY), done("", "04 00 03"));
     assert!(is_locked(&mut bench));
-    bench.number("06 00");
-    assert!(stays_locked(&mut bench));
-    bench.number("05 01");
-    bench.number("05 00");
-    assert!(stays_locked(&mut bench));
-    bench.number("0B 00 04 02 01 05 02 01");
-    bench.number("0A 00 04 02");
-    bench.number("0C 00");
-    assert!(is_locked(&mut bench));
+    // Clear Input; Unread with a key that waits, and always.
+    for message in ["06 00", "05 01", "05 00"] {
+        assert_eq!(bench.number(message), 0);
+        assert!(stays_locked(&mut bench));
+    }
+    // Characteristics, Read Characteristics, Check Input.
+    for message in ["0B 00 04 02 01 05 02 01", "0A 00 04 02", "0C 00"] {
+        assert_eq!(bench.number(message), 0);
+        assert!(is_locked(&mut bench));
+    }
+    // A largest read of 80.
     assert_eq!(bench.load(&[1, 0, 0, 0, 0, 0, 0, 1, 0, 80], &[1, 0, 0, 0, 0, 0, 0, 0, 0]), 0);
     assert!(is_locked(&mut bench));
     bench.refused(6, &bytes("07 00 08 00 00"));
@@ -160,7 +162,7 @@ fn held_back(bench: &mut Bench) {
 }
 
 #[test]
-fn point_6_a_locked_step_takes_no_key() {
+fn point_107_a_locked_step_takes_no_key() {
     let mut bench = half_typed(0);
     bench.keys(b"c\r");
     write(LOCK, b"").on(&mut bench);
@@ -177,7 +179,7 @@ fn point_6_a_locked_step_takes_no_key() {
 }
 
 #[test]
-fn point_6_a_locked_step_takes_no_token() {
+fn point_107_a_locked_step_takes_no_token() {
     let mut bench = Bench::initiated();
     start(ZZ2 | EE2, b"", b"").max(2).on(&mut bench);
     assert_eq!(bench.typed(&[ESC, b'[', b'A']), pair("", "03 18 00 00 00 00 00 00"));
@@ -197,7 +199,7 @@ fn point_6_a_locked_step_takes_no_token() {
 }
 
 #[test]
-fn point_6_a_locked_step_does_not_time_out() {
+fn point_107_a_locked_step_does_not_time_out() {
     let mut bench = Bench::initiated();
     start(ZZ2 | Q, b"", b"a").timeout(0).on(&mut bench);
     write(LOCK, b"").on(&mut bench);
@@ -208,7 +210,7 @@ fn point_6_a_locked_step_does_not_time_out() {
 }
 
 #[test]
-fn point_6_keys_arrive_while_locked() {
+fn point_107_keys_arrive_while_locked() {
     let mut bench = locked();
     bench.keys(&[b'k'; 63]);
     assert_eq!(bench.key(b'k'), done("07", ""));
@@ -222,7 +224,7 @@ fn point_6_keys_arrive_while_locked() {
 }
 
 #[test]
-fn point_6_ticks_count_while_locked() {
+fn point_107_ticks_count_while_locked() {
     let mut bench = Bench::initiated();
     start(ZZ2 | Q, b"? ", b"").timeout(3).on(&mut bench);
     assert_eq!(bench.tick(), done("", ""));
@@ -241,7 +243,7 @@ fn point_6_ticks_count_while_locked() {
 }
 
 #[test]
-fn point_6_a_start_read_is_accepted_while_locked() {
+fn point_107_a_start_read_is_accepted_while_locked() {
     let mut bench = Bench::initiated();
     write(LOCK, b"").on(&mut bench);
     assert_eq!(start(ZZ1, b"? ", b"a").on(&mut bench), pair("3F 20 61", ""));

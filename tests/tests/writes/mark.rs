@@ -1,4 +1,4 @@
-//! Point 3: the skip-linefeed mark.
+//! Points 101 and 102: the skip-linefeed mark.
 
 use super::*;
 
@@ -19,12 +19,12 @@ fn is_set(bench: &mut Bench) -> bool {
 }
 
 #[test]
-fn point_3_a_fresh_line_has_no_mark() {
+fn point_108_a_fresh_line_has_no_mark() {
     assert!(!is_set(&mut Bench::initiated()));
 }
 
 #[test]
-fn point_3_a_first_lf_is_left_out_once() {
+fn point_101_a_first_lf_is_left_out_once() {
     let mut bench = marked();
     assert_eq!(write(0, b"\nB").shown(&mut bench), "42");
     assert_eq!(write(0, b"\nC").shown(&mut bench), "0A 43");
@@ -35,7 +35,7 @@ fn point_3_a_first_lf_is_left_out_once() {
 }
 
 #[test]
-fn point_3_the_first_byte_of_prefix_data_and_postfix() {
+fn point_101_the_first_byte_of_prefix_data_and_postfix() {
     assert_eq!(write(PP2, b"B").prefix(LF).shown(&mut marked()), "42");
     assert_eq!(write(PP2, b"\n").prefix(LF).shown(&mut marked()), "0A");
     assert_eq!(write(QQ2, b"\n").postfix(LF).shown(&mut marked()), "0A");
@@ -51,7 +51,7 @@ fn point_3_the_first_byte_of_prefix_data_and_postfix() {
 }
 
 #[test]
-fn point_3_any_byte_lets_the_mark_fall() {
+fn point_101_any_byte_lets_the_mark_fall() {
     let falls = [
         write(0, b"B"),
         write(0, b"\n"),
@@ -68,7 +68,7 @@ fn point_3_any_byte_lets_the_mark_fall() {
 }
 
 #[test]
-fn point_3_a_write_without_bytes_leaves_the_mark() {
+fn point_101_a_write_without_bytes_leaves_the_mark() {
     let mut bench = marked();
     assert_eq!(write(S, b"").on(&mut bench), pair("", "08 00 00 00 00 00"));
     assert_eq!(write(0, b"").prefix(LF).postfix(b'x').shown(&mut bench), "");
@@ -82,7 +82,7 @@ fn point_3_a_write_without_bytes_leaves_the_mark() {
 }
 
 #[test]
-fn point_3_the_lf_of_l_is_never_left_out() {
+fn point_101_the_lf_of_l_is_never_left_out() {
     let mut bench = marked();
     assert_eq!(write(L, b"").shown(&mut bench), "0A");
     assert_eq!(write(L, b"").shown(&mut bench), "0A");
@@ -95,22 +95,22 @@ fn point_3_the_lf_of_l_is_never_left_out() {
 }
 
 #[test]
-fn point_3_echo_prompts_and_18_leave_the_mark() {
+fn point_102_echo_prompts_and_18_leave_the_mark() {
     let mut bench = marked();
     assert_eq!(start(ZZ1, b"\n? ", b"").on(&mut bench), pair("0A 3F 20", ""));
     assert_eq!(bench.typed(&[b'a', LF, REDISPLAY_KEY]).0, "61 5E 4A 0D 0A 0A 3F 20 61 5E 4A");
     assert_eq!(bench.typed(&[DELETE_KEY]).0, "08 20 08 08 20 08");
-    bench.key(CLEAR_KEY);
-    bench.host("05 00");
-    bench.host("06 00");
-    bench.number("0B 00 09 02 01");
-    bench.tick();
+    assert_eq!(bench.key(CLEAR_KEY), done("08 20 08", ""));
+    for message in ["05 00", "06 00", "0B 00 09 02 01"] {
+        assert_eq!(bench.number(message), 0);
+    }
+    assert_eq!(bench.tick(), done("", ""));
     assert!(is_set(&mut bench));
     assert!(!is_set(&mut bench));
 }
 
 #[test]
-fn point_3_a_redisplay_leaves_the_mark() {
+fn point_102_a_redisplay_leaves_the_mark() {
     // L's LF, and the half-typed answer behind it: the next LF is left out.
     let mut bench = half_typed(0);
     let shown = "41 0A 0D 0A 3F 20 61 62";
@@ -122,7 +122,7 @@ fn point_3_a_redisplay_leaves_the_mark() {
 }
 
 #[test]
-fn point_3_a_byte_left_out_is_not_lost_and_moves_nothing() {
+fn point_101_a_byte_left_out_is_not_lost_and_moves_nothing() {
     let mut bench = marked();
     assert_eq!(write(S, b"\n").on(&mut bench), pair("", "08 00 00 00 00 00"));
     assert_eq!(write(S | L, b"").on(&mut bench), pair("0A", "08 00 00 00 01 00"));
@@ -135,7 +135,7 @@ fn point_3_a_byte_left_out_is_not_lost_and_moves_nothing() {
 }
 
 #[test]
-fn point_3_a_byte_left_out_is_not_the_last() {
+fn point_101_a_byte_left_out_is_not_the_last() {
     let mut bench = marked();
     start(ZZ2, b"\r", b"").on(&mut bench);
     bench.host("05 00");

@@ -1,4 +1,4 @@
-//! Points 1, 2 and 4: what a Write puts out, loses and tells.
+//! Points 99, 100 and 103: what a Write puts out, loses and tells.
 
 use super::*;
 
@@ -8,7 +8,7 @@ fn alone(write: Write) -> String {
 }
 
 #[test]
-fn point_1_new_lines_are_cr_and_then_lfs() {
+fn point_99_new_lines_are_cr_and_then_lfs() {
     assert_eq!(alone(write(PP1, b"A").prefix(0)), "0D 41");
     assert_eq!(alone(write(PP1, b"A").prefix(1)), "0D 0A 41");
     assert_eq!(alone(write(PP1, b"A").prefix(3)), "0D 0A 0A 0A 41");
@@ -23,7 +23,7 @@ fn point_1_new_lines_are_cr_and_then_lfs() {
 }
 
 #[test]
-fn point_1_a_character_is_written_raw() {
+fn point_99_a_character_is_written_raw() {
     for value in [0, 1, HT, LF, CR, b'A', 127, 128, u8::MAX] {
         assert_eq!(alone(write(PP2, b"x").prefix(value)), format!("{value:02X} 78"));
         assert_eq!(alone(write(QQ2, b"x").postfix(value)), format!("78 {value:02X}"));
@@ -32,7 +32,7 @@ fn point_1_a_character_is_written_raw() {
 }
 
 #[test]
-fn point_1_code_0_writes_nothing() {
+fn point_99_code_0_writes_nothing() {
     for value in [0, 1, LF, CR, b'A', u8::MAX] {
         assert_eq!(alone(write(0, b"").prefix(value).postfix(value)), "");
         assert_eq!(alone(write(0, b"x").prefix(value).postfix(value)), "78");
@@ -40,7 +40,7 @@ fn point_1_code_0_writes_nothing() {
 }
 
 #[test]
-fn point_1_all_parts_in_order() {
+fn point_99_all_parts_in_order() {
     let all = write(PP2 | QQ1 | L, b"AB").prefix(b'<').postfix(1);
     assert_eq!(alone(all), "3C 41 42 0D 0A 0A");
     let all = write(PP1 | QQ2 | L, b"AB").prefix(1).postfix(b'>');
@@ -52,7 +52,7 @@ const KEPT: &str = "08 00 00 00 00 00";
 const LOST: &str = "08 01 00 00 00 00";
 
 #[test]
-fn point_2_discard_drops_every_part() {
+fn point_100_discard_drops_every_part() {
     let mut bench = Bench::initiated();
     bench.key(DISCARD_KEY);
     assert_eq!(write(S | PP1, b"").prefix(0).on(&mut bench), pair("", LOST));
@@ -66,7 +66,7 @@ fn point_2_discard_drops_every_part() {
 }
 
 #[test]
-fn point_2_no_byte_is_no_lost_output() {
+fn point_100_no_byte_is_no_lost_output() {
     let mut bench = Bench::initiated();
     bench.key(DISCARD_KEY);
     for lock in [0, LOCK, UNLOCK_AFTER, REDISPLAY_AFTER] {
@@ -80,7 +80,7 @@ fn point_2_no_byte_is_no_lost_output() {
 }
 
 #[test]
-fn point_2_dont_discard_acts_first() {
+fn point_100_dont_discard_acts_first() {
     let mut bench = Bench::initiated();
     bench.key(DISCARD_KEY);
     let all = write(S | D | L | PP1 | QQ2, b"A").prefix(0).postfix(b'>');
@@ -90,7 +90,7 @@ fn point_2_dont_discard_acts_first() {
 }
 
 #[test]
-fn point_2_the_mark_stays_under_discard() {
+fn point_100_the_mark_stays_under_discard() {
     // Set before: neither the discarded LF nor another byte lets it fall.
     let mut bench = Bench::initiated();
     assert_eq!(write(L, b"A").shown(&mut bench), "41 0A");
@@ -105,7 +105,7 @@ fn point_2_the_mark_stays_under_discard() {
 }
 
 #[test]
-fn point_4_positions_count_every_part() {
+fn point_103_positions_count_every_part() {
     let mut bench = Bench::initiated();
     // From column 0: two marks and the postfix; an LF of the prefix and of L.
     let all = write(S | L | PP1 | QQ2, b"AB").prefix(1).postfix(b'>');
@@ -122,7 +122,7 @@ fn point_4_positions_count_every_part() {
 }
 
 #[test]
-fn point_4_the_redisplay_is_not_counted() {
+fn point_103_the_redisplay_is_not_counted() {
     let mut bench = half_typed(0);
     let shown = "41 0D 0A 3F 20 61 62";
     let answer = pair(shown, "08 00 01 00 00 00");

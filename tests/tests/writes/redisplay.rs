@@ -1,4 +1,4 @@
-//! Point 5: the redisplay of a pending read.
+//! Points 104, 105 and 109: the redisplay of a pending read.
 
 use super::*;
 
@@ -8,7 +8,7 @@ fn rubbed(marks: usize) -> String {
 }
 
 #[test]
-fn point_5_only_uu_3_redisplays() {
+fn point_104_only_uu_3_redisplays() {
     for (lock, shown) in
         [(0, "41"), (LOCK, "41"), (UNLOCK_AFTER, "41"), (REDISPLAY_AFTER, "41 0D 0A 3F 20 61 62")]
     {
@@ -21,7 +21,7 @@ fn point_5_only_uu_3_redisplays() {
 }
 
 #[test]
-fn point_5_redisplay_under_any_ddd() {
+fn point_104_redisplay_under_any_ddd() {
     for ddd in 0..=3 {
         let mut bench = half_typed(ddd * DDD);
         let shown = "41 0D 0A 3F 20 61 62";
@@ -30,7 +30,7 @@ fn point_5_redisplay_under_any_ddd() {
 }
 
 #[test]
-fn point_5_redisplay_of_a_read_that_does_not_echo() {
+fn point_104_redisplay_of_a_read_that_does_not_echo() {
     for ddd in 0..=3 {
         let mut bench = half_typed(N | (ddd * DDD));
         assert_eq!(write(REDISPLAY_AFTER, b"A").shown(&mut bench), "41 0D 0A 3F 20");
@@ -39,11 +39,11 @@ fn point_5_redisplay_of_a_read_that_does_not_echo() {
 }
 
 #[test]
-fn point_5_redisplay_is_18() {
+fn point_104_redisplay_is_18() {
     // Auto prompt's code is not written again, nor the LF that F hides.
     let read = || {
         let mut bench = Bench::initiated();
-        bench.number("0B 00 09 02 01");
+        assert_eq!(bench.number("0B 00 09 02 01"), 0);
         assert_eq!(start(F | ZZ1, b"\n?", b"a").on(&mut bench), pair("01 3F 61", ""));
         assert_eq!(bench.typed(b"\x01\t").0, "5E 41 20 20 20 20");
         bench
@@ -58,7 +58,7 @@ fn point_5_redisplay_is_18() {
 }
 
 #[test]
-fn point_5_where_the_display_began_is_noted_anew() {
+fn point_104_where_the_display_began_is_noted_anew() {
     let mut bench = Bench::initiated();
     write(0, b"AAAAA").on(&mut bench);
     // The prompt ends at column 6, the tab goes from 7 to 8.
@@ -76,7 +76,7 @@ fn point_5_where_the_display_began_is_noted_anew() {
 }
 
 #[test]
-fn point_5_idle_and_the_note_of_the_read_stay() {
+fn point_104_idle_and_the_note_of_the_read_stay() {
     let mut bench = Bench::initiated();
     write(0, b"AAA").on(&mut bench);
     start(ZZ2 | Q, b"? ", b"").timeout(2).on(&mut bench);
@@ -87,7 +87,7 @@ fn point_5_idle_and_the_note_of_the_read_stay() {
 }
 
 #[test]
-fn point_5_redisplay_under_discard() {
+fn point_105_redisplay_under_discard() {
     let mut bench = half_typed(0);
     bench.key(DISCARD_KEY);
     let shown = "0D 0A 3F 20 61 62";
@@ -98,7 +98,7 @@ fn point_5_redisplay_under_discard() {
 }
 
 #[test]
-fn point_5_an_alarm_in_mid_line() {
+fn point_104_an_alarm_in_mid_line() {
     // What the keeper sees: the answer so far, the alarm, the answer again.
     let mut bench = half_typed(0);
     assert_eq!(write(LOCK | PP1, b"GATE").prefix(1).shown(&mut bench), "0D 0A 47 41 54 45");
@@ -112,7 +112,7 @@ fn point_5_an_alarm_in_mid_line() {
 }
 
 #[test]
-fn point_7_the_longest_write_and_its_redisplay() {
+fn point_109_the_longest_write_and_a_redisplay_of_tabs() {
     // Tabs: 125 of eight spaces each to the top column, then six of one.
     let tabs = [b'\t'; 131];
     let mut bench = Bench::initiated();

@@ -81,8 +81,12 @@ unfolding endOf
 display-column-bounded r b column h =
     record { terms = b .terms; room = b .room; lowWater = b .lowWater; inputBytes = b .inputBytes; idle = b .idle; displayColumn = h }
 
+-- CR LF, and eight marks at most for each character of prompt and input
+abbrev pub redisplayBytes : ℕ
+redisplayBytes = 2 + 8 * inputSize
+
 pub redisplays-good : {R : OfRead} {area : ℕ} {s : State ℕ} (r : Reading ℕ) → BoundedReading r → Steady R s →
-    Good BoundedRead (2 + 8 * inputSize) area (redisplays codes r s)
+    Good BoundedRead redisplayBytes area (redisplays codes r s)
 unfolding redisplays endOf
 redisplays-good {area = area} r b h =
     then-good _ _ 2 (8 * inputSize) 0 area (omega arith) (omega arith) (writes-good _ (omega arith) h) λ s₁ h₁.

@@ -12,7 +12,7 @@ use Rattle.rules.specs.Messages.Forms.{Message}
 use Rattle.rules.specs.Messages.Fields.{prefix, postfix, prefixValue, postfixValue}
 use Rattle.rules.specs.Screen.{LF}
 use Rattle.rules.specs.State.{Reading, State, codes}
-use Rattle.rules.specs.Write.{fixBytes, ownBytes, unskipped, stopsDiscarding, writesOwn, endsLine, putsOut}
+use Rattle.rules.specs.Write.{affixBytes, ownBytes, unskipped, stopsDiscarding, writesOwn, endsLine, writesOutput}
 use Rattle.rules.specs.Write.{completion, sendsCompletion, setsLock, redisplaysWhile, redisplaysIfAsked, writesOut}
 use Rattle.rules.specs.Bounds.{BoundedRead}
 use Rattle.rules.proofs.Choice.{pick-case}
@@ -21,11 +21,11 @@ use Rattle.rules.proofs.Bounds.Screen.{change-byte}
 use Rattle.rules.proofs.Bounds.Turns.{Steady, Good, Fine, roomier, reflagged}
 use Rattle.rules.proofs.Bounds.Turns.{still-good, changes-good, writes-good, sends-good, changes-then, then-good, then-quiet, quiet-then, only-good}
 use Rattle.rules.proofs.Bounds.Messages.{completion-sent}
-use Rattle.rules.proofs.Bounds.Editing.{redisplays-good}
+use Rattle.rules.proofs.Bounds.Editing.{redisplayBytes, redisplays-good}
 
-fixBytes-length : (code value : ℕ) → value < byteValues → length (fixBytes code value) ≤ byteValues
-unfolding fixBytes
-fixBytes-length code value byte =
+affixBytes-length : (code value : ℕ) → value < byteValues → length (affixBytes code value) ≤ byteValues
+unfolding affixBytes
+affixBytes-length code value byte =
     let lines = length-replicate value LF in
     pick-case Short _ (λ y. omega arith) λ n.
     pick-case Short _ (λ y. omega arith) λ n. omega arith
@@ -38,12 +38,9 @@ unfolding unskipped
 unskipped-length mark [] = omega arith
 unskipped-length mark (b ∷ bs) = pick-case (λ (left : List ℕ). length left ≤ length (b ∷ bs)) _ (λ y. omega arith) (λ n. omega arith)
 
--- what a Write writes itself, L's LF with it, and what is then redisplayed
+-- what a Write writes itself, L's LF with it
 abbrev outputBytes : ℕ
 outputBytes = 2 * byteValues + messageSize + 1
-
-abbrev redisplayBytes : ℕ
-redisplayBytes = 2 + 8 * inputSize
 
 module _ {s : State ℕ} (h : Steady BoundedRead s) where
   writesOwn-good : {area : ℕ} (bytes : List ℕ) → Good BoundedRead (length bytes) area (writesOwn bytes s)
@@ -65,17 +62,17 @@ module _ {s : State ℕ} (h : Steady BoundedRead s) (m : Message ℕ) (text : le
   ownBytes-length : length (ownBytes m) ≤ 2 * byteValues + messageSize
   unfolding ownBytes
   ownBytes-length =
-      let front = fixBytes (prefix m) (prefixValue m) in
-      let back = fixBytes (postfix m) (postfixValue m) in
-      let before = fixBytes-length (prefix m) (prefixValue m) (values .0) in
-      let behind = fixBytes-length (postfix m) (postfixValue m) (values .1) in
+      let front = affixBytes (prefix m) (prefixValue m) in
+      let back = affixBytes (postfix m) (postfixValue m) in
+      let before = affixBytes-length (prefix m) (prefixValue m) (values .0) in
+      let behind = affixBytes-length (postfix m) (postfixValue m) (values .1) in
       let first = length-append front (m .text) in
       let all : length (ownBytes m) ≡ length (front ++ m .text) + length back = length-append (front ++ m .text) back in
       omega arith
 
-  putsOut-good : {area : ℕ} {u : State ℕ} → Steady BoundedRead u → Good BoundedRead outputBytes area (putsOut m u)
-  unfolding putsOut
-  putsOut-good {area = area} k =
+  writesOutput-good : {area : ℕ} {u : State ℕ} → Steady BoundedRead u → Good BoundedRead outputBytes area (writesOutput m u)
+  unfolding writesOutput
+  writesOutput-good {area = area} k =
       only-good _ _
       (λ y.
       then-good _ _ (2 * byteValues + messageSize) 1 0 area (omega arith) (omega arith)
@@ -90,7 +87,7 @@ module _ {s : State ℕ} (h : Steady BoundedRead s) (m : Message ℕ) (text : le
       let room = writing-room in
       roomier (outputBytes + redisplayBytes) 8 (omega arith) (omega arith)
       (quiet-then _ _ (only-good _ _ (λ y. changes-good _ (reflagged h)) (λ n. h)) λ s₁ h₁.
-      then-good _ _ outputBytes redisplayBytes 0 8 (omega arith) (omega arith) (putsOut-good h₁) λ s₂ h₂.
+      then-good _ _ outputBytes redisplayBytes 0 8 (omega arith) (omega arith) (writesOutput-good h₁) λ s₂ h₂.
       then-good _ _ 0 redisplayBytes 8 0 (omega arith) (omega arith)
       (only-good _ _ (λ y. sends-good _ (completion-sent _ _ _ (change-byte _ _) (change-byte _ _)) (omega arith) h₂) (λ n. h₂)) λ s₃ h₃.
       changes-then _ _

@@ -5,7 +5,7 @@ use mathlib.Core.List.{List}
 use mathlib.Core.Option.{Option, none, some, Option·map}
 use Rattle.rules.specs.Messages.Forms.{Message}
 use Rattle.rules.specs.State.{Characters, Reading}
-use Rattle.rules.specs.Write.{stopsDiscarding, writesOwn, endsLine, putsOut, completion, sendsCompletion, setsLock, redisplaysWhile, redisplaysIfAsked, writesOut}
+use Rattle.rules.specs.Write.{stopsDiscarding, writesOwn, endsLine, writesOutput, completion, sendsCompletion, setsLock, redisplaysWhile, redisplaysIfAsked, writesOut}
 use Rattle.rules.proofs.Erasure.Maps.{Maps, mapReading}
 use Rattle.rules.proofs.Erasure.Turns.{Erases, erases-here, erases-still, erases-writes, erases-plain, erases-changes, erases-then, erases-only}
 use Rattle.rules.proofs.Erasure.Editing.{erase-redisplays}
@@ -19,9 +19,9 @@ module _ {C D : Type 0} {f : C → D} {cs : Characters C} {ds : Characters D} (m
   unfolding endsLine
   erase-endsLine newline = erases-only refl (erases-then (erases-writes refl) (erases-changes _ _ (λ s. refl)))
 
-  erase-putsOut : (n : Message ℕ) → Erases f (putsOut n) (putsOut n)
-  unfolding putsOut
-  erase-putsOut n = record { at = λ s. erases-here s (erases-only refl (erases-then (erase-writesOwn _) (erase-endsLine _))) }
+  erase-writesOutput : (n : Message ℕ) → Erases f (writesOutput n) (writesOutput n)
+  unfolding writesOutput
+  erase-writesOutput n = record { at = λ s. erases-here s (erases-only refl (erases-then (erase-writesOwn _) (erase-endsLine _))) }
 
   erase-redisplaysWhile : (x : Option (Reading C)) → Erases f (redisplaysWhile cs x) (redisplaysWhile ds (Option·map (mapReading f) x))
   unfolding redisplaysWhile
@@ -39,7 +39,7 @@ module _ {C D : Type 0} {f : C → D} {cs : Characters C} {ds : Characters D} (m
         at = λ s.
             erases-here s
             (erases-then (erases-only refl (erases-changes _ _ (λ s. refl)))
-            (erases-then (erase-putsOut n)
+            (erases-then (erase-writesOutput n)
             (erases-then (erases-only refl (record { at = λ s. erases-here s (erases-plain _ refl) }))
             (erases-then (erases-changes _ _ (λ s. refl))
             (erase-redisplaysIfAsked _)))));

@@ -6,7 +6,7 @@ use mathlib.Core.List.{List}
 use mathlib.Core.Option.{Option, none, some}
 use Rattle.rules.specs.Messages.Forms.{Message}
 use Rattle.rules.specs.State.{Reading}
-use Rattle.rules.specs.Write.{stopsDiscarding, writesOwn, endsLine, putsOut, completion, sendsCompletion, setsLock, redisplaysWhile, redisplaysIfAsked, writesOut}
+use Rattle.rules.specs.Write.{stopsDiscarding, writesOwn, endsLine, writesOutput, completion, sendsCompletion, setsLock, redisplaysWhile, redisplaysIfAsked, writesOut}
 use Rattle.rules.proofs.TwoRuns.Twins.{Twin, LevelRead, isGuarded, Agreeing}
 use Rattle.rules.proofs.TwoRuns.Turns.{agrees-still, agrees-terminal, agrees-then, agrees-writes, agrees-sends, agrees-only}
 use Rattle.rules.proofs.TwoRuns.Editing.{redisplays-agrees}
@@ -20,9 +20,9 @@ module _ {changed : ℕ → Bool} where
   unfolding endsLine
   endsLine-agrees newline = agrees-only refl (agrees-then (agrees-writes refl) (agrees-terminal _))
 
-  putsOut-agrees : (m : Message ℕ) → Agreeing {changed = changed} (λ chars. putsOut m)
-  unfolding putsOut
-  putsOut-agrees m s = agrees-only refl (agrees-then (writesOwn-agrees _) (endsLine-agrees _)) s
+  writesOutput-agrees : (m : Message ℕ) → Agreeing {changed = changed} (λ chars. writesOutput m)
+  unfolding writesOutput
+  writesOutput-agrees m s = agrees-only refl (agrees-then (writesOwn-agrees _) (endsLine-agrees _)) s
 
   redisplaysWhile-agrees : (o : Option (Reading (Twin changed))) → LevelRead o → Agreeing (λ chars. redisplaysWhile chars o)
   unfolding redisplaysWhile
@@ -37,7 +37,7 @@ module _ {changed : ℕ → Bool} where
   unfolding writesOut stopsDiscarding sendsCompletion completion setsLock isGuarded
   writesOut-agrees m before =
       agrees-then (agrees-only refl (agrees-terminal _))
-      (agrees-then (putsOut-agrees m)
+      (agrees-then (writesOutput-agrees m)
       (agrees-then (agrees-only refl (λ s. agrees-sends refl refl s))
       (agrees-then (agrees-terminal _)
       (redisplaysIfAsked-agrees _)))) before

@@ -1,5 +1,5 @@
 -- The bench table: page 01's starred cases, and rows of our own.
-use Prim.Native.Nat.{ℕ, _-_}
+use Prim.Native.Nat.{_-_}
 use mathlib.Core.List.{List, [], _∷_, _++_}
 use lib.ListN.{length, take, replicate}
 use Rattle.rules.specs.Choice.{joined}
@@ -205,7 +205,7 @@ warned =
     -- a refused load, which is no record or one of another form, leaves the line as it was
     runs
     (initiated ∷ loading emptyRecord [] unsoundRecord ∷ loading (largestReadRecord 1) (0x02 ∷ []) unsoundRecord ∷ startedA ∷ []) ∷
-    -- M-103. A half-typed answer: an alarm locks, a key waits, and behind the unlock the keeper sees the answer again; the alarm's end alone counts as written
+    -- M-103. A half-typed answer: an alarm locks, a key waits, and behind the unlock the keeper sees the answer again; Write Completion counts the "!" and not the redisplay
     runs
     (initiated ∷ startedA ∷
     (typed 0x34 (0x34 ∷ []) [] ++
@@ -239,11 +239,18 @@ warned =
     wrote 0x04 0x04 0x00 0x00 [] [] (0x06 ∷ 0x00 ∷ 0x08 ∷ 0x01 ∷ 0x00 ∷ 0x00 ∷ 0x00 ∷ 0x00 ∷ []) ∷
     wrote 0x40 0x04 0x00 0x00 [] [] (0x06 ∷ 0x00 ∷ 0x08 ∷ 0x01 ∷ 0x00 ∷ 0x00 ∷ 0x00 ∷ 0x00 ∷ []) ∷
     wrote 0x00 0x04 0x09 0x09 [] [] (0x06 ∷ 0x00 ∷ 0x08 ∷ 0x00 ∷ 0x00 ∷ 0x00 ∷ 0x00 ∷ 0x00 ∷ []) ∷
-    wrote 0x08 0x00 0x00 0x00 (0x0A ∷ 0x42 ∷ []) (0x42 ∷ []) [] ∷ []) ∷
-    -- a 15 that turns discard on unlocks, and one that turns it off does not; UU 0 does, and locks and unlocks under discard too
+    wrote 0x08 0x00 0x00 0x00 (0x0A ∷ 0x42 ∷ []) (0x42 ∷ []) [] ∷
+    -- nor does a discarded L set it
+    flipped 0 ∷
+    wrote 0x04 0x00 0x00 0x00 (0x43 ∷ []) [] [] ∷
+    wrote 0x08 0x00 0x00 0x00 (0x0A ∷ 0x44 ∷ []) (0x0A ∷ 0x44 ∷ []) [] ∷ []) ∷
+    -- a 15 that turns discard on unlocks, and one that turns it off does not; UU locks, unlocks and redisplays under discard too
     runs
     (initiated ∷ startedA ∷ stored 0x31 ∷ wrote 0x01 0x00 0x00 0x00 [] [] [] ∷ stepped [] [] ∷
     flipped 0 ∷ stepped (0x31 ∷ []) [] ∷
+    wrote 0x01 0x00 0x00 0x00 [] [] [] ∷ stored 0x30 ∷ stepped [] [] ∷
+    wrote 0x03 0x04 0x00 0x00 (0x41 ∷ []) (0x0D ∷ 0x0A ∷ 0x3F ∷ 0x20 ∷ 0x31 ∷ []) (0x06 ∷ 0x00 ∷ 0x08 ∷ 0x01 ∷ 0x00 ∷ 0x00 ∷ 0x00 ∷ 0x00 ∷ []) ∷
+    stepped (0x30 ∷ []) [] ∷
     wrote 0x01 0x00 0x00 0x00 [] [] [] ∷ stored 0x32 ∷ flipped 1 ∷ stepped [] [] ∷
     wrote 0x00 0x00 0x00 0x00 [] [] [] ∷ stepped (0x32 ∷ []) [] ∷ []) ∷
     -- immediate clear unlocks

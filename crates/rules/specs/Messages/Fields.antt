@@ -49,15 +49,15 @@ abbrev pub unreadAlways : ℕ
 unreadAlways = 0
 
 -- UU: 1 locks; any other leaves the line unlocked, and 3 redisplays
-abbrev pub locks : ℕ
-locks = 1
+abbrev pub lockValue : ℕ
+lockValue = 1
 
-abbrev pub asksRedisplay : ℕ
-asksRedisplay = 3
+abbrev pub redisplayAfter : ℕ
+redisplayAfter = 3
 
 -- PP and QQ: 0 is none, 1 a number of lines, 2 a character
 abbrev pub newLines : ℕ
 newLines = 1
 
-abbrev pub oneCharacter : ℕ
-oneCharacter = 2
+abbrev pub character : ℕ
+character = 2

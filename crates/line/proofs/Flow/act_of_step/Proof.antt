@@ -1,15 +1,19 @@
-use mathlib.Core.Path.{refl, sym, ap, _∙_}
+use mathlib.Core.Path.{_≡_, refl, sym, ap, _∙_}
+use Prim.Native.Nat.{ℕ}
 use native.Mathlib.Omega.{arith}
-use mathlib.Core.Bool.{not}
+use mathlib.Core.Bool.{false, not}
+use mathlib.Core.List.{List}
 use borrow.Author.Tests.{not-true, not-false, eq-eqb}
 use Rattle.rules.specs.State.{codes}
-use Rattle.rules.specs.Turns.{only}
+use Rattle.rules.specs.Turns.{still, only}
 use Rattle.rules.specs.Steps.{takesFirst, stepsWhile, steps}
 use Rattle.rules.proofs.Choice.{isEmpty-nil}
 use Rattle.line.specs.View.{view, readingOf}
 use Rattle.line.specs.With.{onFlow, lent}
-use Rattle.line.specs.Acts.{CanTakeKey}
-use Rattle.line.proofs.ActChoice.{met, meets-as, meets-pending, meets-none, meets-first, meets-second, meets-unlocked, meets-told}
+use Rattle.line.specs.declared.Line.{Line}
+use Rattle.line.specs.declared.acts.Act.{Act}
+use Rattle.line.specs.Acts.{CanTakeKey, Meets}
+use Rattle.line.proofs.ActChoice.{met, meets-as, meets-pending, meets-none, meets-first, meets-second, meets-told}
 use Rattle.line.proofs.KeyArrays.{keys-empty, first-key}
 use Rattle.line.proofs.TokenBytes.{token-short}
 use Rattle.line.proofs.PendingRead.{pending-room}
@@ -19,6 +23,12 @@ use Rattle.line.proofs.Flow.act_of_step.Tie as tie
 use Rattle.line.proofs.Flow.act_of_step.Reads as reads
 use Rattle.line.proofs.Flow.act_of_step.Lts as lts
 use Rattle.line.proofs.Terms.act_without_key.Reads as act-without-key-reads
+
+-- a step while the line is not locked
+meets-unlocked : {s : List ℕ} {l : Line} {a : Act} → l .flow .terminal .locked ≡ false →
+    Meets (λ v. stepsWhile codes (v .pendingRead) v) s l a → Meets (steps codes) s l a
+unfolding steps only
+meets-unlocked e h = meets-first still refl (ap not e) (meets-as refl h)
 
 returns : tie.Need-returns
 unfolding steps only

@@ -8,7 +8,6 @@ use Rattle.rules.proofs.Numbers.{waiting-byte}
 use Rattle.line.proofs.Turns.{then-does}
 use Rattle.line.proofs.TokenBytes.{token-length, token-counted, untokened-counted}
 use Rattle.line.proofs.FlowChanges.{here-rule, completes-as, typed-counted, cleared-does, ended-does}
-use borrow.Author.Needs.{needs}
 use Rattle.line.proofs.Work.ends_by_token.Statement.{statement}
 use Rattle.line.proofs.Work.ends_by_token.Tie as tie
 use Rattle.line.proofs.Work.ends_by_token.Reads as reads

@@ -12,7 +12,6 @@ use Rattle.line.specs.With.{lent}
 use Rattle.line.proofs.InputAppended.{end-is}
 use Rattle.line.proofs.TokenBytes.{token-counted}
 use Rattle.line.proofs.FlowChanges.{here-first, here-second}
-use borrow.Author.Needs.{needs}
 use Rattle.line.proofs.Work.takes_token.Statement.{statement}
 use Rattle.line.proofs.Work.takes_token.Tie as tie
 use Rattle.line.proofs.Work.takes_token.Reads as reads

@@ -1,6 +1,6 @@
 use mathlib.Core.Path.{refl}
 use borrow.Author.Needs.{needs}
-use Rattle.rules.specs.Write.{writesOut}
+use Rattle.rules.specs.Write.{setsLock, writesOut}
 use Rattle.message.specs.Found.{writeIn}
 use Rattle.line.specs.With.{lent}
 use Rattle.line.proofs.Turns.{then-does}
@@ -17,17 +17,17 @@ has-output-requires c κs = search needs
 stops-discarding-requires : tie.Need-stops-discarding-requires
 stops-discarding-requires c κs = search needs
 
-puts-out-requires : tie.Need-puts-out-requires
-puts-out-requires c κs = c .before .stops-discarding .ensures .0
+writes-output-requires : tie.Need-writes-output-requires
+writes-output-requires c κs = c .before .stops-discarding .ensures .0
 
 sends-completion-requires : tie.Need-sends-completion-requires
-sends-completion-requires c κs = c .before .before .before .puts-out .ensures .0
+sends-completion-requires c κs = c .before .before .before .writes-output .ensures .0
 
-sets-lock-requires : tie.Need-sets-lock-requires
-sets-lock-requires c κs = c .before .before .sends-completion .ensures .0
+sets-locked-requires : tie.Need-sets-locked-requires
+sets-locked-requires c κs = c .before .before .before .sends-completion .ensures .0
 
 redisplays-if-asked-requires : tie.Need-redisplays-if-asked-requires
-redisplays-if-asked-requires c κs = (c .before .sets-lock .ensures .0, c .before .before .before .before .before .before .before .before .before .before .before .before .before .before .before .before .before .before .before .before .pre .1)
+redisplays-if-asked-requires c κs = (c .before .sets-locked .ensures .0, c .before .before .before .before .before .before .before .before .before .before .before .before .before .before .before .before .before .before .before .before .before .pre .1)
 
 same-length : tie.Need-same-length
 same-length c = search needs
@@ -36,15 +36,15 @@ same-length-2 : tie.Need-same-length-2
 same-length-2 c = search needs
 
 returns : tie.Need-returns
-unfolding writesOut
+unfolding writesOut setsLock
 returns c =
-    let a = c .before .before .before .before .before .before .before .before .before .before .before .before .before .before .before .before .before .before .before .before .before .before .before .args in
-    let text = c .before .before .before .before .before .before .before .before .before .before .before .before .before .before .before .span-of .ensures in
-    let some = c .before .before .before .before .before .before .before .before .before .before .before .before .before .before .has-output .ensures (a .s .now) text in
-    let kept = c .before .before .before .before .before .before .before .before .before .before .before .before .before .stops-discarding .ensures .1 in
-    let written = c .before .before .before .before .before .before .before .before .before .before .before .puts-out .ensures .1 (a .s .now) text in
-    let said = c .before .before .before .before .before .before .before .sends-completion .ensures .1 in
-    let locked = c .before .before .before .before .sets-lock .ensures .1 in
+    let a = c .before .before .before .before .before .before .before .before .before .before .before .before .before .before .before .before .before .before .before .before .before .before .before .before .args in
+    let text = c .before .before .before .before .before .before .before .before .before .before .before .before .before .before .before .before .span-of .ensures in
+    let some = c .before .before .before .before .before .before .before .before .before .before .before .before .before .before .before .has-output .ensures (a .s .now) text in
+    let kept = c .before .before .before .before .before .before .before .before .before .before .before .before .before .before .stops-discarding .ensures .1 in
+    let written = c .before .before .before .before .before .before .before .before .before .before .before .before .writes-output .ensures .1 (a .s .now) text in
+    let said = c .before .before .before .before .before .before .before .before .sends-completion .ensures .1 in
+    let locked = c .before .before .before .before .sets-locked .ensures .1 in
     let shown = c .before .before .redisplays-if-asked .ensures in (
       shown .0,
       λ l.
@@ -64,9 +64,9 @@ writes-out-spec =
     span-of-requires
     has-output-requires
     stops-discarding-requires
-    puts-out-requires
+    writes-output-requires
     sends-completion-requires
-    sets-lock-requires
+    sets-locked-requires
     redisplays-if-asked-requires
     same-length
     same-length-2

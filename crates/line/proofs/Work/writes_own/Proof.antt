@@ -1,4 +1,4 @@
-use mathlib.Core.Path.{refl, ap, _∙_}
+use mathlib.Core.Path.{refl, sym, ap, _∙_}
 use native.Mathlib.Omega.{arith}
 use mathlib.Core.Bool.{_&&_}
 use Prim.Native.Nat.{_+_, _-_, _≤_}
@@ -7,12 +7,12 @@ use borrow.Author.Needs.{needs}
 use Rattle.rules.specs.Choice.{isEmpty}
 use Rattle.rules.specs.State.{withSkipLinefeed}
 use Rattle.rules.specs.Write.{writesOwn}
+use Rattle.rules.proofs.Choice.{empty-length}
 use Rattle.fields.proofs.Pieces.{all-behind}
 use Rattle.line.specs.View.{terminalOf}
 use Rattle.line.proofs.Turns.{then-does}
 use Rattle.line.proofs.FlowChanges.{here-rule, same-writes}
 use Rattle.line.proofs.ArrivalLaws.{terminal-counted, terminal-does}
-use Rattle.line.proofs.WriteLaws.{no-text}
 use Rattle.line.proofs.Work.writes_own.Statement.{statement}
 use Rattle.line.proofs.Work.writes_own.Tie as tie
 
@@ -51,7 +51,7 @@ returns c =
       λ l m.
           then-does (here-rule refl (same-writes left (written .ensures .1 l m)))
           (terminal-does (written .result) _ next (λ x. withSkipLinefeed (isEmpty own && x .skipLinefeed) x)
-          (ap (λ none. withSkipLinefeed (none && known .skipLinefeed) known) (no-text own)) l _ m),
+          (ap (λ none. withSkipLinefeed (none && known .skipLinefeed) known) (sym (empty-length own))) l _ m),
     )
 
 pub writes-own-spec : {M : Type 1} → statement M

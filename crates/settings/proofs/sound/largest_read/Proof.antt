@@ -3,7 +3,7 @@ use mathlib.Core.Bool.{_&&_, _||_}
 use lib.ListN.{length}
 use lib.Dec.{eqb, leb}
 use Rattle.rules.specs.Settings.{soundLargestRead}
-use Rattle.settings.proofs.Empty.{empty-length}
+use Rattle.rules.proofs.Choice.{empty-length}
 use Rattle.settings.proofs.sound.largest_read.Statement.{statement}
 use Rattle.settings.proofs.sound.largest_read.Tie as tie
 

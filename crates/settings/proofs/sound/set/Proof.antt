@@ -7,7 +7,7 @@ use borrow.Author.Tests.{eq-eqb, ne-eqb}
 use borrow.Author.Needs.{needs}
 use Rattle.rules.specs.Settings.{soundSet}
 use Rattle.rules.specs.Messages.Layout.{byteAt}
-use Rattle.settings.proofs.Empty.{empty-length}
+use Rattle.rules.proofs.Choice.{empty-length}
 use Rattle.settings.proofs.sound.set.Statement.{statement}
 use Rattle.settings.proofs.sound.set.Tie as tie
 

@@ -4,7 +4,7 @@ use lib.ListN.{length}
 use lib.Dec.{eqb}
 use borrow.Author.Needs.{needs}
 use Rattle.rules.specs.Settings.{soundSwitches}
-use Rattle.settings.proofs.Empty.{empty-length}
+use Rattle.rules.proofs.Choice.{empty-length}
 use Rattle.settings.proofs.sound.switches.Statement.{statement}
 use Rattle.settings.proofs.sound.switches.Tie as tie
 

@@ -1,16 +1,16 @@
 use mathlib.Core.Path.{sym}
-use Prim.Native.Nat.{_+_}
+use Prim.Native.Nat.{_+_, _-_}
 use native.Mathlib.Omega.{arith}
-use mathlib.Core.List.{_∷_}
-use lib.ListN.{replicate, length-replicate}
+use lib.ListN.{length-replicate}
 use lib.Seq.{length-take-le}
 use borrow.Author.Needs.{needs}
-use Rattle.rules.specs.Screen.{CR, LF}
+use Rattle.rules.specs.Messages.Layout.{byteValues}
+use Rattle.rules.specs.Screen.{LF}
 use Rattle.rules.specs.Write.{writesOwn}
 use Rattle.line.proofs.FlowChanges.{for-equal}
-use Rattle.line.proofs.WriteLaws.{fix-lines, fix-character, fix-none, none-own-does}
-use Rattle.line.proofs.Work.writes_fix.Statement.{statement}
-use Rattle.line.proofs.Work.writes_fix.Tie as tie
+use Rattle.line.proofs.WriteLaws.{longestLines, affix-lines, affix-character, affix-none, none-own-does}
+use Rattle.line.proofs.Work.writes_affix.Statement.{statement}
+use Rattle.line.proofs.Work.writes_affix.Tie as tie
 
 array-write-lines : tie.Need-array-write-lines
 array-write-lines c = search needs
@@ -24,7 +24,7 @@ array-share-prefix-lines c = search needs
 slice-aggregate-writes-own : tie.Need-slice-aggregate-writes-own
 slice-aggregate-writes-own c =
     let a = c .before .before .before .before .args in
-    sym (length-take-le (a .value + 1) (CR ∷ replicate 255 LF) (omega (arith, length-replicate 255 LF)))
+    sym (length-take-le (a .value + 1) longestLines (omega (arith, length-replicate (byteValues - 1) LF)))
 
 writes-own-requires : tie.Need-writes-own-requires
 writes-own-requires c κs = search needs
@@ -36,7 +36,7 @@ returns : tie.Need-returns
 returns c =
     let a = c .before .before .before .before .before .before .before .args in
     let written = c .before .before .writes-own .ensures in
-    (written .0, λ l m. for-equal writesOwn (fix-lines (a .code) (a .value) 255 (omega arith) (c .before .before .before .before .before .if1 .taken)) (written .1 l m))
+    (written .0, λ l m. for-equal writesOwn (affix-lines (a .code) (a .value) (omega arith) (c .before .before .before .before .before .if1 .taken)) (written .1 l m))
 
 slice-aggregate-writes-own-2 : tie.Need-slice-aggregate-writes-own-2
 slice-aggregate-writes-own-2 c = search needs
@@ -51,16 +51,16 @@ returns-2 : tie.Need-returns-2
 returns-2 c =
     let a = c .before .before .before .before .before .before .before .before .args in
     let written = c .before .before .writes-own2 .ensures in
-    (written .0, λ l m. for-equal writesOwn (fix-character (a .code) (a .value) (c .before .before .before .before .before .before .if1 .left) (c .before .before .before .before .before .if2 .taken)) (written .1 l m))
+    (written .0, λ l m. for-equal writesOwn (affix-character (a .code) (a .value) (c .before .before .before .before .before .before .if1 .left) (c .before .before .before .before .before .if2 .taken)) (written .1 l m))
 
 returns-3 : tie.Need-returns-3
 returns-3 c =
     let start = c .before .before .before in
     let a = start .args in
-    (start .pre, λ l m. for-equal writesOwn (fix-none (a .code) (a .value) (c .before .if1 .left) (c .if2 .left)) (none-own-does _ _ m))
+    (start .pre, λ l m. for-equal writesOwn (affix-none (a .code) (a .value) (c .before .if1 .left) (c .if2 .left)) (none-own-does _ _ m))
 
-pub writes-fix-spec : {M : Type 1} → statement M
-writes-fix-spec =
+pub writes-affix-spec : {M : Type 1} → statement M
+writes-affix-spec =
     tie.close
     (tie.spec
     array-write-lines
