@@ -1,5 +1,5 @@
-//! One test or more for each point of `docs/DECISIONS.md` from 99 to 109, which
-//! are request M-103's, but for 110.
+//! One test or more for each of points 99 to 109 of `docs/DECISIONS.md` (request
+//! M-103). 98 is their order, and 110 the program's own.
 
 mod common;
 

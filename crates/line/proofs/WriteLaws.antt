@@ -25,7 +25,7 @@ use Rattle.line.proofs.Turns.{then-does, still-does, only-does, not-doe
 use Rattle.line.proofs.FlowChanges.{here-rule}
 use Rattle.line.proofs.ArrivalLaws.{pending-does, idle-does}
 
--- Whether there is a byte in two texts.
+-- Whether there is a byte in either of two texts.
 pub some-append : (xs ys : List ℕ) → not (isEmpty xs) || not (isEmpty ys) ≡ not (isEmpty (xs ++ ys))
 unfolding isEmpty
 some-append [] ys = refl
@@ -110,9 +110,9 @@ module _ (code value : ℕ) where
     unfolding affixBytes
     affix-none no-character = sym (pick-false _ _ (ne-eqb code newLines no-lines) ∙ pick-false _ _ (ne-eqb code character no-character))
 
-  affix-some-by : (lines character : Bool) → lines || character ≡ not (isEmpty (pick lines (CR ∷ replicate value LF) (pick character (value ∷ []) [])))
+  affix-some-by : (lines single : Bool) → lines || single ≡ not (isEmpty (pick lines (CR ∷ replicate value LF) (pick single (value ∷ []) [])))
   unfolding pick isEmpty
-  affix-some-by true character = refl
+  affix-some-by true single = refl
   affix-some-by false true = refl
   affix-some-by false false = refl
 

@@ -34,7 +34,7 @@ pub struct Terminal {
     pub quoting: bool,
     // no step acts
     pub locked: bool,
-    // the skip-linefeed mark: of the next Write's own bytes a first LF is left out
+    // the skip-linefeed mark: of the next own bytes of a Write a first LF is left out
     pub skip_linefeed: bool,
 }
 

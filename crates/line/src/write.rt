@@ -24,7 +24,7 @@ use rules::characters;
 use screen::Screen;
 
 // UU: 1 locks; any other leaves the line unlocked, and 3 redisplays.
-const LOCK: u8 = 1;
+const LEAVES_LOCKED: u8 = 1;
 
 const REDISPLAY_AFTER: u8 = 3;
 
@@ -36,7 +36,7 @@ const CHARACTER: u8 = 2;
 // The longest prefix or postfix: CR, and as many LF as a byte can say.
 const LONGEST_AFFIX: usize = rules::forms::BYTE_VALUES as usize;
 
-// Where what is written of own bytes begins: behind an LF that the mark leaves out.
+// The place of the first byte that is written: behind an LF that the mark leaves out.
 fn first_written(skips: bool, own: &[u8]) -> usize
     ensures within { λ r. ⌜ r ≤ length (now (own .entry)) ⌝ }
     ensures left { λ r. ⌜ drop r (now (own .entry)) ≡ rules.unskipped skips (now (own .entry)) ⌝ }
@@ -223,7 +223,7 @@ impl Work {
         let kept = self.stops_discarding(f.keeps_output);
         let written = kept.writes_output(terminal, f, data);
         let said = written.sends_completion(messages, f.wants_completion, some, before);
-        let locked = said.sets_locked(f.lock == LOCK);
+        let locked = said.sets_locked(f.lock == LEAVES_LOCKED);
         locked.redisplays_if_asked(terminal, f.lock, text, t)
     }
 }

@@ -77,17 +77,18 @@ module _ {C : Type 0} where
   unfoldable pub sendsDiscardState : Rule C
   sendsDiscardState = here (λ s. sends (plain forms.discardState (bit (not (s .terminal .discarding)) ∷ [])))
 
+  -- the lock, which a Write sets (Write.antt)
   abbrev pub setsLocked : Bool → Rule C
   setsLocked locked = changes (λ s. withTerminal (withLocked locked (s .terminal)) s)
 
-  -- a 15 that turns discard on, and immediate clear, lift the lock of a Write (000, 4.12.2)
+  -- a 15 that turns discard on, and immediate clear, lift it (000, 4.12.2)
   unfoldable pub unlocks : Rule C
   unlocks = setsLocked false
 
   unfoldable pub unlocksIfDiscarding : Rule C
   unlocksIfDiscarding = here (λ s. only (s .terminal .discarding) unlocks)
 
-  -- rule 3, code 15; where it turns discard on, it unlocks
+  -- rule 3, code 15
   unfoldable pub flipsDiscard : C → Rule C
   flipsDiscard c =
       tells (control discard c ∷ []) then

@@ -120,6 +120,14 @@ startedA = told startA accepted (0x3F ∷ 0x20 ∷ []) []
 abbrev pub wrote : ℕ → ℕ → ℕ → ℕ → List ℕ → List ℕ → List ℕ → Exchange
 wrote low high before behind text terminal messages = told (0x07 ∷ (0x30 + low) ∷ high ∷ before ∷ behind ∷ text) accepted terminal messages
 
+-- a Write that puts nothing out, by its UU
+abbrev pub wroteNothing : ℕ → Exchange
+wroteNothing lock = wrote lock 0x00 0x00 0x00 [] [] []
+
+-- Write Completion: whether output was lost, and the changes of column and line
+abbrev pub completed : ℕ → ℕ → ℕ → List ℕ
+completed lost horizontal vertical = 0x06 ∷ 0x00 ∷ 0x08 ∷ lost ∷ horizontal ∷ 0x00 ∷ vertical ∷ 0x00 ∷ []
+
 -- 15 is typed; Discard State says 1 where output is not discarded
 abbrev pub flipped : ℕ → Exchange
 flipped kept = says (key discardKey) accepted [] (0x02 ∷ 0x00 ∷ 0x09 ∷ kept ∷ [])

@@ -1,4 +1,4 @@
--- Deleting from a pending read's input, and showing it again. 127, 23 and 21 delete, and so does the clear rule; 18 redisplays.
+-- Deleting from a pending read's input, and showing it again. 127, 23 and 21 delete, and so does the clear rule; 18 redisplays, and so does a Write with UU 3.
 use Prim.Native.Nat.{ℕ, _+_, _-_, min}
 use mathlib.Core.Bool.{Bool, not, _&&_, _||_}
 use mathlib.Core.List.{List, [], _∷_, map, reverse}

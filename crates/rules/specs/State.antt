@@ -63,7 +63,7 @@ pub record Terminal : Type 0 where
   pub quoting : Bool
   -- no step acts
   pub locked : Bool
-  -- the skip-linefeed mark: of the next Write's own bytes a first LF is left out
+  -- the skip-linefeed mark: of the next own bytes of a Write a first LF is left out
   pub skipLinefeed : Bool
   pub dropped : ℕ
 

@@ -100,7 +100,7 @@ unfolding Characteristics.isCarried Characteristics.masked Characteristics.withA
 openCharacteristics = tt
 
 unfoldable pub openWrite : Unit {0}
-unfolding Write.affixBytes Write.ownBytes Write.hasOutput Write.unskipped Write.stopsDiscarding Write.writesOwn Write.endsLine Write.writesOutput Write.completion Write.sendsCompletion Write.setsLock Write.redisplaysWhile Write.redisplaysIfAsked Write.writesOut
+unfolding Write.affixBytes Write.ownBytes Write.hasOutput Write.unskipped Write.stopsDiscarding Write.writesOwn Write.endsLine Write.writesOutput Write.completion Write.sendsCompletion Write.locksBy Write.redisplaysWhile Write.redisplaysIfAsked Write.writesOut
 openWrite = tt
 
 unfoldable pub openHost : Unit {0}

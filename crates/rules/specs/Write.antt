@@ -9,7 +9,7 @@ use Rattle.rules.specs.Choice.{pick, isOn, bit, isEmpty}
 use Rattle.rules.specs.Messages.Forms as forms
 use Rattle.rules.specs.Messages.Forms.{Message, plain}
 use Rattle.rules.specs.Messages.Fields.{lock, newline, keepsOutput, prefix, postfix, prefixValue, postfixValue, wantsCompletion}
-use Rattle.rules.specs.Messages.Fields.{lockValue, redisplayAfter, newLines, character}
+use Rattle.rules.specs.Messages.Fields.{leavesLocked, redisplayAfter, newLines, character}
 use Rattle.rules.specs.Screen.{CR, LF, change}
 use Rattle.rules.specs.State.{Characters, Reading, State, withTerminal, withDiscarding, withSkipLinefeed}
 use Rattle.rules.specs.Turns.{Rule, still, writes, sends, changes, here, _then_, only}
@@ -24,7 +24,7 @@ affixBytes code value = pick (eqb code newLines) (CR ∷ replicate value LF) (pi
 unfoldable pub ownBytes : Message ℕ → List ℕ
 ownBytes m = affixBytes (prefix m) (prefixValue m) ++ m .text ++ affixBytes (postfix m) (postfixValue m)
 
--- with L there is an LF besides
+-- whether there is a byte to put out: an own one, or L's LF
 unfoldable pub hasOutput : Message ℕ → Bool
 hasOutput m = not (isEmpty (ownBytes m)) || isOn (newline m)
 
@@ -69,8 +69,8 @@ module _ {C : Type 0} where
   sendsCompletion wants m before = only (isOn wants) (here (λ s. sends (completion m before s)))
 
   -- the lock, by UU
-  unfoldable pub setsLock : ℕ → Rule C
-  setsLock lock = setsLocked (eqb lock lockValue)
+  unfoldable pub locksBy : ℕ → Rule C
+  locksBy lock = setsLocked (eqb lock leavesLocked)
 
 module _ {C : Type 0} (chars : Characters C) where
   -- a pending read is redisplayed as 18 does, under any DDD
@@ -90,5 +90,5 @@ module _ {C : Type 0} (chars : Characters C) where
       stopsDiscarding (keepsOutput m) then
       writesOutput m then
       sendsCompletion (wantsCompletion m) m before then
-      setsLock (lock m) then
+      locksBy (lock m) then
       redisplaysIfAsked (lock m))

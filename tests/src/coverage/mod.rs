@@ -59,7 +59,7 @@ rules! {
     LfLeftOutBehindCr, MarkSet, MarkSetAgain, MarkFalls, MarkStaysEmpty, MarkStaysDiscarded,
     MarkNotSetDiscarded, WriteRedisplays, WriteRedisplaysPrompt, WriteRedisplaysNoEcho,
     WriteRedisplaysNoEchoPrompt, WriteRedisplaysNothing, WriteRedisplaysDdd1, WriteRedisplaysDdd2,
-    WriteRedisplaysDdd3, WriteRedisplaysHiddenLf, WriteRedisplaysDiscarded, WriteRedisplaysUntold,
+    WriteRedisplaysDdd3, WriteRedisplaysHiddenLf, WriteRedisplaysDiscarded, WriteRedisplaysBehindCompletion,
     WriteRedisplaysIdle, WriteRedisplaysPartial, WriteRedisplaysElsewhere,
     // While the line is locked, and what unlocks it besides a Write.
     LockedStepNoRead, LockedStepHeld, LockedStepKey, LockedStepPartial, LockedStepTimeoutZero,

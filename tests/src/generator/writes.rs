@@ -36,7 +36,7 @@ fn affix(random: &mut Random) -> (u8, u8) {
 }
 
 /// A Write that is carried, of every kind.
-pub fn write(random: &mut Random) -> Write {
+fn write(random: &mut Random) -> Write {
     let length = match random.below(10) {
         0 | 1 => 0,
         2 => random.below(LONGEST_DATA + 1),

@@ -55,7 +55,7 @@ impl Line {
     }
 
     /// A pending read is shown again, whatever its DDD and its echo.
-    fn redisplay_after(&mut self, told: bool, out: &mut Answer) {
+    fn redisplay_after(&mut self, completion: bool, out: &mut Answer) {
         let Some(read) = &self.read else {
             return self.seen.met(Rule::WriteRedisplaysNothing);
         };
@@ -70,7 +70,7 @@ impl Line {
         self.seen.met_if(read.disable == 3, Rule::WriteRedisplaysDdd3);
         self.seen.met_if(read.hidden_lf, Rule::WriteRedisplaysHiddenLf);
         self.seen.met_if(self.discard, Rule::WriteRedisplaysDiscarded);
-        self.seen.met_if(told, Rule::WriteRedisplaysUntold);
+        self.seen.met_if(completion, Rule::WriteRedisplaysBehindCompletion);
         self.seen.met_if(self.idle > 0, Rule::WriteRedisplaysIdle);
         self.seen.met_if(!self.partial.is_empty(), Rule::WriteRedisplaysPartial);
         let column = read.display_column;

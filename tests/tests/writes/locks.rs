@@ -57,10 +57,8 @@ fn point_105_uu_acts_under_discard() {
     let mut bench = half_typed(0);
     bench.key(DISCARD_KEY);
     bench.keys(b"ccc");
-    assert_eq!(write(LOCK, b"A").shown(&mut bench), "");
-    assert!(is_locked(&mut bench));
     for lock in [0, UNLOCK_AFTER, REDISPLAY_AFTER] {
-        write(LOCK, b"A").on(&mut bench);
+        assert_eq!(write(LOCK, b"A").shown(&mut bench), "");
         assert!(is_locked(&mut bench));
         write(lock, b"A").on(&mut bench);
         assert!(!is_locked(&mut bench));

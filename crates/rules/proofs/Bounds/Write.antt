@@ -6,14 +6,14 @@ use mathlib.Core.Bool.{Bool}
 use mathlib.Core.List.{List, [], _∷_, _++_}
 use mathlib.Core.Option.{Option, none, some}
 use lib.ListN.{length, length-append, length-replicate}
-use Rattle.rules.specs.Numbers.{inputSize, messageSize}
+use Rattle.rules.specs.Numbers.{messageSize}
 use Rattle.rules.specs.Messages.Layout.{byteValues}
 use Rattle.rules.specs.Messages.Forms.{Message}
 use Rattle.rules.specs.Messages.Fields.{prefix, postfix, prefixValue, postfixValue}
 use Rattle.rules.specs.Screen.{LF}
 use Rattle.rules.specs.State.{Reading, State, codes}
 use Rattle.rules.specs.Write.{affixBytes, ownBytes, unskipped, stopsDiscarding, writesOwn, endsLine, writesOutput}
-use Rattle.rules.specs.Write.{completion, sendsCompletion, setsLock, redisplaysWhile, redisplaysIfAsked, writesOut}
+use Rattle.rules.specs.Write.{completion, sendsCompletion, locksBy, redisplaysWhile, redisplaysIfAsked, writesOut}
 use Rattle.rules.specs.Bounds.{BoundedRead}
 use Rattle.rules.proofs.Choice.{pick-case}
 use Rattle.rules.proofs.Numbers.{writing-room, answer-room}
@@ -33,10 +33,10 @@ affixBytes-length code value byte =
     Short : List ℕ → Type 0
     Short bs = length bs ≤ byteValues
 
-unskipped-length : (mark : Bool) (bs : List ℕ) → length (unskipped mark bs) ≤ length bs
+unskipped-length : (skips : Bool) (bs : List ℕ) → length (unskipped skips bs) ≤ length bs
 unfolding unskipped
-unskipped-length mark [] = omega arith
-unskipped-length mark (b ∷ bs) = pick-case (λ (left : List ℕ). length left ≤ length (b ∷ bs)) _ (λ y. omega arith) (λ n. omega arith)
+unskipped-length skips [] = omega arith
+unskipped-length skips (b ∷ bs) = pick-case (λ (left : List ℕ). length left ≤ length (b ∷ bs)) _ (λ y. omega arith) (λ n. omega arith)
 
 -- what a Write writes itself, L's LF with it
 abbrev outputBytes : ℕ
@@ -81,7 +81,7 @@ module _ {s : State ℕ} (h : Steady BoundedRead s) (m : Message ℕ) (text : le
       (λ n. k)
 
   pub writesOut-fine : Fine (writesOut codes m s)
-  unfolding writesOut stopsDiscarding sendsCompletion completion setsLock redisplaysIfAsked
+  unfolding writesOut stopsDiscarding sendsCompletion completion locksBy redisplaysIfAsked
   writesOut-fine =
       let answers = answer-room in
       let room = writing-room in

@@ -5,7 +5,7 @@ use mathlib.Core.List.{List}
 use mathlib.Core.Option.{Option, none, some, Option·map}
 use Rattle.rules.specs.Messages.Forms.{Message}
 use Rattle.rules.specs.State.{Characters, Reading}
-use Rattle.rules.specs.Write.{stopsDiscarding, writesOwn, endsLine, writesOutput, completion, sendsCompletion, setsLock, redisplaysWhile, redisplaysIfAsked, writesOut}
+use Rattle.rules.specs.Write.{stopsDiscarding, writesOwn, endsLine, writesOutput, completion, sendsCompletion, locksBy, redisplaysWhile, redisplaysIfAsked, writesOut}
 use Rattle.rules.proofs.Erasure.Maps.{Maps, mapReading}
 use Rattle.rules.proofs.Erasure.Turns.{Erases, erases-here, erases-still, erases-writes, erases-plain, erases-changes, erases-then, erases-only}
 use Rattle.rules.proofs.Erasure.Editing.{erase-redisplays}
@@ -33,7 +33,7 @@ module _ {C D : Type 0} {f : C → D} {cs : Characters C} {ds : Characters D} (m
   erase-redisplaysIfAsked lock = erases-only refl (record { at = λ s. erases-here s (erase-redisplaysWhile (s .pendingRead)) })
 
   pub erase-writesOut : (n : Message ℕ) → Erases f (writesOut cs n) (writesOut ds n)
-  unfolding writesOut stopsDiscarding sendsCompletion completion setsLock
+  unfolding writesOut stopsDiscarding sendsCompletion completion locksBy
   erase-writesOut n =
       record {
         at = λ s.

@@ -6,7 +6,7 @@ use mathlib.Core.List.{List}
 use mathlib.Core.Option.{Option, none, some}
 use Rattle.rules.specs.Messages.Forms.{Message}
 use Rattle.rules.specs.State.{Reading}
-use Rattle.rules.specs.Write.{stopsDiscarding, writesOwn, endsLine, writesOutput, completion, sendsCompletion, setsLock, redisplaysWhile, redisplaysIfAsked, writesOut}
+use Rattle.rules.specs.Write.{stopsDiscarding, writesOwn, endsLine, writesOutput, completion, sendsCompletion, locksBy, redisplaysWhile, redisplaysIfAsked, writesOut}
 use Rattle.rules.proofs.TwoRuns.Twins.{Twin, LevelRead, isGuarded, Agreeing}
 use Rattle.rules.proofs.TwoRuns.Turns.{agrees-still, agrees-terminal, agrees-then, agrees-writes, agrees-sends, agrees-only}
 use Rattle.rules.proofs.TwoRuns.Editing.{redisplays-agrees}
@@ -34,7 +34,7 @@ module _ {changed : ℕ → Bool} where
   redisplaysIfAsked-agrees lock = agrees-only refl (λ s l. redisplaysWhile-agrees (s .pendingRead) (l .pendingRead) s l)
 
   pub writesOut-agrees : (m : Message ℕ) → Agreeing {changed = changed} (λ chars. writesOut chars m)
-  unfolding writesOut stopsDiscarding sendsCompletion completion setsLock isGuarded
+  unfolding writesOut stopsDiscarding sendsCompletion completion locksBy isGuarded
   writesOut-agrees m before =
       agrees-then (agrees-only refl (agrees-terminal _))
       (agrees-then (writesOutput-agrees m)

@@ -49,8 +49,8 @@ abbrev pub unreadAlways : ℕ
 unreadAlways = 0
 
 -- UU: 1 locks; any other leaves the line unlocked, and 3 redisplays
-abbrev pub lockValue : ℕ
-lockValue = 1
+abbrev pub leavesLocked : ℕ
+leavesLocked = 1
 
 abbrev pub redisplayAfter : ℕ
 redisplayAfter = 3

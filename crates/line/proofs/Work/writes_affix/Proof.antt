@@ -36,7 +36,8 @@ returns : tie.Need-returns
 returns c =
     let a = c .before .before .before .before .before .before .before .args in
     let written = c .before .before .writes-own .ensures in
-    (written .0, λ l m. for-equal writesOwn (affix-lines (a .code) (a .value) (omega arith) (c .before .before .before .before .before .if1 .taken)) (written .1 l m))
+    let same = affix-lines (a .code) (a .value) (omega arith) (c .before .before .before .before .before .if1 .taken) in
+    (written .0, λ l m. for-equal writesOwn same (written .1 l m))
 
 slice-aggregate-writes-own-2 : tie.Need-slice-aggregate-writes-own-2
 slice-aggregate-writes-own-2 c = search needs
@@ -51,7 +52,8 @@ returns-2 : tie.Need-returns-2
 returns-2 c =
     let a = c .before .before .before .before .before .before .before .before .args in
     let written = c .before .before .writes-own2 .ensures in
-    (written .0, λ l m. for-equal writesOwn (affix-character (a .code) (a .value) (c .before .before .before .before .before .before .if1 .left) (c .before .before .before .before .before .if2 .taken)) (written .1 l m))
+    let same = affix-character (a .code) (a .value) (c .before .before .before .before .before .before .if1 .left) (c .before .before .before .before .before .if2 .taken) in
+    (written .0, λ l m. for-equal writesOwn same (written .1 l m))
 
 returns-3 : tie.Need-returns-3
 returns-3 c =

@@ -1,6 +1,6 @@
 use mathlib.Core.Path.{refl}
 use borrow.Author.Needs.{needs}
-use Rattle.rules.specs.Write.{setsLock, writesOut}
+use Rattle.rules.specs.Write.{locksBy, writesOut}
 use Rattle.message.specs.Found.{writeIn}
 use Rattle.line.specs.With.{lent}
 use Rattle.line.proofs.Turns.{then-does}
@@ -27,7 +27,9 @@ sets-locked-requires : tie.Need-sets-locked-requires
 sets-locked-requires c κs = c .before .before .before .sends-completion .ensures .0
 
 redisplays-if-asked-requires : tie.Need-redisplays-if-asked-requires
-redisplays-if-asked-requires c κs = (c .before .sets-locked .ensures .0, c .before .before .before .before .before .before .before .before .before .before .before .before .before .before .before .before .before .before .before .before .before .pre .1)
+redisplays-if-asked-requires c κs =
+    let start = c .before .before .before .before .before .before .before .before .before .before .before .before .before .before .before .before .before .before .before .before .before in
+    (c .before .sets-locked .ensures .0, start .pre .1)
 
 same-length : tie.Need-same-length
 same-length c = search needs
@@ -36,7 +38,7 @@ same-length-2 : tie.Need-same-length-2
 same-length-2 c = search needs
 
 returns : tie.Need-returns
-unfolding writesOut setsLock
+unfolding writesOut locksBy
 returns c =
     let a = c .before .before .before .before .before .before .before .before .before .before .before .before .before .before .before .before .before .before .before .before .before .before .before .before .args in
     let text = c .before .before .before .before .before .before .before .before .before .before .before .before .before .before .before .before .span-of .ensures in
