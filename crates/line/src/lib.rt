@@ -32,7 +32,7 @@ pub struct Terminal {
     pub dropped: u16,
     pub discarding: bool,
     pub quoting: bool,
-    // no step acts
+    // a Write locked the line: a step does nothing
     pub locked: bool,
     // the skip-linefeed mark: of the next own bytes of a Write a first LF is left out
     pub skip_linefeed: bool,

@@ -1,4 +1,4 @@
-// Write.
+// Write: its output, what it tells of it, the lock and the redisplay.
 ghost use Prim.Native.Nat.{ℕ, _≤_};
 ghost use mathlib.Core.Path.{_≡_};
 ghost use mathlib.Core.Bool.{not};

@@ -61,7 +61,7 @@ pub record Terminal : Type 0 where
   pub screen : Screen
   pub discarding : Bool
   pub quoting : Bool
-  -- no step acts
+  -- a Write locked the line: a step does nothing
   pub locked : Bool
   -- the skip-linefeed mark: of the next own bytes of a Write a first LF is left out
   pub skipLinefeed : Bool
