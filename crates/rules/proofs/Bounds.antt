@@ -16,4 +16,5 @@ pub mod Reports
 pub mod Write
 pub mod Host
 pub mod Settings
+mod Keystroke
 pub mod Calls

@@ -6,8 +6,8 @@ use Rattle.rules.specs.Numbers.{inputSize, typeAheadSize, tokenSize, mes
 use Rattle.rules.specs.Messages.Layout.{byteValues}
 use Rattle.rules.specs.Settings.{topLargestRead}
 
--- rubbing out a whole buffer, three bytes for each of a character's eight marks; or one echo and a byte or two
-pub rubbing-room : 24 * inputSize + 8 ≤ terminalArea
+-- behind a BEL: rubbing out a whole buffer, three bytes for each of a character's eight marks, or one echo
+pub rubbing-room : 24 * inputSize + 9 ≤ terminalArea
 unfolding inputSize terminalArea
 rubbing-room = omega arith
 

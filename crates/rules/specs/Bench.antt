@@ -87,16 +87,17 @@ asked terminalLength messageLength e number terminal messages dropped =
 abbrev pub says : Event ℕ → ℕ → List ℕ → List ℕ → Exchange
 says e number terminal messages = asked terminalArea messageArea e number terminal messages 0
 
--- a key is stored, and a step takes one
-abbrev pub stored : ℕ → Exchange
-stored code = says (key code) accepted [] []
+-- a key with its step
+abbrev pub typed : ℕ → List ℕ → List ℕ → Exchange
+typed code terminal messages = says (key code) accepted terminal messages
 
+-- a key that waits: no read is pending, or the line is locked
+abbrev pub stored : ℕ → Exchange
+stored code = typed code [] []
+
+-- a bare step
 abbrev pub stepped : List ℕ → List ℕ → Exchange
 stepped terminal messages = says step accepted terminal messages
-
--- a key, and the step that takes it
-abbrev pub typed : ℕ → List ℕ → List ℕ → List Exchange
-typed code terminal messages = stored code ∷ stepped terminal messages ∷ []
 
 abbrev pub told : List ℕ → ℕ → List ℕ → List ℕ → Exchange
 told bytes number terminal messages = says (message bytes) number terminal messages
@@ -116,6 +117,14 @@ startA = 0x02 ∷ 0x01 ∷ 0x90 ∷ 0x00 ∷ 0x50 ∷ 0x00 ∷ 0x02 ∷ 0x00 ∷
 abbrev pub startedA : Exchange
 startedA = told startA accepted (0x3F ∷ 0x20 ∷ []) []
 
+-- a Start Read with Q and this TIMEOUT, and the Read Data of one that is timed out with nothing typed
+abbrev pub timedRead : ℕ → Exchange
+timedRead timeout =
+    told (0x02 ∷ 0x00 ∷ 0xB0 ∷ 0x00 ∷ 0x50 ∷ 0x00 ∷ 0x00 ∷ 0x00 ∷ timeout ∷ 0x00 ∷ 0x00 ∷ 0x00 ∷ 0x00 ∷ 0x00 ∷ 0x00 ∷ 0x00 ∷ 0x00 ∷ []) accepted [] []
+
+abbrev pub timedOut : List ℕ
+timedOut = 0x08 ∷ 0x00 ∷ 0x03 ∷ 0x05 ∷ 0x00 ∷ 0x00 ∷ 0x00 ∷ 0x00 ∷ 0x00 ∷ 0x00 ∷ []
+
 -- a Write of one part, its flags without B and E, its prefix value and postfix value, and its data
 abbrev pub wrote : ℕ → ℕ → ℕ → ℕ → List ℕ → List ℕ → List ℕ → Exchange
 wrote low high before behind text terminal messages = told (0x07 ∷ (0x30 + low) ∷ high ∷ before ∷ behind ∷ text) accepted terminal messages
@@ -128,9 +137,20 @@ wroteNothing lock = wrote lock 0x00 0x00 0x00 [] [] []
 abbrev pub completed : ℕ → ℕ → ℕ → List ℕ
 completed lost horizontal vertical = 0x06 ∷ 0x00 ∷ 0x08 ∷ lost ∷ horizontal ∷ 0x00 ∷ vertical ∷ 0x00 ∷ []
 
--- 15 is typed; Discard State says 1 where output is not discarded
+-- Discard State says 1 where output is not discarded
+abbrev pub discardState : ℕ → List ℕ
+discardState kept = 0x02 ∷ 0x00 ∷ 0x09 ∷ kept ∷ []
+
+-- 15 is typed, and its step does nothing
 abbrev pub flipped : ℕ → Exchange
-flipped kept = says (key discardKey) accepted [] (0x02 ∷ 0x00 ∷ 0x09 ∷ kept ∷ [])
+flipped kept = typed discardKey [] (discardState kept)
+
+-- Characteristics that set a character's attribute: 1 is immediate clear, 3 hello; and the Out-of-Band that such a character sends
+abbrev pub attribute : ℕ → ℕ → Exchange
+attribute code value = told (0x0B ∷ 0x00 ∷ 0x02 ∷ 0x02 ∷ code ∷ 0xFF ∷ value ∷ []) accepted [] []
+
+abbrev pub outOfBand : ℕ → List ℕ
+outOfBand code = 0x03 ∷ 0x00 ∷ 0x04 ∷ 0x00 ∷ code ∷ []
 
 -- Characteristics that turn escape recognition on
 abbrev pub recognising : Exchange
@@ -140,11 +160,11 @@ recognising = told (0x0B ∷ 0x00 ∷ 0x06 ∷ 0x02 ∷ 0x01 ∷ []) accepted []
 abbrev pub waiting : ℕ → Exchange
 waiting n = told (0x0C ∷ 0x00 ∷ []) accepted [] (0x04 ∷ 0x00 ∷ 0x0D ∷ 0x00 ∷ n ∷ 0x00 ∷ [])
 
--- keys, each with its step, that show nothing; the last step, which is a bare one if there is no key, sends these messages
+-- keys that show nothing; the last one sends these messages
 unfoldable pub typedUnseen : List ℕ → List ℕ → List Exchange
-typedUnseen [] messages = stepped [] messages ∷ []
-typedUnseen (code ∷ []) messages = typed code [] messages
-typedUnseen (code ∷ second ∷ others) messages = typed code [] [] ++ typedUnseen (second ∷ others) messages
+typedUnseen [] messages = []
+typedUnseen (code ∷ []) messages = typed code [] messages ∷ []
+typedUnseen (code ∷ second ∷ others) messages = typed code [] [] ∷ typedUnseen (second ∷ others) messages
 
 -- a token typed into case A's read: Read Data has this completion code, 1 for valid and 2 for invalid, and the whole token, and then nothing waits.
 -- Tokens are written as the papers write them, so that a row holds the names of the grammar to their codes.

@@ -15,14 +15,14 @@ use Rattle.rules.specs.Messages.Codec.{Outcome, refused, sound, soundLen
 use Rattle.rules.specs.Messages.Fields.{transparent}
 use Rattle.rules.specs.StartRead.{startOfDisplay, continues, vertical, soundStartRead}
 use Rattle.rules.specs.State.{Characters, Reading, State, fresh}
-use Rattle.rules.specs.Turns.{Turn, Rule, still}
+use Rattle.rules.specs.Turns.{Turn, Rule, still, _then_}
 use Rattle.rules.specs.Arrival.{arrives}
 use Rattle.rules.specs.Steps.{steps, ticks}
 use Rattle.rules.specs.Characteristics.{isCarried, carriesSettings, report}
 use Rattle.rules.specs.Host.{obeys}
 use Rattle.rules.specs.Settings.{areSound, loads}
 
--- an incoming event: a key, a step, a tick, a host message's bytes, or the line's own settings record and the site's
+-- an incoming event: a keystroke, a bare step, a tick, a host message's bytes, or the line's own settings record and the site's
 pub data Event (C : Type 0) : Type 0 where
   key : C → Event C
   step tick : Event C
@@ -155,8 +155,13 @@ module _ {C : Type 0} (chars : Characters C) where
   answersMessage (refused n) = refuses n
   answersMessage (sound m) = does (obeys chars m)
 
+  -- M-104: a keystroke arrives, and one step follows. Whether the line is locked and whether a read is pending, the step asks of the
+  -- line as arrival left it.
+  unfoldable pub keystroke : C → Rule C
+  keystroke c = arrives chars c then steps chars
+
   unfoldable pub answers : Event C → State C → Answer C
-  answers (key c) s = does (arrives chars c) s
+  answers (key c) s = does (keystroke c) s
   answers step s = does (steps chars) s
   answers tick s = does (ticks chars) s
   answers (message bytes) s = answersMessage (received s bytes) s

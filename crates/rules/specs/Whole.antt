@@ -112,7 +112,7 @@ unfolding Settings.frontSection Settings.behindSection Settings.areWhole Setting
 openSettings = tt
 
 unfoldable pub openCalls : Unit {0}
-unfolding Calls.areaAfter Calls.mapText Calls.sentBytes Calls.isServers Calls.isHosts Calls.carriesStartRead Calls.carriesWrite Calls.isPending Calls.isTimely Calls.carriesQuestions Calls.passesTest Calls.isUnsound Calls.isCarriedBy Calls.carries Calls.refusals Calls.received Calls.refuses Calls.does Calls.answersLoad Calls.answersMessage Calls.answers Calls.answer Calls.messageBytes Calls.runFrom Calls.run
+unfolding Calls.areaAfter Calls.mapText Calls.sentBytes Calls.isServers Calls.isHosts Calls.carriesStartRead Calls.carriesWrite Calls.isPending Calls.isTimely Calls.carriesQuestions Calls.passesTest Calls.isUnsound Calls.isCarriedBy Calls.carries Calls.refusals Calls.received Calls.refuses Calls.does Calls.answersLoad Calls.answersMessage Calls.keystroke Calls.answers Calls.answer Calls.messageBytes Calls.runFrom Calls.run
 openCalls = tt
 
 unfoldable pub openBench : Unit {0}
@@ -124,7 +124,7 @@ unfolding TwoRuns.eventKind TwoRuns.eventBytes TwoRuns.codeOf TwoRuns.agree TwoR
 openTwoRuns = tt
 
 unfoldable pub openExamples : Unit {0}
-unfolding Examples.sameSeen Examples.looksSame Examples.hostReads Examples.conversation Examples.typing Examples.reading Examples.meets Examples.passcode Examples.isHidden Examples.broken Examples.shows
+unfolding Examples.sameSeen Examples.looksSame Examples.hostReads Examples.conversation Examples.reading Examples.meets Examples.passcode Examples.isHidden Examples.broken Examples.shows
 openExamples = tt
 
 unfoldable pub whole : Unit {0}

@@ -1,5 +1,5 @@
 -- A key that arrives, and the clear rule, within bounds.
-use mathlib.Core.Path.{_≡_}
+use mathlib.Core.Path.{_≡_, refl}
 use Prim.Native.Nat.{ℕ, _+_, _*_, _<_}
 use native.Mathlib.Omega.{arith}
 use mathlib.Core.Bool.{Bool, true, false}
@@ -8,12 +8,12 @@ use mathlib.Core.Option.{Option, none, some}
 use lib.ListN.{length, length-append}
 use borrow.Author.Tests.{ltb-true}
 use Rattle.rules.specs.Numbers.{inputSize, typeAheadSize}
-use Rattle.rules.specs.State.{Reading, State, codes, withIdle}
-use Rattle.rules.specs.Turns.{cleared}
-use Rattle.rules.specs.Editing.{endOf}
-use Rattle.rules.specs.ReadData.{byOutOfBand}
+use Rattle.rules.specs.State.{Reading, State, codes, withTyped, withIdle}
+use Rattle.rules.specs.Turns.{cleared, still, writes, tells, changes, behind, _then_}
+use Rattle.rules.specs.Editing.{endOf, deletes, deletesWithoutRubbing}
+use Rattle.rules.specs.ReadData.{byOutOfBand, endsRead, completes}
 use Rattle.rules.specs.Arrival.{idleAgain, keeps, countsDropped, drops, stores, storesQuoted, quotes, sendsDiscardState, unlocks, unlocksIfDiscarding, flipsDiscard, emptiesTyped, clearsInput}
-use Rattle.rules.specs.Arrival.{Rubbing, rubbingOut, withoutRubbing, clearRule, clearsBy, sendsOutOfBand, endsOutOfBand, clearsAtOnce, controlled, byFirstRule, arrives}
+use Rattle.rules.specs.Arrival.{Rubbing, rubbingOut, withoutRubbing, clearRule, sendsOutOfBand, endsOutOfBand, clearsAtOnce}
 use Rattle.rules.specs.Bounds.{BoundedReading, BoundedRead}
 use Rattle.rules.proofs.Bounds.Bytes.{no-bytes, one-byte, bytes-append}
 use Rattle.rules.proofs.Bounds.Turns.{OfRead, Steady, Good, Fine, fine, reset, reflagged, retyped, reread}
@@ -55,17 +55,17 @@ module _ {area : ℕ} {s : State ℕ} (c : ℕ) (byte : c < 256) (h : Steady Bou
       (then-good _ _ 1 0 0 area (omega arith) (omega arith) (writes-good _ (omega arith) h) λ s₁ h₁.
       changes-good _ (reset h₁ (record { column = h₁ .terminal .column; line = h₁ .terminal .line; dropped = omega arith })))
 
-  stores-good : (quoted : Bool) → Good BoundedRead 1 area (stores typeAheadSize quoted c s)
+  pub stores-good : (quoted : Bool) → Good BoundedRead 1 area (stores typeAheadSize quoted c s)
   unfolding stores
   stores-good quoted =
       pick-good _ _ _ (λ y. keeps-good quoted (ltb-true (length (s .typed .typeAhead)) typeAheadSize y)) (λ n. drops-good)
 
 module _ {s : State ℕ} (c : ℕ) (h : Steady BoundedRead s) where
-  quotes-good : {bytes area : ℕ} → Good BoundedRead bytes area (quotes c s)
+  pub quotes-good : {bytes area : ℕ} → Good BoundedRead bytes area (quotes c s)
   unfolding quotes
   quotes-good = tells-then _ _ (changes-good _ (reflagged h))
 
-  flipsDiscard-good : {bytes : ℕ} → Good BoundedRead bytes 4 (flipsDiscard c s)
+  pub flipsDiscard-good : {bytes : ℕ} → Good BoundedRead bytes 4 (flipsDiscard c s)
   unfolding flipsDiscard sendsDiscardState unlocks unlocksIfDiscarding
   flipsDiscard-good =
       tells-then _ _ (changes-then _ _
@@ -96,7 +96,7 @@ module _ {s : State ℕ} (h : Steady BoundedRead s) where
   endsOutOfBand-good (some r) b = completes-good byOutOfBand 0 r (omega arith) (bounded-answerable r b) h
 
 module _ {s : State ℕ} (h : Steady BoundedRead s) where
-  clearRule-good : {area : ℕ} (rubbing : Rubbing) → Good BoundedRead (rubbed rubbing) area (clearRule codes rubbing s)
+  pub clearRule-good : {area : ℕ} (rubbing : Rubbing) → Good BoundedRead (rubbed rubbing) area (clearRule codes rubbing s)
   unfolding clearRule
   clearRule-good rubbing = quiet-then _ _ (emptiesTyped-good h) λ s₁ h₁. clearsInput-good h₁ rubbing (s₁ .pendingRead) (h₁ .pendingRead)
 
@@ -105,40 +105,38 @@ module _ {s : State ℕ} (h : Steady BoundedRead s) where
   clearRule-fine = fine (24 * inputSize) 0 (omega arith) (omega arith) (clearRule-good h rubbingOut)
 
   module _ (c : ℕ) (byte : c < 256) where
-    sendsOutOfBand-good : {bytes : ℕ} → Good BoundedRead bytes 5 (sendsOutOfBand codes c s)
+    pub storesQuoted-good : {area : ℕ} → Good BoundedRead 1 area (storesQuoted c s)
+    unfolding storesQuoted
+    storesQuoted-good = changes-then _ _ (stores-good c byte (reflagged h) true)
+
+    pub sendsOutOfBand-good : {bytes : ℕ} → Good BoundedRead bytes 5 (sendsOutOfBand codes c s)
     unfolding sendsOutOfBand
     sendsOutOfBand-good = tells-then _ _ (sends-good _ (outOfBand-sent c byte) (omega arith) h)
 
-    clearsAtOnce-fine : Fine (clearsAtOnce codes c s)
+    pub clearsAtOnce-good : Good BoundedRead 0 (inputSize + 15) (clearsAtOnce codes c s)
     unfolding clearsAtOnce unlocks
-    clearsAtOnce-fine =
-        fine 0 (inputSize + 15) (omega arith) (omega arith)
-        (then-good _ _ 0 0 5 (10 + inputSize) (omega arith) (omega arith) sendsOutOfBand-good λ s₁ h₁.
+    clearsAtOnce-good =
+        then-good _ _ 0 0 5 (10 + inputSize) (omega arith) (omega arith) sendsOutOfBand-good λ s₁ h₁.
         changes-then _ _
         (quiet-then _ _ (clearRule-good (reflagged h₁) withoutRubbing) λ s₂ h₂.
-        endsOutOfBand-good h₂ (s₂ .pendingRead) (h₂ .pendingRead)))
+        endsOutOfBand-good h₂ (s₂ .pendingRead) (h₂ .pendingRead))
 
-    stores-fine : (quoted : Bool) → Fine (stores typeAheadSize quoted c s)
-    stores-fine quoted = fine 1 0 (omega arith) (omega arith) (stores-good c byte h quoted)
+-- What these two leave for a step: no key, and no read.
 
-    controlled-fine : Fine (controlled codes c s)
-    unfolding controlled clearsBy
-    controlled-fine =
-        pick-good _ _ _ (λ y. quotes-good c h) λ n.
-        pick-good _ _ _ (λ y. tells-then _ _ clearRule-fine) λ n.
-        pick-good _ _ _ (λ y. fine 0 4 (omega arith) (omega arith) (flipsDiscard-good c h)) λ n.
-        stores-fine false
+clearsInput-keeps : (o : Option (Reading ℕ)) (s : State ℕ) → clearsInput codes rubbingOut o s .state .typed .typeAhead ≡ s .typed .typeAhead
+unfolding clearsInput deletes deletesWithoutRubbing still writes tells changes _then_ behind
+clearsInput-keeps none s = refl
+clearsInput-keeps (some r) s = refl
 
-    byFirstRule-fine : Fine (byFirstRule codes c s)
-    unfolding byFirstRule storesQuoted
-    byFirstRule-fine =
-        pick-good _ _ _
-        (λ y. changes-then _ _ (fine 1 0 (omega arith) (omega arith) (stores-good c byte (reflagged h) true))) λ n.
-        pick-good _ _ _ (λ y. fine 0 5 (omega arith) (omega arith) sendsOutOfBand-good) λ n.
-        pick-good _ _ _ (λ y. clearsAtOnce-fine) λ n.
-        pick-good _ _ _ (λ y. stores-fine false) λ n.
-        controlled-fine
+pub clearRule-empties : (s : State ℕ) → clearRule codes rubbingOut s .state .typed .typeAhead ≡ []
+unfolding clearRule emptiesTyped tells changes _then_ behind
+clearRule-empties s = clearsInput-keeps (s .pendingRead) (withTyped [] [] s)
 
-    pub arrives-fine : Fine (arrives codes c s)
-    unfolding arrives
-    arrives-fine = tells-then _ _ (pick-good _ _ _ (λ y. byFirstRule-fine) (λ n. stores-fine false))
+endsOutOfBand-ends : (o : Option (Reading ℕ)) (s : State ℕ) → s .pendingRead ≡ o → endsOutOfBand codes o s .state .pendingRead ≡ none
+unfolding endsOutOfBand completes endsRead still changes _then_ behind
+endsOutOfBand-ends none s e = e
+endsOutOfBand-ends (some r) s e = refl
+
+pub clearsAtOnce-ends : (c : ℕ) (s : State ℕ) → clearsAtOnce codes c s .state .pendingRead ≡ none
+unfolding clearsAtOnce _then_ behind
+clearsAtOnce-ends c s = endsOutOfBand-ends _ _ refl

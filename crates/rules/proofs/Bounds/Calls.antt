@@ -1,6 +1,6 @@
 -- Every call from a bounded line, and every list of calls from a fresh one.
 use mathlib.Core.Path.{_≡_, refl, subst}
-use Prim.Native.Nat.{ℕ}
+use Prim.Native.Nat.{ℕ, _<_}
 use native.Mathlib.Omega.{arith}
 use mathlib.Core.Bool.{true}
 use mathlib.Core.List.{List, [], _∷_}
@@ -11,15 +11,16 @@ use Rattle.rules.specs.Messages.Codec.{Outcome, refused, sound, read, al
 use Rattle.rules.specs.State.{State, codes, freshHost, freshTerminal, fresh}
 use Rattle.rules.specs.StartRead.{universal}
 use Rattle.rules.specs.Characteristics.{isDeferredClear}
+use Rattle.rules.specs.Arrival.{arrives}
 use Rattle.rules.specs.Calls.{Event, key, step, tick, message, load, Call, Answer, isCarriedBy, carries, refusals, received}
 use Rattle.rules.specs.Calls.{refuses, does, answersMessage, answersLoad, answers, answer, messageBytes, runFrom, run}
 use Rattle.rules.specs.Bounds.{isAttribute, BoundedRead, Bounded, isByteEvent, Within, AllWithin}
 use Rattle.rules.proofs.Choice.{pick-case, pick-second, halves, all-cons}
 use Rattle.rules.proofs.Outcomes.{refused-sound}
 use Rattle.rules.proofs.Bounds.Sent.{area-meant, read-sent}
-use Rattle.rules.proofs.Bounds.Turns.{Steady, Fine, still-good}
-use Rattle.rules.proofs.Bounds.Arrival.{arrives-fine}
+use Rattle.rules.proofs.Bounds.Turns.{Steady, Fine, fine, stepBytes, stepArea, still-good}
 use Rattle.rules.proofs.Bounds.Steps.{steps-fine, ticks-fine}
+use Rattle.rules.proofs.Bounds.Keystroke.{arrives-leaves, keystroke-fine}
 use Rattle.rules.proofs.Bounds.Host.{obeys-fine}
 use Rattle.rules.proofs.Bounds.Settings.{loads-fine}
 
@@ -36,13 +37,19 @@ fresh-bounded =
 steady : {s : State ℕ} → Bounded s → Steady BoundedRead s
 steady b = record { host = b .host; terminal = b .terminal; typed = b .typed; pendingRead = b .pendingRead }
 
+bounded : {s : State ℕ} → Steady BoundedRead s → Bounded s
+bounded h = record { host = h .host; terminal = h .terminal; typed = h .typed; pendingRead = h .pendingRead }
+
+-- between a key's arrival and its step
+pub arrives-bounded : (c : ℕ) (s : State ℕ) → c < 256 → Bounded s → Bounded (arrives codes c s .state)
+arrives-bounded c s byte b = bounded (arrives-leaves (steady b) c byte .arrival .state)
+
 -- a fine turn is what a call may leave and write
 fine-within : (a : Answer ℕ) → Fine (a .turn) → Within a
 unfolding messageBytes
 fine-within a g =
-    let h = g .state in
     record {
-      state = record { host = h .host; terminal = h .terminal; typed = h .typed; pendingRead = h .pendingRead };
+      state = bounded (g .state);
       terminal = g .terminal;
       messages = g .messages;
       meant = area-meant (a .turn .messages) (g .fit) (g .messages);
@@ -79,8 +86,8 @@ module _ {s : State ℕ} (h : Steady BoundedRead s) where
 
   answers-within : (e : Event ℕ) → isByteEvent e ≡ true → Within (answers codes e s)
   unfolding answers does isByteEvent
-  answers-within (key c) byte = fine-within _ (arrives-fine h c (ltb-true c 256 byte))
-  answers-within step byte = fine-within _ (steps-fine h)
+  answers-within (key c) byte = fine-within _ (keystroke-fine h c (ltb-true c 256 byte))
+  answers-within step byte = fine-within _ (fine stepBytes stepArea (omega arith) (omega arith) (steps-fine h))
   answers-within tick byte = fine-within _ (ticks-fine h)
   answers-within (message bytes) small = answersMessage-within bytes small (received s bytes) refl
   answers-within (load own site) small = let h = halves (allBytes own) (allBytes site) small in answersLoad-within own site (h .0) (h .1)

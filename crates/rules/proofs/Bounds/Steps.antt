@@ -1,5 +1,5 @@
 -- A step and a tick within bounds.
-use mathlib.Core.Path.{_≡_, refl, sym, _∙_}
+use mathlib.Core.Path.{_≡_, refl, sym, _∙_, subst}
 use Prim.Native.Nat.{ℕ, _+_, _*_, _≤_, _<_}
 use native.Mathlib.Omega.{arith}
 use mathlib.Core.Bool.{Bool, true, false, not, _&&_, true≢false}
@@ -22,8 +22,8 @@ use Rattle.rules.specs.Bounds.{BoundedTyped, BoundedReading, BoundedRead
 use Rattle.rules.proofs.Choice.{pick-case, all-cons}
 use Rattle.rules.proofs.Bounds.Bytes.{one-byte, bytes-append}
 use Rattle.rules.proofs.Bounds.Screen.{echo-length, echoTerminator-length}
-use Rattle.rules.proofs.Bounds.Turns.{Steady, Fine, fine, retyped, reread}
-use Rattle.rules.proofs.Bounds.Turns.{still-good, changes-good, writes-good, tells-then, changes-then, writes-sends, pick-good, only-good}
+use Rattle.rules.proofs.Bounds.Turns.{Steady, Good, Fine, stepArea, FineStep, retyped, reread}
+use Rattle.rules.proofs.Bounds.Turns.{still-good, changes-good, writes-good, tells-then, changes-then, writes-sends, roomier, pick-good, only-good}
 use Rattle.rules.proofs.Bounds.ReadData.{Answerable, bounded-answerable, emptied, completes-good, completes-fine, completes-full}
 use Rattle.rules.proofs.Bounds.Editing.{deletes-good, redisplays-good}
 use Rattle.rules.proofs.Bounds.Arrival.{idle-bounded}
@@ -90,18 +90,19 @@ raisedBy-byte r c h =
     pick-case (λ (n : ℕ). n < 256) _ (λ y. pick-case (λ (n : ℕ). n < 256) _ (λ y. omega arith) (λ n. h)) (λ n. h)
 
 module _ (r : Reading ℕ) (b : BoundedReading r) where
-  takesToken-fine : {s : State ℕ} → Steady BoundedRead s → Fine (takesToken codes r s)
+  -- tokens never echo
+  takesToken-good : {bytes : ℕ} {s : State ℕ} → Steady BoundedRead s → Good BoundedRead bytes stepArea (takesToken codes r s)
   unfolding takesToken endsByToken
-  takesToken-fine {s = s} h =
+  takesToken-good {s = s} h =
       pick-good _ _ _
       (λ y. changes-then _ _
-      (completes-fine (tokenCode codes (s .typed .token)) _ _ (tokenCode-most (s .typed .token))
+      (completes-good (tokenCode codes (s .typed .token)) _ _ (tokenCode-most (s .typed .token))
       (appended-answerable (s .typed .token) r b (h .typed .tokenBytes) (leb-true (endOf r + length (s .typed .token)) (r .terms .maxLength) y))
       (retyped h (emptied (h .typed))))) λ n.
-      completes-fine byAbsentee 0 r (omega arith) (bounded-answerable r b) h
+      completes-good byAbsentee 0 r (omega arith) (bounded-answerable r b) h
 
   -- into a token that is not whole
-  addsToToken-fine : {s : State ℕ} (c : ℕ) → c < 256 → isWhole (tokenCodes codes s) ≡ false → Steady BoundedRead s → Fine (addsToToken codes c r s)
+  addsToToken-fine : {s : State ℕ} (c : ℕ) → c < 256 → isWhole (tokenCodes codes s) ≡ false → Steady BoundedRead s → FineStep (addsToToken codes c r s)
   unfolding addsToToken
   addsToToken-fine {s = s} c byte part h =
       let room = token-room (s .typed .token) part in
@@ -112,10 +113,10 @@ module _ (r : Reading ℕ) (b : BoundedReading r) where
         keyBytes = h .typed .keyBytes;
         tokenBytes = bytes-append (s .typed .token) (c ∷ []) (h .typed .tokenBytes) (one-byte c byte);
       }) in
-      tells-then _ _ (changes-then _ _ (only-good _ _ (λ y. takesToken-fine h₁) (λ n. h₁)))
+      tells-then _ _ (changes-then _ _ (only-good _ _ (λ y. takesToken-good h₁) (λ n. h₁)))
 
-  deletes-fine : {s : State ℕ} (fate : ℕ → Fate ℕ) (left : ℕ) → Steady BoundedRead s → Fine (deletes codes fate left r s)
-  deletes-fine fate left h = fine (24 * inputSize) 0 (omega arith) (omega arith) (deletes-good fate left r b h)
+  deletes-fine : {s : State ℕ} (fate : ℕ → Fate ℕ) (left : ℕ) → Steady BoundedRead s → FineStep (deletes codes fate left r s)
+  deletes-fine fate left h = roomier (24 * inputSize) 0 (omega arith) (omega arith) (deletes-good fate left r b h)
 
   module _ (c : ℕ) (byte : c < 256) where
     -- with one character more, which there is room for
@@ -127,48 +128,48 @@ module _ (r : Reading ℕ) (b : BoundedReading r) where
         let more = eqb-false (endOf r + 1) (r .terms .maxLength) n in
         appended-bounded (c ∷ []) r b (one-byte c byte) (omega arith)
 
-    takesData-fine : {s : State ℕ} → Steady BoundedRead s → Fine (takesData codes c r s)
+    takesData-fine : {s : State ℕ} → Steady BoundedRead s → FineStep (takesData codes c r s)
     unfolding takesData echoesIf
     takesData-fine h =
         let full = eqb (endOf r + 1) (r .terms .maxLength) in
-        fine 8 (10 + inputSize) (omega arith) (omega arith)
+        roomier 8 (10 + inputSize) (omega arith) (omega arith)
         (changes-then _ _
         (writes-sends _ _ (writes-good _ (echoed-length (r .terms .echoes) _ (echo-length _ c)) (reread h (some (appended (c ∷ []) r)) one-bounded)) λ s₁ h₁.
         completes-full full (appended (c ∷ []) r) one-answerable h₁))
 
-    terminates-fine : {s : State ℕ} → Steady BoundedRead s → Fine (terminates codes c r s)
+    terminates-fine : {s : State ℕ} → Steady BoundedRead s → FineStep (terminates codes c r s)
     unfolding terminates echoesTerminatorIf
     terminates-fine h =
-        fine 8 (10 + inputSize) (omega arith) (omega arith)
+        roomier 8 (10 + inputSize) (omega arith) (omega arith)
         (writes-sends _ _ (writes-good _ (echoed-length (r .terms .terminatorEcho && r .terms .echoes) _ (echoTerminator-length _ c)) h) λ s₁ h₁.
         completes-good byTerminator 1 (appended (c ∷ []) r) (omega arith) one-answerable h₁)
 
-    underflows-fine : {s : State ℕ} → Steady BoundedRead s → Fine (underflows codes c r s)
+    underflows-fine : {s : State ℕ} → Steady BoundedRead s → FineStep (underflows codes c r s)
     unfolding underflows
     underflows-fine h =
-        pick-good _ _ _ (λ y. completes-fine byUnderflow 1 (appended (c ∷ []) r) (omega arith) one-answerable h) λ n.
-        fine 1 0 (omega arith) (omega arith) (tells-then _ _ (only-good _ _ (λ y. writes-good _ (omega arith) h) (λ n. h)))
+        pick-good _ _ _ (λ y. completes-good byUnderflow 1 (appended (c ∷ []) r) (omega arith) one-answerable h) λ n.
+        roomier 1 0 (omega arith) (omega arith) (tells-then _ _ (only-good _ _ (λ y. writes-good _ (omega arith) h) (λ n. h)))
 
-    erases-fine : {s : State ℕ} (left : ℕ) → Steady BoundedRead s → Fine (erases codes left c r s)
+    erases-fine : {s : State ℕ} (left : ℕ) → Steady BoundedRead s → FineStep (erases codes left c r s)
     unfolding erases
     erases-fine left h = pick-good _ _ _ (λ y. underflows-fine h) λ n. tells-then _ _ (deletes-fine edited left h)
 
-    edits-fine : {s : State ℕ} → Steady BoundedRead s → Fine (edits codes c r s)
+    edits-fine : {s : State ℕ} → Steady BoundedRead s → FineStep (edits codes c r s)
     unfolding edits erasesAll showsAgain
     edits-fine h =
         pick-good _ _ _ (λ y. erases-fine _ h) λ n.
         pick-good _ _ _ (λ y. erases-fine _ h) λ n.
         pick-good _ _ _ (λ y. tells-then _ _ (deletes-fine edited 0 h)) λ n.
-        tells-then _ _ (fine (2 + 8 * inputSize) 0 (omega arith) (omega arith) (redisplays-good r b h))
+        tells-then _ _ (roomier (2 + 8 * inputSize) 0 (omega arith) (omega arith) (redisplays-good r b h))
 
-    takesPlain-fine : {s : State ℕ} → Steady BoundedRead s → Fine (takesPlain codes c r s)
+    takesPlain-fine : {s : State ℕ} → Steady BoundedRead s → FineStep (takesPlain codes c r s)
     unfolding takesPlain
     takesPlain-fine h =
         pick-good _ _ _ (λ y. terminates-fine h) λ n.
         pick-good _ _ _ (λ y. edits-fine h) λ n.
         takesData-fine h
 
-  takes-fine : {s : State ℕ} (k : Key ℕ) → k .char < 256 → isWhole (tokenCodes codes s) ≡ false → Steady BoundedRead s → Fine (takes codes k r s)
+  takes-fine : {s : State ℕ} (k : Key ℕ) → k .char < 256 → isWhole (tokenCodes codes s) ≡ false → Steady BoundedRead s → FineStep (takes codes k r s)
   unfolding takes
   takes-fine k byte part h =
       pick-good _ _ _ (λ y. addsToToken-fine (k .char) byte part h) λ n.
@@ -177,12 +178,16 @@ module _ (r : Reading ℕ) (b : BoundedReading r) where
       takesPlain-fine (raisedBy codes r (k .char)) (raisedBy-byte r (k .char) byte) h
 
 module _ (r : Reading ℕ) (b : BoundedReading r) {s : State ℕ} (h : Steady BoundedRead s) where
+  -- no key: nothing is written
+  takesNone-good : {bytes : ℕ} → Good BoundedRead bytes stepArea (takesFirst codes [] r s)
+  unfolding takesFirst
+  takesNone-good = only-good _ _ (λ y. completes-good byTimeout 0 r (omega arith) (bounded-answerable r b) h) (λ n. h)
+
   -- the first key of type-ahead, with no whole token before it
   takesFirst-fine : (keys : List (Key ℕ)) → BoundedTyped (record { typeAhead = keys; token = s .typed .token }) →
-      isWhole (tokenCodes codes s) ≡ false → Fine (takesFirst codes keys r s)
+      isWhole (tokenCodes codes s) ≡ false → FineStep (takesFirst codes keys r s)
   unfolding takesFirst
-  takesFirst-fine [] typed part =
-      only-good _ _ (λ y. completes-fine byTimeout 0 r (omega arith) (bounded-answerable r b) h) (λ n. h)
+  takesFirst-fine [] typed part = takesNone-good
   takesFirst-fine (k ∷ ks) typed part =
       let first = first-bounded k ks (s .typed .token) typed in
       let again = idle-bounded 0 r (λ timed due. due) b in
@@ -197,11 +202,11 @@ module _ (r : Reading ℕ) (b : BoundedReading r) {s : State ℕ} (h : Steady Bo
       changes-good _ (reread h (some (withIdle (r .idle + 1) r)) (idle-bounded (r .idle + 1) r (λ timed some-time. due) b))
 
 module _ {s : State ℕ} (h : Steady BoundedRead s) where
-  stepsWhile-fine : (o : Option (Reading ℕ)) → BoundedRead o → Fine (stepsWhile codes o s)
+  stepsWhile-fine : (o : Option (Reading ℕ)) → BoundedRead o → FineStep (stepsWhile codes o s)
   unfolding stepsWhile
   stepsWhile-fine none b = still-good h
   stepsWhile-fine (some r) b =
-      pick-good _ _ _ (λ y. takesToken-fine r b h) λ n.
+      pick-good _ _ _ (λ y. takesToken-good r b h) λ n.
       takesFirst-fine r b h (s .typed .typeAhead) (h .typed) n
 
   ticksWhile-fine : (o : Option (Reading ℕ)) → BoundedRead o → Fine (ticksWhile codes o s)
@@ -209,9 +214,27 @@ module _ {s : State ℕ} (h : Steady BoundedRead s) where
   ticksWhile-fine none b = still-good h
   ticksWhile-fine (some r) b = only-good _ _ (λ y. idles-fine r b h) (λ n. h)
 
-  pub steps-fine : Fine (steps codes s)
+  pub steps-fine : FineStep (steps codes s)
   unfolding steps
   steps-fine = only-good _ _ (λ y. stepsWhile-fine (s .pendingRead) (h .pendingRead)) (λ n. h)
+
+  -- a step that finds no key shows nothing
+  unshown : (o : Option (Reading ℕ)) → BoundedRead o → s .typed .typeAhead ≡ [] → Good BoundedRead 0 stepArea (stepsWhile codes o s)
+  unfolding stepsWhile
+  unshown none b e = still-good h
+  unshown (some r) b e =
+      pick-good _ _ _ (λ y. takesToken-good r b h) λ n.
+      subst (λ keys. Good BoundedRead 0 stepArea (takesFirst codes keys r s)) (sym e) (takesNone-good r b h)
+
+  pub steps-without-keys : s .typed .typeAhead ≡ [] → Good BoundedRead 0 stepArea (steps codes s)
+  unfolding steps
+  steps-without-keys e = only-good _ _ (λ y. unshown (s .pendingRead) (h .pendingRead) e) (λ n. h)
+
+  -- and one that finds no read does nothing
+  pub steps-without-read : s .pendingRead ≡ none → Good BoundedRead 0 0 (steps codes s)
+  unfolding steps stepsWhile
+  steps-without-read e =
+      only-good _ _ (λ y. subst (λ o. Good BoundedRead 0 0 (stepsWhile codes o s)) (sym e) (still-good h)) (λ n. h)
 
   pub ticks-fine : Fine (ticks codes s)
   unfolding ticks

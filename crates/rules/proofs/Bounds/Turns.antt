@@ -100,23 +100,27 @@ module _ {R : OfRead} {bytes area : ℕ} {s : State ℕ} where
   unfolding _then_ behind changes
   changes-then f g h = record { state = h .state; terminal = h .terminal; messages = h .messages; fit = h .fit }
 
--- A rule, then another from any state that it may leave: what they write adds up.
+-- What two turns write, one behind the other, adds up.
+pub behind-good : {P R : OfRead} {bytes area : ℕ} (t u : Turn ℕ) (b₁ b₂ a₁ a₂ : ℕ) → b₁ + b₂ ≤ bytes → a₁ + a₂ ≤ area →
+    Good P b₁ a₁ t → Good R b₂ a₂ u → Good R bytes area (behind t u)
+unfolding behind
+behind-good t u b₁ b₂ a₁ a₂ inBytes inArea h k =
+    let n = length-append (t .bytes) (u .bytes) in
+    let a = area-append (t .messages) (u .messages) in
+    record {
+      state = k .state;
+      terminal = omega arith;
+      messages = omega arith;
+      fit = allFit-append (t .messages) (u .messages) (h .fit) (k .fit);
+    }
+
+-- A rule, then another from any state that it may leave.
 module _ {P R : OfRead} {bytes area : ℕ} {s : State ℕ} (f g : Rule ℕ) where
   pub then-good : (b₁ b₂ a₁ a₂ : ℕ) → b₁ + b₂ ≤ bytes → a₁ + a₂ ≤ area →
       Good P b₁ a₁ (f s) → ((s′ : State ℕ) → Steady P s′ → Good R b₂ a₂ (g s′)) → Good R bytes area ((f then g) s)
-  unfolding _then_ behind
+  unfolding _then_
   then-good b₁ b₂ a₁ a₂ inBytes inArea h k =
-      let t = f s in
-      let u = g (t .state) in
-      let l = k (t .state) (h .state) in
-      let n = length-append (t .bytes) (u .bytes) in
-      let a = area-append (t .messages) (u .messages) in
-      record {
-        state = l .state;
-        terminal = omega arith;
-        messages = omega arith;
-        fit = allFit-append (t .messages) (u .messages) (h .fit) (l .fit);
-      }
+      behind-good (f s) (g (f s .state)) b₁ b₂ a₁ a₂ inBytes inArea h (k (f s .state) (h .state))
 
   -- the first writes and sends nothing, or the second
   pub quiet-then : Good P 0 0 (f s) → ((s′ : State ℕ) → Steady P s′ → Good R bytes area (g s′)) → Good R bytes area ((f then g) s)
@@ -147,6 +151,23 @@ module _ {R : OfRead} {bytes area : ℕ} {s : State ℕ} (t : Bool) where
 abbrev pub Fine : Turn ℕ → Type 0
 Fine t = Good BoundedRead terminalArea messageArea t
 
--- most rules rub out a buffer or echo, and answer behind an Out-of-Band
-pub fine : {t : Turn ℕ} (b a : ℕ) → b ≤ 24 * inputSize + 8 → a ≤ inputSize + 15 → Good BoundedRead b a t → Fine t
+-- Most keys that arrive write a BEL at most, and send an Out-of-Band at most.
+abbrev pub arrivalBytes : ℕ
+arrivalBytes = 1
+
+abbrev pub arrivalArea : ℕ
+arrivalArea = 5
+
+-- A step rubs out a buffer at most, or echoes, and sends Read Data.
+abbrev pub stepBytes : ℕ
+stepBytes = 24 * inputSize + 8
+
+abbrev pub stepArea : ℕ
+stepArea = 10 + inputSize
+
+abbrev pub FineStep : Turn ℕ → Type 0
+FineStep t = Good BoundedRead stepBytes stepArea t
+
+-- there is room for both, and most rules need no more
+pub fine : {t : Turn ℕ} (b a : ℕ) → b ≤ arrivalBytes + stepBytes → a ≤ arrivalArea + stepArea → Good BoundedRead b a t → Fine t
 fine b a p q h = let w = rubbing-room in let v = answer-room in roomier b a (omega arith) (omega arith) h

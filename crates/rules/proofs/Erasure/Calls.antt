@@ -11,10 +11,10 @@ use Rattle.rules.specs.State.{Characters, Reading, State, fresh}
 use Rattle.rules.specs.Turns.{Rule, still}
 use Rattle.rules.specs.Calls.{Event, key, step, tick, message, load, Call, Answer}
 use Rattle.rules.specs.Calls.{isPending, isTimely, passesTest, isUnsound, carriesQuestions, isCarriedBy, carries, refusals, received}
-use Rattle.rules.specs.Calls.{isLent, refuses, does, answersMessage, answersLoad, answers, answer, runFrom, run}
+use Rattle.rules.specs.Calls.{isLent, refuses, does, answersMessage, answersLoad, keystroke, answers, answer, runFrom, run}
 use Rattle.rules.proofs.Choice.{pick-both}
 use Rattle.rules.proofs.Erasure.Maps.{Maps, mapReading, mapState, mapEvent, mapCall, mapAnswer}
-use Rattle.rules.proofs.Erasure.Turns.{Erases}
+use Rattle.rules.proofs.Erasure.Turns.{Erases, erases-then}
 use Rattle.rules.proofs.Erasure.Arrival.{erase-arrives}
 use Rattle.rules.proofs.Erasure.Steps.{erase-steps, erase-ticks}
 use Rattle.rules.proofs.Erasure.Host.{erase-loads, erase-obeys}
@@ -63,9 +63,13 @@ module _ {C D : Type 0} {f : C → D} {cs : Characters C} {ds : Characters D} (m
       (erase-refuses _ s)
       (erase-does (erase-loads m own site) s)
 
+  erase-keystroke : (c : C) → Erases f (keystroke cs c) (keystroke ds (f c))
+  unfolding keystroke
+  erase-keystroke c = erases-then (erase-arrives m c) (erase-steps m)
+
   erase-answers : (e : Event C) (s : State C) → mapAnswer f (answers cs e s) ≡ answers ds (mapEvent f e) (mapState f s)
   unfolding answers
-  erase-answers (key c) s = erase-does (erase-arrives m c) s
+  erase-answers (key c) s = erase-does (erase-keystroke c) s
   erase-answers step s = erase-does (erase-steps m) s
   erase-answers tick s = erase-does (erase-ticks m) s
   erase-answers (message bytes) s = rw (erase-received s bytes) (erase-answersMessage (received s bytes) s)

@@ -9,13 +9,15 @@ use Rattle.rules.specs.Messages.Codec.{Outcome, refused, sound}
 use Rattle.rules.specs.State.{Characters, State, fresh}
 use Rattle.rules.specs.Turns.{Fate, Rule}
 use Rattle.rules.specs.Arrival.{arrives}
-use Rattle.rules.specs.Calls.{Event, key, step, tick, message, load, Call, Answer, refuses, does, received, answersMessage, answersLoad, answers, answer}
-use Rattle.rules.proofs.Choice.{pick-both}
+use Rattle.rules.specs.Steps.{steps}
+use Rattle.rules.specs.Turns.{behind, _then_}
+use Rattle.rules.specs.Calls.{Event, key, step, tick, message, load, Call, Answer, refuses, does, received, answersMessage, answersLoad, keystroke, answers, answer}
+use Rattle.rules.proofs.Choice.{pick-both, all-halves}
 use Rattle.rules.proofs.TwoRuns.Twins.{Twin, isBoth, code₁, code₂, first-chars, second-chars, Level}
-use Rattle.rules.proofs.TwoRuns.Twins.{Spared, Agree, Rules}
-use Rattle.rules.proofs.TwoRuns.Turns.{agrees-still}
+use Rattle.rules.proofs.TwoRuns.Twins.{Spared, Agree, RulesAt, Rules}
+use Rattle.rules.proofs.TwoRuns.Turns.{then-by, agrees-still}
 use Rattle.rules.proofs.TwoRuns.Bands.{Passed, Initiated}
-use Rattle.rules.proofs.TwoRuns.Arrival.{arrives-agrees}
+use Rattle.rules.proofs.TwoRuns.Arrival.{Unacted, arrives-agrees}
 use Rattle.rules.proofs.TwoRuns.Steps.{steps-agrees, ticks-agrees}
 use Rattle.rules.proofs.TwoRuns.Host.{obeys-agrees, loads-agrees}
 
@@ -23,6 +25,12 @@ module _ {changed : ℕ → Bool} where
   pub fresh-level : Level {changed = changed} fresh
   unfolding fresh allAre
   fresh-level = record { token = refl; pendingRead = tt }
+
+  keystroke-agrees : (c : Twin changed) (s : State (Twin changed)) → Unacted c s → Level s → RulesAt s (keystroke first-chars c) (keystroke second-chars c)
+  unfolding keystroke
+  keystroke-agrees c s unacted l =
+      then-by (arrives first-chars c) (arrives second-chars c) (steps first-chars) (steps second-chars) s (arrives-agrees c s unacted l) λ x y.
+      steps-agrees (arrives first-chars c s .state)
 
 -- What is supposed of a key's arrival: a test of each of its fates, in one run.
 module _ {changed : ℕ → Bool} (arrival : (Twin changed → ℕ) → Fate (Twin changed) → Bool) where
@@ -62,23 +70,30 @@ module _ {changed : ℕ → Bool} (arrival : (Twin changed → ℕ) → Fate (Tw
   unfolding answersLoad firstOf
   answersLoad-same own site = pick-both SameAnswers _ (refuses-same _) (does-same (loads-agrees own site))
 
-  key-same : Heeded → (c : Twin changed) → SameAnswers (does (arrives first-chars c)) (does (arrives second-chars c))
+  -- what a keystroke says became of keys begins with what its arrival says
+  arrival-heeded : Heeded → (chars : Characters (Twin changed)) (c : Twin changed) (s : State (Twin changed)) → isBoth c ≡ false → Initiated s →
+      allAre (arrival (chars .code)) (keystroke chars c s .fates) ≡ true → Passed s (chars .code c)
+  unfolding keystroke _then_ behind
+  arrival-heeded heeded chars c s a b e =
+      heeded chars c s a b (all-halves (arrival (chars .code)) (arrives chars c s .fates) (steps chars (arrives chars c s .state) .fates) e .0)
+
+  keystroke-same : Heeded → (c : Twin changed) → SameAnswers (does (keystroke first-chars c)) (does (keystroke second-chars c))
   unfolding does
-  key-same heeded c s l =
+  keystroke-same heeded c s l =
       record {
         number = refl;
         turn = λ x y.
-            arrives-agrees c s
+            keystroke-agrees c s
             (record {
-              first = λ a b. heeded first-chars c s a b (x .arrived);
-              second = λ a b. heeded second-chars c s a b (y .arrived);
+              first = λ a b. arrival-heeded heeded first-chars c s a b (x .arrived);
+              second = λ a b. arrival-heeded heeded second-chars c s a b (y .arrived);
             })
             l .agreed (x .spared) (y .spared);
       }
 
   answers-same : Heeded → (e : Event (Twin changed)) → SameAnswers (answers first-chars e) (answers second-chars e)
   unfolding answers
-  answers-same heeded (key c) s l = key-same heeded c s l
+  answers-same heeded (key c) s l = keystroke-same heeded c s l
   answers-same heeded step s l = does-same steps-agrees s l
   answers-same heeded tick s l = does-same ticks-agrees s l
   answers-same heeded (message bytes) s l = answersMessage-same (received s bytes) s l

@@ -17,8 +17,8 @@ use Rattle.rules.proofs.TwoRuns.Twins.{LevelRead, Level, spared, Spared
 module _ {changed : ℕ → Bool} where
   -- One rule after another.
 
-  -- the second may use that the first one's fates were spared
-  then-by : (f f′ g g′ : Rule (Twin changed)) (s : State (Twin changed)) → RulesAt s f f′ →
+  -- at one state; the second may use that the first one's fates were spared
+  pub then-by : (f f′ g g′ : Rule (Twin changed)) (s : State (Twin changed)) → RulesAt s f f′ →
       (Spared code₁ (f s .fates) → Spared code₂ (f′ s .fates) → Level (f s .state) → RulesAt (f s .state) g g′) →
       RulesAt s (f then g) (f′ then g′)
   unfolding _then_ behind

@@ -3,15 +3,15 @@ use Prim.Native.Nat.{_-_}
 use mathlib.Core.List.{List, [], _∷_, _++_}
 use lib.ListN.{length, take, replicate}
 use Rattle.rules.specs.Choice.{joined}
-use Rattle.rules.specs.Numbers.{terminalArea, messageArea, typeAheadSize, accepted, wrongTime, unsound, notCarried, unsoundRecord}
+use Rattle.rules.specs.Numbers.{terminalArea, messageArea, typeAheadSize, accepted, smallArea, wrongTime, unsound, notCarried, unsoundRecord}
 use Rattle.rules.specs.Messages.Forms.{startRead}
 use Rattle.rules.specs.Screen.{HT, DEL}
 use Rattle.rules.specs.Token.{ESC}
 use Rattle.rules.specs.Editing.{redisplayKey}
-use Rattle.rules.specs.Arrival.{quoteKey}
+use Rattle.rules.specs.Arrival.{quoteKey, clearKey, discardKey}
 use Rattle.rules.specs.Calls.{key, tick}
-use Rattle.rules.specs.Bench.{Case, reads, copies, asks, runs, asked, says, stored, stepped, typed, told, initiated, startA, startedA, wrote, wroteNothing, completed, flipped}
-use Rattle.rules.specs.Bench.{recognising, waiting, typedUnseen, tokenTyped, loading, emptyRecord, switchRecord, attributeRecord, setRecord, largestReadRecord, inOrder}
+use Rattle.rules.specs.Bench.{Case, reads, copies, asks, runs, asked, says, typed, stored, stepped, told, initiated, startA, startedA, timedRead, timedOut, wrote, wroteNothing, completed}
+use Rattle.rules.specs.Bench.{discardState, flipped, attribute, outOfBand, recognising, waiting, typedUnseen, tokenTyped, loading, emptyRecord, switchRecord, attributeRecord, setRecord, largestReadRecord, inOrder}
 
 -- The starred cases in order; D and H have two rows each. Request M-101 adds two.
 unfoldable pub starred : List Case
@@ -49,11 +49,11 @@ starred =
     -- B: 4 DEL 3 5 CR
     runs
     (initiated ∷ startedA ∷
-    (typed 0x34 (0x34 ∷ []) [] ++
-    typed DEL (0x08 ∷ 0x20 ∷ 0x08 ∷ []) [] ++
-    typed 0x33 (0x33 ∷ []) [] ++
-    typed 0x35 (0x35 ∷ []) [] ++
-    typed 0x0D (0x0D ∷ 0x0A ∷ []) (0x0B ∷ 0x00 ∷ 0x03 ∷ 0x00 ∷ 0x02 ∷ 0x00 ∷ 0x01 ∷ 0x00 ∷ 0x02 ∷ 0x00 ∷ 0x33 ∷ 0x35 ∷ 0x0D ∷ []))) ∷
+    typed 0x34 (0x34 ∷ []) [] ∷
+    typed DEL (0x08 ∷ 0x20 ∷ 0x08 ∷ []) [] ∷
+    typed 0x33 (0x33 ∷ []) [] ∷
+    typed 0x35 (0x35 ∷ []) [] ∷
+    typed 0x0D (0x0D ∷ 0x0A ∷ []) (0x0B ∷ 0x00 ∷ 0x03 ∷ 0x00 ∷ 0x02 ∷ 0x00 ∷ 0x01 ∷ 0x00 ∷ 0x02 ∷ 0x00 ∷ 0x33 ∷ 0x35 ∷ 0x0D ∷ []) ∷ []) ∷
     -- C: A without its last byte
     runs (initiated ∷ told (take (length startA - 1) startA) unsound [] [] ∷ []) ∷
     -- D: END-OF-DATA 132 of 132 completes at once; MAX-LENGTH 133 is 5
@@ -65,12 +65,12 @@ starred =
     -- E: MAX-LENGTH 0, buffer full, no data
     runs (initiated ∷ told (0x02 ∷ 0x00 ∷ 0x00 ∷ 0x00 ∷ 0x00 ∷ 0x00 ∷ 0x00 ∷ 0x00 ∷ 0x00 ∷ 0x00 ∷ 0x00 ∷ 0x00 ∷ 0x00 ∷ 0x00 ∷ 0x00 ∷ 0x00 ∷ 0x00 ∷ []) accepted [] (0x08 ∷ 0x00 ∷ 0x03 ∷ 0x04 ∷ 0x00 ∷ 0x00 ∷ 0x00 ∷ 0x00 ∷ 0x00 ∷ 0x00 ∷ []) ∷ []) ∷
     -- F: DEL at once
-    runs (initiated ∷ startedA ∷ typed DEL (0x07 ∷ []) []) ∷
+    runs (initiated ∷ startedA ∷ typed DEL (0x07 ∷ []) [] ∷ []) ∷
     -- G: 22, then 13 as data, which is returned with the 13 that ends the read
     runs
-    (initiated ∷ startedA ∷ stored quoteKey ∷
-    (typed 0x0D (0x5E ∷ 0x4D ∷ []) [] ++
-    typed 0x0D (0x0D ∷ 0x0A ∷ []) (0x0A ∷ 0x00 ∷ 0x03 ∷ 0x00 ∷ 0x02 ∷ 0x00 ∷ 0x01 ∷ 0x00 ∷ 0x01 ∷ 0x00 ∷ 0x0D ∷ 0x0D ∷ []))) ∷
+    (initiated ∷ startedA ∷ typed quoteKey [] [] ∷
+    typed 0x0D (0x5E ∷ 0x4D ∷ []) [] ∷
+    typed 0x0D (0x0D ∷ 0x0A ∷ []) (0x0A ∷ 0x00 ∷ 0x03 ∷ 0x00 ∷ 0x02 ∷ 0x00 ∷ 0x01 ∷ 0x00 ∷ 0x01 ∷ 0x00 ∷ 0x0D ∷ 0x0D ∷ []) ∷ []) ∷
     -- H: recognition on; a valid and an invalid token
     tokenTyped (27 ∷ 91 ∷ 65 ∷ []) 0x01 ∷
     tokenTyped (27 ∷ 91 ∷ 7 ∷ []) 0x02 ∷
@@ -93,35 +93,35 @@ warned =
     -- waiting for one more key after the buffer is full
     runs
     (initiated ∷ told (0x02 ∷ 0x00 ∷ 0x80 ∷ 0x00 ∷ 0x02 ∷ 0x00 ∷ 0x00 ∷ 0x00 ∷ 0x00 ∷ 0x00 ∷ 0x00 ∷ 0x00 ∷ 0x00 ∷ 0x00 ∷ 0x00 ∷ 0x00 ∷ 0x00 ∷ []) accepted [] [] ∷
-    (typed 0x31 (0x31 ∷ []) [] ++
-    typed 0x32 (0x32 ∷ []) (0x0A ∷ 0x00 ∷ 0x03 ∷ 0x04 ∷ 0x00 ∷ 0x00 ∷ 0x00 ∷ 0x02 ∷ 0x02 ∷ 0x00 ∷ 0x31 ∷ 0x32 ∷ []))) ∷
+    typed 0x31 (0x31 ∷ []) [] ∷
+    typed 0x32 (0x32 ∷ []) (0x0A ∷ 0x00 ∷ 0x03 ∷ 0x04 ∷ 0x00 ∷ 0x00 ∷ 0x00 ∷ 0x02 ∷ 0x02 ∷ 0x00 ∷ 0x31 ∷ 0x32 ∷ []) ∷ []) ∷
     -- testing the set before raising: "a", raised, is the terminator "A"
     runs
     (initiated ∷ told (0x02 ∷ 0x80 ∷ 0x40 ∷ 0x00 ∷ 0x50 ∷ 0x00 ∷ 0x00 ∷ 0x00 ∷ 0x00 ∷ 0x00 ∷ 0x00 ∷ 0x00 ∷ 0x00 ∷ 0x00 ∷ 0x00 ∷ 0x00 ∷ 0x09 ∷ 0x00 ∷ 0x00 ∷ 0x00 ∷ 0x00 ∷ 0x00 ∷ 0x00 ∷ 0x00 ∷ 0x00 ∷ 0x02 ∷ []) accepted [] [] ∷
-    typed 0x61 [] (0x09 ∷ 0x00 ∷ 0x03 ∷ 0x00 ∷ 0x00 ∷ 0x00 ∷ 0x00 ∷ 0x00 ∷ 0x00 ∷ 0x00 ∷ 0x41 ∷ [])) ∷
+    typed 0x61 [] (0x09 ∷ 0x00 ∷ 0x03 ∷ 0x00 ∷ 0x00 ∷ 0x00 ∷ 0x00 ∷ 0x00 ∷ 0x00 ∷ 0x00 ∷ 0x41 ∷ []) ∷ []) ∷
     -- quoting after out-of-band: a quoted hello character is data
     runs
-    (initiated ∷ told (0x0B ∷ 0x00 ∷ 0x02 ∷ 0x02 ∷ 0x03 ∷ 0xFF ∷ 0x03 ∷ []) accepted [] [] ∷ startedA ∷ stored quoteKey ∷ typed 3 (0x5E ∷ 0x43 ∷ []) []) ∷
+    (initiated ∷ attribute 3 0x03 ∷ startedA ∷ typed quoteKey [] [] ∷ typed 3 (0x5E ∷ 0x43 ∷ []) [] ∷ []) ∷
     -- rubbing out a tab as one column: from column 2 it is six
     runs
     (initiated ∷ startedA ∷
-    (typed HT (replicate 6 0x20) [] ++ typed DEL (joined (replicate 6 (0x08 ∷ 0x20 ∷ 0x08 ∷ []))) [])) ∷
+    typed HT (replicate 6 0x20) [] ∷ typed DEL (joined (replicate 6 (0x08 ∷ 0x20 ∷ 0x08 ∷ []))) [] ∷ []) ∷
     -- echoing with a changed characteristic in mid read
-    runs (initiated ∷ startedA ∷ told (0x0B ∷ 0x00 ∷ 0x05 ∷ 0x02 ∷ 0x00 ∷ []) accepted [] [] ∷ typed 0x31 (0x31 ∷ []) []) ∷
+    runs (initiated ∷ startedA ∷ told (0x0B ∷ 0x00 ∷ 0x05 ∷ 0x02 ∷ 0x00 ∷ []) accepted [] [] ∷ typed 0x31 (0x31 ∷ []) [] ∷ []) ∷
     -- a refused message leaves the read and what was typed as they were
     runs
     (initiated ∷ startedA ∷ told startA wrongTime [] [] ∷
-    (typed 0x31 (0x31 ∷ []) [] ++
-    typed 0x0D (0x0D ∷ 0x0A ∷ []) (0x0A ∷ 0x00 ∷ 0x03 ∷ 0x00 ∷ 0x02 ∷ 0x00 ∷ 0x01 ∷ 0x00 ∷ 0x01 ∷ 0x00 ∷ 0x31 ∷ 0x0D ∷ []))) ∷
+    typed 0x31 (0x31 ∷ []) [] ∷
+    typed 0x0D (0x0D ∷ 0x0A ∷ []) (0x0A ∷ 0x00 ∷ 0x03 ∷ 0x00 ∷ 0x02 ∷ 0x00 ∷ 0x01 ∷ 0x00 ∷ 0x01 ∷ 0x00 ∷ 0x31 ∷ 0x0D ∷ []) ∷ []) ∷
     -- no second counts while a key waits; the read ends with the TIMEOUT-th that does
     runs
-    (initiated ∷ told (0x02 ∷ 0x00 ∷ 0xB0 ∷ 0x00 ∷ 0x50 ∷ 0x00 ∷ 0x00 ∷ 0x00 ∷ 0x01 ∷ 0x00 ∷ 0x00 ∷ 0x00 ∷ 0x00 ∷ 0x00 ∷ 0x00 ∷ 0x00 ∷ 0x00 ∷ []) accepted [] [] ∷
-    stored 0x31 ∷ says tick accepted [] [] ∷ stepped (0x31 ∷ []) [] ∷
+    (initiated ∷ stored 0x31 ∷ timedRead 0x01 ∷
+    says tick accepted [] [] ∷ stepped (0x31 ∷ []) [] ∷
     says tick accepted [] (0x09 ∷ 0x00 ∷ 0x03 ∷ 0x05 ∷ 0x00 ∷ 0x00 ∷ 0x00 ∷ 0x01 ∷ 0x01 ∷ 0x00 ∷ 0x31 ∷ []) ∷ []) ∷
     -- redisplay: a new line, the prompt and what was typed
-    runs (initiated ∷ startedA ∷ (typed 0x31 (0x31 ∷ []) [] ++ typed redisplayKey (0x0D ∷ 0x0A ∷ 0x3F ∷ 0x20 ∷ 0x31 ∷ []) [])) ∷
+    runs (initiated ∷ startedA ∷ typed 0x31 (0x31 ∷ []) [] ∷ typed redisplayKey (0x0D ∷ 0x0A ∷ 0x3F ∷ 0x20 ∷ 0x31 ∷ []) [] ∷ []) ∷
     -- 127 as data, and rubbed out again: two marks
-    runs (initiated ∷ startedA ∷ stored quoteKey ∷ (typed DEL (0x5E ∷ 0x3F ∷ []) [] ++ typed DEL (joined (replicate 2 (0x08 ∷ 0x20 ∷ 0x08 ∷ []))) [])) ∷
+    runs (initiated ∷ startedA ∷ typed quoteKey [] [] ∷ typed DEL (0x5E ∷ 0x3F ∷ []) [] ∷ typed DEL (joined (replicate 2 (0x08 ∷ 0x20 ∷ 0x08 ∷ []))) [] ∷ []) ∷
     -- an attribute changes where the mask has 1, a switch alone
     runs
     (initiated ∷ told (0x0B ∷ 0x00 ∷ 0x02 ∷ 0x02 ∷ 0x41 ∷ 0x0C ∷ 0x0F ∷ 0x05 ∷ 0x02 ∷ 0x00 ∷ []) accepted [] [] ∷
@@ -156,7 +156,7 @@ warned =
     tokenTyped (27 ∷ 79 ∷ 32 ∷ 47 ∷ 63 ∷ []) 0x02 ∷
     tokenTyped (27 ∷ 79 ∷ 32 ∷ 47 ∷ 64 ∷ []) 0x01 ∷
     -- Check Input counts the keys that wait and the bytes of a token
-    runs (initiated ∷ recognising ∷ startedA ∷ (typed ESC [] [] ++ (stored 0x31 ∷ stored 0x32 ∷ waiting 3 ∷ []))) ∷
+    runs (initiated ∷ recognising ∷ stored ESC ∷ stored 0x31 ∷ stored 0x32 ∷ startedA ∷ stepped [] [] ∷ waiting 3 ∷ []) ∷
     -- a termination set of 33 bytes
     runs (initiated ∷ told (0x02 ∷ 0x00 ∷ 0x50 ∷ 0x00 ∷ 0x50 ∷ 0x00 ∷ 0x00 ∷ 0x00 ∷ 0x00 ∷ 0x00 ∷ 0x00 ∷ 0x00 ∷ 0x00 ∷ 0x00 ∷ 0x00 ∷ 0x00 ∷ 0x21 ∷ replicate 33 0) unsound [] [] ∷ []) ∷
     -- fields that the line ignores are kept, and unused bits are written 0
@@ -180,7 +180,7 @@ warned =
     asks 4 (largestReadRecord 80) (0x02 ∷ []) [] ∷
     -- loaded attributes are all of them: a code that is not listed has 0
     runs
-    (initiated ∷ told (0x0B ∷ 0x00 ∷ 0x02 ∷ 0x02 ∷ 0x41 ∷ 0xFF ∷ 0x04 ∷ []) accepted [] [] ∷
+    (initiated ∷ attribute 0x41 0x04 ∷
     loading (attributeRecord 2 (0x42 ∷ 0x04 ∷ [])) emptyRecord accepted ∷
     told (0x0A ∷ 0x00 ∷ 0x02 ∷ 0x02 ∷ 0x41 ∷ 0x02 ∷ 0x02 ∷ 0x42 ∷ []) accepted []
     (0x0C ∷ 0x00 ∷ 0x0B ∷ 0x00 ∷ 0x02 ∷ 0x02 ∷ 0x41 ∷ 0x7F ∷ 0x00 ∷ 0x02 ∷ 0x02 ∷ 0x42 ∷ 0x7F ∷ 0x04 ∷ []) ∷ []) ∷
@@ -194,31 +194,31 @@ warned =
     runs
     (initiated ∷ loading (setRecord 9 (replicate 8 0x00 ++ (0x02 ∷ []))) emptyRecord accepted ∷
     told (0x02 ∷ 0x01 ∷ 0x10 ∷ 0x00 ∷ 0x50 ∷ 0x00 ∷ 0x02 ∷ 0x00 ∷ 0x00 ∷ 0x00 ∷ 0x02 ∷ 0x00 ∷ 0x00 ∷ 0x00 ∷ 0x02 ∷ 0x00 ∷ 0x00 ∷ 0x3F ∷ 0x20 ∷ []) accepted (0x3F ∷ 0x20 ∷ []) [] ∷
-    typed 0x41 (0x41 ∷ []) (0x09 ∷ 0x00 ∷ 0x03 ∷ 0x00 ∷ 0x02 ∷ 0x00 ∷ 0x00 ∷ 0x03 ∷ 0x00 ∷ 0x00 ∷ 0x41 ∷ [])) ∷
+    typed 0x41 (0x41 ∷ []) (0x09 ∷ 0x00 ∷ 0x03 ∷ 0x00 ∷ 0x02 ∷ 0x00 ∷ 0x00 ∷ 0x03 ∷ 0x00 ∷ 0x00 ∷ 0x41 ∷ []) ∷ []) ∷
     -- echo turned off in mid read: the read keeps its own, and the next one does not echo
     runs
     (initiated ∷ startedA ∷
     loading (switchRecord 12 (0x04 ∷ 0x02 ∷ 0x00 ∷ 0x05 ∷ 0x02 ∷ 0x00 ∷ 0x06 ∷ 0x02 ∷ 0x00 ∷ 0x09 ∷ 0x02 ∷ 0x00 ∷ [])) emptyRecord accepted ∷
-    (typed 0x31 (0x31 ∷ []) [] ++
-    typed 0x0D (0x0D ∷ 0x0A ∷ []) (0x0A ∷ 0x00 ∷ 0x03 ∷ 0x00 ∷ 0x02 ∷ 0x00 ∷ 0x01 ∷ 0x00 ∷ 0x01 ∷ 0x00 ∷ 0x31 ∷ 0x0D ∷ []) ++
-    (startedA ∷ typed 0x31 [] []))) ∷
+    typed 0x31 (0x31 ∷ []) [] ∷
+    typed 0x0D (0x0D ∷ 0x0A ∷ []) (0x0A ∷ 0x00 ∷ 0x03 ∷ 0x00 ∷ 0x02 ∷ 0x00 ∷ 0x01 ∷ 0x00 ∷ 0x01 ∷ 0x00 ∷ 0x31 ∷ 0x0D ∷ []) ∷
+    startedA ∷ typed 0x31 [] [] ∷ []) ∷
     -- a refused load, which is no record or one of another form, leaves the line as it was
     runs
     (initiated ∷ loading emptyRecord [] unsoundRecord ∷ loading (largestReadRecord 1) (0x02 ∷ []) unsoundRecord ∷ startedA ∷ []) ∷
     -- M-103, six rows. A half-typed answer: an alarm locks (UU 1, PP 1 of one line), a key waits, and behind the unlock (UU 3, QQ 2, S) the keeper sees the answer again; Write Completion counts the "!" and not the redisplay
     runs
     (initiated ∷ startedA ∷
-    (typed 0x34 (0x34 ∷ []) [] ++
-    (wrote 0x41 0x00 0x01 0x00 (0x55 ∷ 0x50 ∷ []) (0x0D ∷ 0x0A ∷ 0x55 ∷ 0x50 ∷ []) [] ∷
+    typed 0x34 (0x34 ∷ []) [] ∷
+    wrote 0x41 0x00 0x01 0x00 (0x55 ∷ 0x50 ∷ []) (0x0D ∷ 0x0A ∷ 0x55 ∷ 0x50 ∷ []) [] ∷
     stored 0x32 ∷ stepped [] [] ∷
     wrote 0x03 0x06 0x00 0x21 [] (0x21 ∷ 0x0D ∷ 0x0A ∷ 0x3F ∷ 0x20 ∷ 0x34 ∷ []) (completed 0 1 0) ∷
     stepped (0x32 ∷ []) [] ∷
-    typed 0x0D (0x0D ∷ 0x0A ∷ []) (0x0B ∷ 0x00 ∷ 0x03 ∷ 0x00 ∷ 0x02 ∷ 0x00 ∷ 0x03 ∷ 0x00 ∷ 0x02 ∷ 0x00 ∷ 0x34 ∷ 0x32 ∷ 0x0D ∷ [])))) ∷
+    typed 0x0D (0x0D ∷ 0x0A ∷ []) (0x0B ∷ 0x00 ∷ 0x03 ∷ 0x00 ∷ 0x02 ∷ 0x00 ∷ 0x03 ∷ 0x00 ∷ 0x02 ∷ 0x00 ∷ 0x34 ∷ 0x32 ∷ 0x0D ∷ []) ∷ []) ∷
     -- locked, a read with Q and TIMEOUT 0 does not complete; UU 2 unlocks
     runs
-    (initiated ∷ told (0x02 ∷ 0x00 ∷ 0xB0 ∷ 0x00 ∷ 0x50 ∷ 0x00 ∷ 0x00 ∷ 0x00 ∷ 0x00 ∷ 0x00 ∷ 0x00 ∷ 0x00 ∷ 0x00 ∷ 0x00 ∷ 0x00 ∷ 0x00 ∷ 0x00 ∷ []) accepted [] [] ∷
+    (initiated ∷ timedRead 0x00 ∷
     wroteNothing 0x01 ∷ stepped [] [] ∷
-    wroteNothing 0x02 ∷ stepped [] (0x08 ∷ 0x00 ∷ 0x03 ∷ 0x05 ∷ 0x00 ∷ 0x00 ∷ 0x00 ∷ 0x00 ∷ 0x00 ∷ 0x00 ∷ []) ∷ []) ∷
+    wroteNothing 0x02 ∷ stepped [] timedOut ∷ []) ∷
     -- L, and a write that begins with LF, which is left out and moves nothing; then another, whose LF is written; L's own is never left out
     runs
     (initiated ∷
@@ -246,15 +246,35 @@ warned =
     wrote 0x08 0x00 0x00 0x00 (0x0A ∷ 0x44 ∷ []) (0x0A ∷ 0x44 ∷ []) [] ∷ []) ∷
     -- a 15 that turns discard on unlocks, and one that turns it off does not; UU locks, unlocks and redisplays under discard too
     runs
-    (initiated ∷ startedA ∷ stored 0x31 ∷ wroteNothing 0x01 ∷ stepped [] [] ∷
-    flipped 0 ∷ stepped (0x31 ∷ []) [] ∷
+    (initiated ∷ startedA ∷ wroteNothing 0x01 ∷ stored 0x31 ∷ stepped [] [] ∷
+    typed discardKey (0x31 ∷ []) (discardState 0) ∷
     wroteNothing 0x01 ∷ stored 0x30 ∷ stepped [] [] ∷
     wrote 0x03 0x04 0x00 0x00 (0x41 ∷ []) (0x0D ∷ 0x0A ∷ 0x3F ∷ 0x20 ∷ 0x31 ∷ []) (completed 1 0 0) ∷
     stepped (0x30 ∷ []) [] ∷
     wroteNothing 0x01 ∷ stored 0x32 ∷ flipped 1 ∷ stepped [] [] ∷
     wroteNothing 0x00 ∷ stepped (0x32 ∷ []) [] ∷ []) ∷
-    -- immediate clear unlocks
+    -- immediate clear unlocks, and leaves no read for its step
     runs
-    (initiated ∷ told (0x0B ∷ 0x00 ∷ 0x02 ∷ 0x02 ∷ 0x03 ∷ 0xFF ∷ 0x01 ∷ []) accepted [] [] ∷ startedA ∷ wroteNothing 0x01 ∷
-    says (key 3) accepted [] (0x03 ∷ 0x00 ∷ 0x04 ∷ 0x00 ∷ 0x03 ∷ 0x08 ∷ 0x00 ∷ 0x03 ∷ 0x03 ∷ 0x02 ∷ 0x00 ∷ 0x00 ∷ 0x02 ∷ 0x00 ∷ 0x00 ∷ []) ∷
-    startedA ∷ typed 0x31 (0x31 ∷ []) []) ∷ []
+    (initiated ∷ attribute 3 0x01 ∷ startedA ∷ wroteNothing 0x01 ∷
+    typed 3 [] (outOfBand 3 ++ (0x08 ∷ 0x00 ∷ 0x03 ∷ 0x03 ∷ 0x02 ∷ 0x00 ∷ 0x00 ∷ 0x02 ∷ 0x00 ∷ 0x00 ∷ [])) ∷
+    startedA ∷ typed 0x31 (0x31 ∷ []) [] ∷ []) ∷
+    -- M-104, five rows. Before Initiate a key only waits. With a read the step takes the first that waits, not the one that came
+    runs (stored 0x34 ∷ initiated ∷ startedA ∷ typed 0x32 (0x34 ∷ []) [] ∷ stepped (0x32 ∷ []) [] ∷ []) ∷
+    -- a dropped key is followed by the step too, which takes the first of the 64
+    runs
+    (initiated ∷ stored 0x34 ∷
+    (replicate (typeAheadSize - 1) (stored 0x30) ++
+    (startedA ∷ asked terminalArea messageArea (key 0x32) accepted (0x07 ∷ 0x34 ∷ []) [] 1 ∷ []))) ∷
+    -- a read with Q and TIMEOUT 0 completes on 15, hello, 24 and 22; 24 leaves nothing of what was typed
+    runs
+    (initiated ∷ attribute 3 0x03 ∷
+    timedRead 0x00 ∷ typed discardKey [] (discardState 0 ++ timedOut) ∷
+    timedRead 0x00 ∷ typed 3 [] (outOfBand 3 ++ timedOut) ∷
+    timedRead 0x00 ∷ typed 0x34 (0x34 ∷ []) [] ∷ typed clearKey (0x08 ∷ 0x20 ∷ 0x08 ∷ []) timedOut ∷
+    timedRead 0x00 ∷ typed quoteKey [] timedOut ∷ []) ∷
+    -- locked, it completes on none of them but the 15 that unlocks
+    runs
+    (initiated ∷ attribute 3 0x03 ∷ timedRead 0x00 ∷ wroteNothing 0x01 ∷
+    typed 3 [] (outOfBand 3) ∷ typed clearKey [] [] ∷ typed discardKey [] (discardState 0 ++ timedOut) ∷ []) ∷
+    -- in an area that is too small the key does not arrive
+    runs (initiated ∷ startedA ∷ asked (terminalArea - 1) messageArea (key 0x34) smallArea [] [] 0 ∷ waiting 0 ∷ stepped [] [] ∷ []) ∷ []

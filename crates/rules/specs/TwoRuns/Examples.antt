@@ -43,11 +43,6 @@ full e = record { terminal = terminalArea; messages = messageArea; event = e }
 unfoldable pub conversation : List (Event ℕ) → List (Call ℕ)
 conversation es = map full (message (0x01 ∷ 0x00 ∷ 0x01 ∷ 0x00 ∷ 0x00 ∷ replicate revisionSize SP) ∷ es)
 
--- each key with the step that takes it
-unfoldable pub typing : List ℕ → List (Event ℕ)
-typing [] = []
-typing (n ∷ ns) = key n ∷ step ∷ typing ns
-
 -- a Start Read of 80 characters with these flags, behind whose length bytes stands this termination set
 unfoldable pub reading : List ℕ → List ℕ → Event ℕ
 reading flags set =
@@ -92,7 +87,7 @@ pub record Pair : Type 0 where
 abbrev pub pair : List (Event ℕ) → List ℕ → List ℕ → List ℕ → Pair
 pair before one other holding =
     record
-    { first = conversation (before ++ typing one); second = conversation (before ++ typing other); holding = holding }
+    { first = conversation (before ++ map key one); second = conversation (before ++ map key other); holding = holding }
 
 unfoldable pub meets : Pair → Bool
 meets p = same (map bit (suppositions inBand (p .first) (p .second))) (p .holding)
