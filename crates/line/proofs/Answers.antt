@@ -30,13 +30,16 @@ use Rattle.line.specs.Answers.{Answers, ruled, refusal}
 abbrev pub doneAnswer : Progress → Answer
 doneAnswer w = record { line = w .line; number = sizes.accepted; terminal = w .at; messages = w .sent }
 
+-- a call on its way at these places in the areas, and its work
+abbrev pub underWay : Line → ℕ → ℕ → Progress
+underWay l at sent = record { line = l; at = at; sent = sent }
+
+abbrev pub workOn : Line → ℕ → ℕ → Work
+workOn l at sent = record { flow = l .flow; at = at; sent = sent }
+
 -- a call at its beginning
 abbrev pub begun : Line → Progress
-begun l = record { line = l; at = 0; sent = 0 }
-
--- and its work, behind a report
-abbrev pub begunWork : Line → ℕ → Work
-begunWork l place = record { flow = l .flow; at = 0; sent = place }
+begun l = underWay l 0 0
 
 -- areas, as the puts of a call's bytes leave them
 at-front : (bs t t′ : List ℕ) (n : ℕ) → length bs ≤ length t → spot t′ n ≡ puts bs (spot t 0) → spot t′ n ≡ spot (areaAfter bs t) (length bs)

@@ -13,7 +13,8 @@ use Rattle.rules.specs.Messages.Forms as forms
 use Rattle.rules.specs.Turns.{Rule, still, sends, _then_}
 use Rattle.rules.specs.StartRead.Acceptance as rules
 use Rattle.rules.specs.Host.{ourInitiate, initiates, reports, setsCharacteristics, obeys}
-use Rattle.rules.specs.Calls.{areRoomy, isTimely, isPending, carriesQuestions, refusals, received, messageBytes}
+use Rattle.rules.specs.Calls.{areRoomy, isTimely, isPending, carriesQuestions, refusals, received, does, answersMessage, answers, messageBytes}
+use Rattle.rules.specs.Bounds.{isByteEvent}
 use Rattle.rules.specs.Area.{puts, spot}
 use Rattle.rules.specs.Messages.Codec as codec
 use Rattle.rules.specs.Messages.Codec.{Held, refused, fieldsAs, read}
@@ -37,8 +38,6 @@ use Rattle.line.specs.declared.Work.{Work}
 use Rattle.line.specs.declared.events.HostMessage.{HostMessage}
 use Rattle.line.specs.declared.events.HostMessage.the-variants.{Initiate, StartRead, Unread, ClearInput, Write, ReadCharacteristics, Characteristics, CheckInput}
 use Rattle.line.specs.View.{view, hostOf, pendingOf, readingOf}
-use Rattle.line.specs.declared.events.Event.the-variants.{Host}
-use Rattle.line.specs.Events.{eventRule}
 use Rattle.line.specs.declared.acts.Act.{Act}
 use Rattle.line.specs.declared.acts.Act.the-variants.{Obeys}
 use Rattle.line.specs.Acts.{Done}
@@ -52,8 +51,7 @@ use Rattle.line.specs.Promise.{Progress, on, Does}
 use Rattle.line.proofs.Turns.{then-does, changes-does, only-does, not-does}
 use Rattle.line.proofs.FlowChanges.{here-rule, for-equal}
 use Rattle.line.proofs.SentMessages.{sent-does}
-use Rattle.line.proofs.Answers.{doneAnswer, begun, begunWork, answered}
-use Rattle.line.proofs.EventRules.{eventOf, event-answers, event-bytes}
+use Rattle.line.proofs.Answers.{doneAnswer, workOn, begun, answered}
 use Rattle.line.proofs.ReceivedMessage.{true-false}
 use Rattle.line.proofs.HostAccepted.{questions-known}
 
@@ -156,7 +154,7 @@ module _ (s : List ℕ) (l : Line) (f : StartReadFields) (a : Accepted l s (Star
       }
 
   module _ (t before t′ m′ text′ : List ℕ) (r : Work) where
-    begins-does : Does (rules.begins codes x (readingOf opened (readingAt s f (l .flow .terminal .screen .column)))) (on opened (begunWork l 0)) t before (on (lent T text′ opened) r) t′ m′ →
+    begins-does : Does (rules.begins codes x (readingOf opened (readingAt s f (l .flow .terminal .screen .column)))) (on opened (workOn l 0 0)) t before (on (lent T text′ opened) r) t′ m′ →
         Does (rules.begins codes x (rules.openedRead codes x (view l))) (begun l) t before (on (lent T text′ opened) r) t′ m′
     begins-does d = at-view unseen (for-equal (rules.begins codes x) read-begins d)
 
@@ -176,18 +174,18 @@ module _ (s : List ℕ) (l : Line) (f : StartReadFields) (a : Accepted l s (Star
             not-does _ e
             (still-same (λ i. withHost (withLastSet (set i) (view opened .host)) (view (onFlow (r .flow) (lent T text′ opened)))) refl refl)
 
-    pub start-does : Does (rules.begins codes x (readingOf opened (readingAt s f (l .flow .terminal .screen .column)))) (on opened (begunWork l 0)) t before (on (lent T text′ opened) r) t′ m′ →
+    pub start-does : Does (rules.begins codes x (readingOf opened (readingAt s f (l .flow .terminal .screen .column)))) (on opened (workOn l 0 0)) t before (on (lent T text′ opened) r) t′ m′ →
         Does (rules.startsRead codes x) (begun l) t before (on (lent T text′ (onOpened T S X Z l)) r) t′ m′
     unfolding rules.startsRead
     start-does d = here-rule refl (then-does (begins-does d) remembers-does)
 
 -- nothing was set or reported before the call's work
 begun-as : {p : Rule ℕ} {r : Progress} {t t′ m′ before mid : List ℕ} (l next : Line) (place : ℕ) → next ≡ l → NoReport before place mid →
-    Does p (on next (begunWork next place)) t mid r t′ m′ → Does p (begun l) t before r t′ m′
+    Does p (on next (workOn next 0 place)) t mid r t′ m′ → Does p (begun l) t before r t′ m′
 begun-as {p} {r} {t} {t′} {m′} {before} {mid} l next place e i d =
     subst (λ z. Does p (begun z) t before r t′ m′) e
     (subst (λ n. Does p (record { line = next; at = 0; sent = n }) t before r t′ m′) (i .nothing)
-    (subst (λ b. Does p (on next (begunWork next place)) t b r t′ m′) (i .area) d))
+    (subst (λ b. Does p (on next (workOn next 0 place)) t b r t′ m′) (i .area) d))
 
 -- By the message's type.
 module _ (s t before mid t′ m′ text′ : List ℕ) (l next : Line) (place : ℕ) (r : Work) where
@@ -195,7 +193,7 @@ module _ (s t before mid t′ m′ text′ : List ℕ) (l next : Line) (place : 
   abbrev Works : HostMessage → Line → Type 0
   Works m n =
       (k : Line) → length (k .keys) ≡ typeAheadSize → Prompts (n .terms) k m →
-      Does (flowRule s (onFlow (n .flow) (lent (n .terms) (n .text) k)) m) (on (lent (n .terms) (n .text) k) (begunWork n place)) t mid
+      Does (flowRule s (onFlow (n .flow) (lent (n .terms) (n .text) k)) m) (on (lent (n .terms) (n .text) k) (workOn n 0 place)) t mid
       (on (lent (n .terms) text′ k) r) t′ m′
 
   start-turns : (f : StartReadFields) → Accepted l s (StartRead f) → length (l .keys) ≡ typeAheadSize → Opens s f l next → NoReport before place mid →
@@ -214,7 +212,7 @@ module _ (s t before mid t′ m′ text′ : List ℕ) (l next : Line) (place : 
       o d
 
   initiate-turns : next ≡ onInitiated l → NoReport before place mid →
-      Does (sends ourInitiate) (on next (begunWork next place)) t mid (on (lent (next .terms) text′ next) r) t′ m′ →
+      Does (sends ourInitiate) (on next (workOn next 0 place)) t mid (on (lent (next .terms) text′ next) r) t′ m′ →
       Does initiates (begun l) t before (on (lent (next .terms) text′ next) r) t′ m′
   unfolding initiates
   initiate-turns e i d =
@@ -222,7 +220,7 @@ module _ (s t before mid t′ m′ text′ : List ℕ) (l next : Line) (place : 
 
   report-turns : (p : Span) → Accepted l s (ReadCharacteristics p) → next ≡ l →
       Puts (reportBytes (hostOf next) (spanOf s p)) before 0 place mid →
-      Does still (on next (begunWork next place)) t mid (on (lent (next .terms) text′ next) r) t′ m′ →
+      Does still (on next (workOn next 0 place)) t mid (on (lent (next .terms) text′ next) r) t′ m′ →
       Does (obeys codes (questionsIn (spanOf s p))) (begun l) t before (on (lent (next .terms) text′ next) r) t′ m′
   unfolding obeys pick reports answerTo
   report-turns p a e puts d =
@@ -230,10 +228,10 @@ module _ (s t before mid t′ m′ text′ : List ℕ) (l next : Line) (place : 
       let bytes = report-carried (hostOf next) (spanOf s p) (view next) known in
       subst (λ z. Does (reports (questionsIn (spanOf s p))) (begun z) t before (on (lent (next .terms) text′ next) r) t′ m′) e
       (here-rule refl
-      (still-behind (sent-does {w = begunWork next 0} {v = begunWork next place} _ (equals bytes puts) refl next t) d))
+      (still-behind (sent-does {w = workOn next 0 0} {v = workOn next 0 place} _ (equals bytes puts) refl next t) d))
 
   settings-turns : (p : Span) → Sets (spanOf s p) l next → NoReport before place mid →
-      Does still (on next (begunWork next place)) t mid (on (lent (next .terms) text′ next) r) t′ m′ →
+      Does still (on next (workOn next 0 place)) t mid (on (lent (next .terms) text′ next) r) t′ m′ →
       Does (obeys codes (settingsIn (spanOf s p))) (begun l) t before (on (lent (next .terms) text′ next) r) t′ m′
   unfolding obeys pick setsCharacteristics
   settings-turns p e i d =
@@ -254,15 +252,20 @@ module _ (s t before mid t′ m′ text′ : List ℕ) (l next : Line) (place : 
   host-does (ReadCharacteristics p) a size more e i d = for-equal obeysHeld (sym (held-questions s p)) (report-turns p a e i (d next more tt))
   host-does (Characteristics p) a size more e i d = for-equal obeysHeld (sym (held-settings s p)) (settings-turns p e i (d next more tt))
 
+  -- the rules answer an accepted message by obeying it
+  message-answers : (m : HostMessage) → Accepted l s m → answers codes (calls.message s) (view l) ≡ does (obeysHeld (heldIn s (messageOf m))) (view l)
+  unfolding answers answersMessage obeysHeld
+  message-answers m a = ap (λ o. answersMessage codes o (view l)) (a .taken) ∙ ap (λ h. does (obeysHeld h) (view l)) (sym (a .held))
+
   -- and the call's answer
   pub host-answers : (m : HostMessage) → Bounded l → Accepted l s m → areRoomy (length t) (length before) ≡ true → SetBy s m l next →
       Reported s m next before place mid → {act : Act} → act ≡ Obeys m →
-      ((k : Line) → Done s act (next .terms) k (begunWork next place) (next .text) t mid r text′ t′ m′) → CountedFlow (r .flow) → length text′ ≡ inputSize →
+      ((k : Line) → Done s act (next .terms) k (workOn next 0 place) (next .text) t mid r text′ t′ m′) → CountedFlow (r .flow) → length text′ ≡ inputSize →
       Answers (calls.message s) l t before (doneAnswer (on (lent (next .terms) text′ next) r)) t′ m′
-  unfolding eventOf eventRule
+  unfolding isByteEvent
   host-answers m b a room set said {act} e d f size =
       let c = set-counted s l next m (b .counted) set in
-      let works : Works m next = λ k. subst (λ x. Done s x (next .terms) k (begunWork next place) (next .text) t mid r text′ t′ m′) e (d k) in
-      answered (calls.message s) l t before b (obeysHeld (heldIn s (messageOf m))) (event-answers l s (Host m) a) (event-bytes l s (Host m) a) room
+      let works : Works m next = λ k. subst (λ x. Done s x (next .terms) k (workOn next 0 place) (next .text) t mid r text′ t′ m′) e (d k) in
+      answered (calls.message s) l t before b (obeysHeld (heldIn s (messageOf m))) (message-answers m a) (a .bytes) room
       (on (lent (next .terms) text′ next) r) t′ m′ (host-does m a (b .counted .keys) (c .keys) set said works)
       (record { table = c .table; keys = c .keys; text = size; set = c .set; lastSet = c .lastSet; prompt = c .prompt; flow = f })

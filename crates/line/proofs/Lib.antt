@@ -20,7 +20,6 @@ mod Unread
 mod HostAccepted
 mod ActsDone
 pub mod Answers
-mod EventRules
 mod ReceivedMessage
 mod Blanking
 pub mod Chains

@@ -1,4 +1,4 @@
-// The calls: each makes an event; the act that it meets is chosen and done, and the flow put back.
+// The calls: each makes an event, a keystroke two; the act that it meets is chosen and done, and the flow put back.
 ghost use mathlib.Core.Path.{_≡_};
 ghost use Rattle.rules.specs.Calls as rules;
 ghost use Rattle.rules.specs.Calls.{areRoomy};
@@ -16,7 +16,6 @@ use crate::events::HostMessage;
 use crate::events::Lookup;
 use crate::events::Sender;
 use crate::events::sender_of;
-use crate::keys::code_of;
 use crate::keys::move_keys;
 use crate::refusals::are_roomy;
 use crate::refusals::early_row;
@@ -34,7 +33,7 @@ const NO_LOOKUP: Lookup = Lookup {
 };
 
 impl Line {
-    // A keystroke arrives.
+    // A keystroke arrives, and one step follows, which goes by the line as arrival left it.
     pub fn key(self, code: u8, terminal: &mut [u8], messages: &mut [u8]) -> Answer
         requires { ⌜ Bounded self ⌝ }
         ensures { λ r. ⌜ Answers (rules.key code) self (now (terminal .entry)) (now (messages .entry)) r (now (terminal .exit)) (now (messages .exit)) ⌝ }
@@ -52,14 +51,22 @@ impl Line {
             held: false,
             taken: NO_KEY,
         };
-        let act = flow.act_if(roomy, Event::Key(code), lookup, terms);
-        move_keys(&mut next.keys, typed.keys_len as usize, act);
+        let arrival = flow.act_if(roomy, Event::Key(code), lookup, terms);
+        move_keys(&mut next.keys, typed.keys_len as usize, arrival);
         let w = Work {
             flow,
             at: 0,
             sent: 0,
         };
-        let done = w.acts_on_key(act, terminal, messages, &next.text, terms);
+        let arrived = w.acts_on_key(arrival, terminal, messages, &next.text, terms);
+        let left = arrived.flow;
+        let waiting = left.typed;
+        let set = next.set;
+        let next_key = next.keys[0];
+        let seen = left.look_up_for_step(next_key, set, terms);
+        let act = left.act_if(roomy, Event::Step, seen, terms);
+        move_keys(&mut next.keys, waiting.keys_len as usize, act);
+        let done = arrived.acts_on_step(act, terminal, messages, &mut next.text, terms);
         let after = done.flow;
         next.flow = after;
         Answer {
@@ -70,6 +77,7 @@ impl Line {
         }
     }
 
+    // A bare step.
     pub fn step(self, terminal: &mut [u8], messages: &mut [u8]) -> Answer
         requires { ⌜ Bounded self ⌝ }
         ensures { λ r. ⌜ Answers rules.step self (now (terminal .entry)) (now (messages .entry)) r (now (terminal .exit)) (now (messages .exit)) ⌝ }
@@ -81,14 +89,7 @@ impl Line {
         let terms = next.terms;
         let set = next.set;
         let first = next.keys[0];
-        let raised = terms.raised_by(code_of(first));
-        let ends = set.has(raised);
-        let lookup = Lookup {
-            initiated: false,
-            attribute: 0,
-            held: typed.is_held(),
-            taken: flow.taken_as(first, ends, terms),
-        };
+        let lookup = flow.look_up_for_step(first, set, terms);
         let act = flow.act_if(roomy, Event::Step, lookup, terms);
         move_keys(&mut next.keys, typed.keys_len as usize, act);
         let w = Work {

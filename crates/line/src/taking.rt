@@ -1,9 +1,9 @@
-// Which act a step or a tick meets, and the first key taken.
+// Which act a step or a tick meets, what a step looks up for it, and the first key taken.
 ghost use Prim.Native.Nat.{ℕ, _<_};
 ghost use mathlib.Core.Path.{_≡_};
 ghost use mathlib.Core.Bool.{true};
 ghost use mathlib.Core.List.{List, []};
-ghost use lib.ListN.{length};
+ghost use lib.ListN.{length, getD};
 ghost use Rattle.rules.specs.Numbers.{inputSize, typeAheadSize};
 ghost use Rattle.rules.specs.State.{codes};
 ghost use Rattle.rules.specs.StartRead.{inSet};
@@ -19,14 +19,17 @@ ghost use Rattle.line.specs.With.{onFlow, lent};
 ghost use Rattle.line.specs.TokenChanges.{codesOf};
 ghost use Rattle.line.specs.KeyArray.{shifted};
 ghost use Rattle.line.specs.Promise.{DoesAcross, DoesOn};
+ghost use Rattle.line.specs.Events.{LookedUpForStep};
 ghost use Rattle.line.specs.Acts.{CanTakeKey, idleAtZero, takesKey, takenRule, HasTakenKey, callKindsOf, Meets, TakesFirst};
 use crate::Flow;
 use crate::Terms;
 use crate::Work;
 use crate::acts::Act;
 use crate::acts::Taken;
+use crate::events::Lookup;
 use crate::keys::code_of;
 use crate::keys::is_quoted;
+use sets::Set;
 
 impl Terms {
     // Rules 5, 6 and 7, after raising; `ends`: the code is in the termination set.
@@ -79,6 +82,24 @@ impl Flow {
         }
         let raised = t.raised_by(c);
         t.takes_plain(raised, ends)
+    }
+
+    // What a step looks up, from the first key and the read's set.
+    pub(crate) fn look_up_for_step(self, first: u16, set: Set, t: Terms) -> Lookup
+        requires { ⌜ CountedTyped (self .typed) ⌝ }
+        ensures { λ r.
+            ⌜ ((s : List ℕ) (l : Line) → Bounded (onFlow self (lent t (l .text) l)) → first ≡ getD (l .keys) 0 0 → set ≡ l .set →
+            LookedUpForStep s (onFlow self (lent t (l .text) l)) r) ⌝ }
+    {
+        let typed = self.typed;
+        let raised = t.raised_by(code_of(first));
+        let ends = set.has(raised);
+        Lookup {
+            initiated: false,
+            attribute: 0,
+            held: typed.is_held(),
+            taken: self.taken_as(first, ends, t),
+        }
     }
 
     // A locked step does nothing. A whole held token goes first; `taken` is how the first key would be taken.

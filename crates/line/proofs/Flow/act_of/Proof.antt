@@ -1,9 +1,8 @@
 use mathlib.Core.Path.{sym, ap, _∙_}
 use Rattle.line.specs.declared.acts.Act.the-variants.{Obeys}
-use Rattle.line.proofs.EventRules.{key-host, tick-host, step-host, event-same}
 use Rattle.line.specs.Events.{eventRule}
 use Rattle.line.specs.With.{onFlow, lent}
-use Rattle.line.proofs.ActChoice.{met, event-meets, kind-as, host-kind}
+use Rattle.line.proofs.ActChoice.{met, event-meets, kind-as, host-kind, key-host, tick-host, step-host, event-same}
 use borrow.Author.Needs.{needs}
 use Rattle.line.proofs.Flow.act_of.Statement.{statement}
 use Rattle.line.proofs.Flow.act_of.Tie as tie

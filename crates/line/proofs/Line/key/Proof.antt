@@ -1,16 +1,20 @@
 use native.Mathlib.Omega.{arith}
-use mathlib.Core.Path.{refl}
+use mathlib.Core.Path.{refl, ap, _∙_}
 use mathlib.Core.List.{[]}
-use Rattle.line.specs.declared.events.Event.the-variants.{Key}
-use Rattle.line.proofs.EventRules.{eventOf}
-use Rattle.line.proofs.ActsDone.{keyed-answers, keyed-doable, numbered}
+use lib.ListN.{length}
+use Rattle.line.specs.Events.{eventRule}
+use Rattle.line.specs.With.{onFlow, onKeys}
+use Rattle.line.proofs.KeyArrays.{after-length}
+use Rattle.line.proofs.ActsDone.{act-doable, keystroke-doable, keystroke-answers}
 use borrow.Author.Needs.{needs}
 use Rattle.line.proofs.Line.key.Statement.{statement}
 use Rattle.line.proofs.Line.key.Tie as tie
 use Rattle.line.proofs.Line.key.Reads as reads
 use Rattle.line.proofs.Line.key.Lts as lts
 use Rattle.line.proofs.Flow.act_if.Reads as act-if-reads
+use Rattle.line.proofs.Flow.look_up_for_step.Reads as look-up-for-step-reads
 use Rattle.line.proofs.Work.acts_on_key.Reads as acts-on-key-reads
+use Rattle.line.proofs.Work.acts_on_step.Reads as acts-on-step-reads
 use Rattle.line.proofs.keys.move_keys.Reads as move-keys-reads
 use Rattle.line.proofs.refusals.are_roomy.Reads as are-roomy-reads
 use Rattle.line.proofs.refusals.row_of.Reads as row-of-reads
@@ -33,31 +37,77 @@ move-keys-requires c κs = search needs
 acts-on-key-requires : tie.Need-acts-on-key-requires
 acts-on-key-requires c κs =
     let start = c .before .before .before .before .before .before .before .before .before .before .before .before .before .before .before .before in
+    let l = start .args .self in
+    let arrival = c .before .before .before .before .before .before .before .before .act-if .ensures in
+    (start .pre .counted .flow, (start .pre .counted .text, (act-doable l 0 0 (start .pre .counted) (λ y. arrival .0 [] l y (refl, refl)) (arrival .1 .0), arrival .1 .1)))
+
+element-copy-out-next-key : tie.Need-element-copy-out-next-key
+element-copy-out-next-key c = search needs
+
+look-up-for-step-requires : tie.Need-look-up-for-step-requires
+look-up-for-step-requires c κs = c .before .before .before .before .before .before .before .before .acts-on-key .ensures .0 .typed
+
+act-if-requires-2 : tie.Need-act-if-requires-2
+act-if-requires-2 c κs = c .before .before .before .before .before .before .before .before .before .acts-on-key .ensures .0 .typed
+
+cast-move-keys-2 : tie.Need-cast-move-keys-2
+cast-move-keys-2 c = search needs
+
+move-keys-requires-2 : tie.Need-move-keys-requires-2
+move-keys-requires-2 c κs =
+    let start = c .before .before .before .before .before .before .before .before .before .before .before .before .before .before .before .before .before .before .before .before .before .before .before .before .before .before .before .before .before in
+    let moved = c .before .before .before .before .before .before .before .before .before .before .before .before .before .before .before .before .before .before .move-keys .ensures in
+    (ap length moved ∙ after-length (c .before .before .before .before .before .before .before .before .before .before .before .before .before .before .before .before .before .before .before .before .before .act-if .result) (start .args .self .flow .typed .«keys_len») (start .args .self .keys) ∙ start .pre .counted .keys, c .before .before .before .before .before .before .before .before .before .before .before .before .acts-on-key .ensures .0 .typed .keysLength)
+
+acts-on-step-requires : tie.Need-acts-on-step-requires
+unfolding eventRule
+acts-on-step-requires c κs =
+    let start = c .before .before .before .before .before .before .before .before .before .before .before .before .before .before .before .before .before .before .before .before .before .before .before .before .before .before .before .before .before .before .before .before .before in
     let a = start .args in
     let l = a .self in
-    let act = c .before .before .before .before .before .before .before .before .act-if .ensures in
-    (start .pre .counted .flow, (start .pre .counted .text, (keyed-doable (Key (a .code)) l (start .pre) (a .terminal .now) (a .messages .now) (omega arith) (c .before .before .before .before .before .before .before .before .before .before .before .before .before .are-roomy .ensures) (λ y. act .0 [] l y (refl, refl)) (act .1 .0), act .1 .1)))
+    let arrival = c .before .before .before .before .before .before .before .before .before .before .before .before .before .before .before .before .before .before .before .before .before .before .before .before .before .act-if .ensures in
+    let moved = c .before .before .before .before .before .before .before .before .before .before .before .before .before .before .before .before .before .before .before .before .before .before .move-keys in
+    let arrived = c .before .before .before .before .before .before .before .before .before .before .before .before .before .before .before .before .acts-on-key in
+    let seen = c .before .before .before .before .before .before .before .look-up-for-step in
+    let act = c .before .before .before .before .before .before .act-if2 .ensures in (
+      arrived .ensures .0,
+      (
+        start .pre .counted .text,
+        (
+          keystroke-doable (a .code) (omega arith) l (start .pre) (a .terminal .now) (a .messages .now) (λ y. arrival .0 [] l y (refl, refl)) (arrival .1 .0)
+              (arrived .result) _ _ _ (moved .ensures) (arrived .ensures .0) (arrived .ensures .1 .0 l) (arrived .ensures .1 .1)
+              (λ y bounded. act .0 [] (onKeys _ l) y (seen .ensures [] (onKeys _ l) bounded refl refl)) (act .1 .0),
+          act .1 .1,
+        ),
+      ),
+    )
 
 row-of-requires : tie.Need-row-of-requires
 row-of-requires c κs = search needs
 
 same-length : tie.Need-same-length
-same-length c = search needs
+same-length c = c .before .before .before .before .before .before .acts-on-step .kept .1 .1 .0 ∙ c .before .before .before .before .before .before .before .before .before .before .before .before .before .before .before .before .before .before .before .before .before .before .before .acts-on-key .kept .1 .1 .0
 
 same-length-2 : tie.Need-same-length-2
-same-length-2 c = search needs
+same-length-2 c = c .before .before .before .before .before .before .acts-on-step .kept .1 .1 .1 .0 ∙ c .before .before .before .before .before .before .before .before .before .before .before .before .before .before .before .before .before .before .before .before .before .before .before .acts-on-key .kept .1 .1 .1 .0
 
 returns : tie.Need-returns
-unfolding eventOf
+unfolding eventRule
 returns c =
-    let start = c .before .before .before .before .before .before .before .before .before .before .before .before .before .before .before .before .before .before .before .before .before .before .before in
+    let start = c .before .before .before .before .before .before .before .before .before .before .before .before .before .before .before .before .before .before .before .before .before .before .before .before .before .before .before .before .before .before .before .before .before .before .before .before .before .before .before .before in
     let a = start .args in
     let l = a .self in
-    let act = c .before .before .before .before .before .before .before .before .before .before .before .before .before .before .before .act-if .ensures in
-    let done = c .before .before .before .before .before .before .acts-on-key in
-    numbered (c .row-of .ensures)
-    (keyed-answers (Key (a .code)) l (start .pre) (a .terminal .now) (a .messages .now) (omega arith) (c .before .before .before .before .before .before .before .before .before .before .before .before .before .before .before .before .before .before .before .before .are-roomy .ensures) (λ y. act .0 [] l y (refl, refl)) (act .1 .0)
-    (done .result) _ (l .text) _ _ (c .before .before .before .before .before .before .before .before .before .before .before .before .move-keys .ensures) (done .ensures .0) (start .pre .counted .text) (done .ensures .1 .0 l) (λ n. (done .ensures .1 .1 n, refl)))
+    let arrival = c .before .before .before .before .before .before .before .before .before .before .before .before .before .before .before .before .before .before .before .before .before .before .before .before .before .before .before .before .before .before .before .before .act-if .ensures in
+    let moved = c .before .before .before .before .before .before .before .before .before .before .before .before .before .before .before .before .before .before .before .before .before .before .before .before .before .before .before .before .before .move-keys in
+    let arrived = c .before .before .before .before .before .before .before .before .before .before .before .before .before .before .before .before .before .before .before .before .before .before .before .acts-on-key in
+    let seen = c .before .before .before .before .before .before .before .before .before .before .before .before .before .before .look-up-for-step in
+    let act = c .before .before .before .before .before .before .before .before .before .before .before .before .before .act-if2 .ensures in
+    let done = c .before .before .before .before .before .before .acts-on-step in
+    keystroke-answers (a .code) (omega arith) l (start .pre) (a .terminal .now) (a .messages .now) (λ y. arrival .0 [] l y (refl, refl)) (arrival .1 .0)
+    (arrived .result) _ _ _ (moved .ensures) (arrived .ensures .0) (arrived .ensures .1 .0 l) (arrived .ensures .1 .1)
+    (λ y bounded. act .0 [] (onKeys _ l) y (seen .ensures [] (onKeys _ l) bounded refl refl)) (act .1 .0)
+    (c .before .before .before .before .before .before .before .before .before .before .before .before .before .before .before .before .before .before .before .before .before .before .before .before .before .before .before .before .before .before .before .before .before .before .before .before .before .are-roomy .ensures) (done .result) _ _ _ _ (c .before .before .before .before .before .before .before .before .before .before .move-keys2 .ensures) (done .ensures .0) (done .ensures .1 .0) (done .ensures .1 .1 .0 (onFlow (arrived .result .flow) (onKeys _ l))) (done .ensures .1 .1 .1)
+    (c .row-of .ensures)
 
 pub key-spec : {M : Type 1} → statement M
 key-spec =
@@ -69,6 +119,12 @@ key-spec =
     cast-move-keys
     move-keys-requires
     acts-on-key-requires
+    element-copy-out-next-key
+    look-up-for-step-requires
+    act-if-requires-2
+    cast-move-keys-2
+    move-keys-requires-2
+    acts-on-step-requires
     row-of-requires
     same-length
     same-length-2

@@ -1,8 +1,12 @@
 use mathlib.Core.Path.{refl}
 use mathlib.Core.List.{[]}
-use Rattle.line.specs.declared.events.Event.the-variants.{Tick}
-use Rattle.line.proofs.EventRules.{eventOf}
-use Rattle.line.proofs.ActsDone.{keyed-answers, keyed-doable, numbered}
+use Rattle.rules.specs.State.{codes}
+use Rattle.rules.specs.Steps.{ticks}
+use Rattle.rules.specs.Calls as rules
+use Rattle.rules.specs.Calls.{answers}
+use Rattle.rules.specs.Bounds.{isByteEvent}
+use Rattle.line.specs.Events.{eventRule}
+use Rattle.line.proofs.ActsDone.{act-done, acted-answers}
 use borrow.Author.Needs.{needs}
 use Rattle.line.proofs.Line.tick.Statement.{statement}
 use Rattle.line.proofs.Line.tick.Tie as tie
@@ -43,16 +47,17 @@ same-length : tie.Need-same-length
 same-length c = search needs
 
 returns : tie.Need-returns
-unfolding eventOf
+unfolding answers isByteEvent eventRule
 returns c =
     let start = c .before .before .before .before .before .before .before .before .before .before .before .before .before .before .before .before .before .before .before .before in
     let a = start .args in
     let l = a .self in
     let act = c .before .before .before .before .before .before .before .before .before .before .before .before .act-if .ensures in
     let done = c .before .before .before .before .acts-on-tick in
-    numbered (c .row-of .ensures)
-    (keyed-answers Tick l (start .pre) (a .terminal .now) (a .messages .now) tt (c .before .before .before .before .before .before .before .before .before .before .before .before .before .before .before .before .before .are-roomy .ensures) (λ y. act .0 [] l y (c .before .before .before .before .before .before .before .before .before .before .before .before .before .is-held .ensures)) (act .1 .0)
+    acted-answers rules.tick l (start .pre) (a .terminal .now) (a .messages .now) (ticks codes) refl refl refl (c .before .before .before .before .before .before .before .before .before .before .before .before .before .before .before .before .before .are-roomy .ensures)
+    (act-done l 0 0 (start .pre .counted) (λ y. act .0 [] l y (c .before .before .before .before .before .before .before .before .before .before .before .before .before .is-held .ensures)) (act .1 .0)
     (done .result) _ (l .text) _ _ (c .before .before .before .before .before .before .before .before .before .move-keys .ensures) (done .ensures .0) (start .pre .counted .text) (done .ensures .1 .0 l _) (λ n. (done .ensures .1 .1 n, refl)))
+    (c .row-of .ensures)
 
 pub tick-spec : {M : Type 1} → statement M
 tick-spec =
