@@ -1,4 +1,4 @@
-# make test: every proof and test. make run: bench case B, call by call. make bench: calls a second.
+# make test: every proof and test. make run: bench case B, call by call. make bench: calls a second, and the kernel's own line discipline.
 CARGO = cargo --quiet
 TESTS = --offline --release --manifest-path tests/Cargo.toml
 REPLAY = target/bin/replay
@@ -15,6 +15,7 @@ run: $(REPLAY)
 bench: $(REPLAY)
 	@$(CARGO) build $(TESTS) --bins
 	@$(CARGO) run $(TESTS) --bin bench
+	@$(CARGO) run $(TESTS) --bin pty
 
 # How far it is goes beside the answers. It links anew only what has changed: the date shows that it has looked.
 $(REPLAY): $(SOURCES)

@@ -12,4 +12,5 @@ pub mod replay;
 pub mod screen;
 pub mod script;
 pub mod settings;
+pub mod timing;
 pub mod vectors;

@@ -8,6 +8,7 @@
 
 use second::message::{self, Message, StartRead};
 use second::script::{lines, Order};
+use second::timing::{middle, processor_time, Whose, LENGTHS};
 use second::{compare, generator, replay};
 use std::fmt::Write as _;
 use std::fs::File;
@@ -20,11 +21,7 @@ const RUNS: usize = 45;
 /// them would take most of the time.
 const SELDOM: usize = 3;
 const CALLS: usize = 1_000_000;
-const CYCLES: usize = 50_000;
-
-/// How many characters are in the buffer when the key of a cycle arrives; its
-/// rub-out finds one more. At 131 a key would end the read.
-const LENGTHS: [usize; 9] = [0, 16, 32, 48, 64, 80, 96, 112, 130];
+const CYCLES: usize = 100_000;
 
 fn main() -> io::Result<()> {
     let mut scripts = vec![generator::script(1, CALLS)];
@@ -52,15 +49,6 @@ impl Times {
     fn of_calls(&self) -> f64 {
         middle(&self.whole) - middle(&self.spoiled)
     }
-}
-
-/// The mean of all but the fastest and the slowest ninth.
-fn middle(seconds: &[f64]) -> f64 {
-    let mut sorted = seconds.to_vec();
-    sorted.sort_by(f64::total_cmp);
-    let out = sorted.len() / 9;
-    let kept = &sorted[out..sorted.len() - out];
-    kept.iter().sum::<f64>() / kept.len() as f64
 }
 
 /// The proved program's times, and the second implementation's.
@@ -102,7 +90,7 @@ fn print_calls(calls: u64, both: &Both) {
 }
 
 fn print_keystrokes(rows: &[Both]) {
-    println!("\nns for a key, a step, a rub-out and a step, by characters in the buffer");
+    println!("\nns for a key and a rub-out, each with its step, by characters in the buffer");
     println!("characters    replay    second     ratio");
     for (length, both) in LENGTHS.iter().zip(rows) {
         let [proved, second] = both;
@@ -138,37 +126,14 @@ fn typing(length: usize) -> String {
     let start = message::write(&Message::StartRead(start), message::LONGEST).expect("sound");
     let mut script = String::from("M 01000100002020202020202020\n");
     let _ = writeln!(script, "{}", Order::Host(start));
-    script + &"K 67\nS\nK 7F\nS\n".repeat(CYCLES)
+    script + &"K 67\nK 7F\n".repeat(CYCLES)
 }
 
 /// The processor time of one run.
 fn seconds(program: &Path, script: &Path) -> io::Result<f64> {
-    let before = time_of_children()?;
+    let before = processor_time(Whose::Children)?;
     let mut command = Command::new(program);
     let status = command.stdin(File::open(script)?).stdout(Stdio::null()).status()?;
     assert!(status.success(), "{}: {status}", program.display());
-    Ok(time_of_children()? - before)
-}
-
-/// The standard library does not tell processor time. The layout is that of
-/// 64-bit Linux: user and system time in seconds and microseconds, and counts.
-fn time_of_children() -> io::Result<f64> {
-    #[repr(C)]
-    #[derive(Default)]
-    struct Usage {
-        user: [i64; 2],
-        system: [i64; 2],
-        counts: [i64; 14],
-    }
-    extern "C" {
-        fn getrusage(who: i32, usage: *mut Usage) -> i32;
-    }
-    const CHILDREN: i32 = -1;
-    let mut usage = Usage::default();
-    // Safe: the call fills the struct that it is lent, and keeps nothing.
-    if unsafe { getrusage(CHILDREN, &mut usage) } != 0 {
-        return Err(io::Error::last_os_error());
-    }
-    let of = |time: [i64; 2]| time[0] as f64 + time[1] as f64 / 1e6;
-    Ok(of(usage.user) + of(usage.system))
+    Ok(processor_time(Whose::Children)? - before)
 }
