@@ -1,11 +1,13 @@
 //! What occurred while scripts ran: how often each completion code, refusal
 //! number, message type and rule of page 01 and the requests was met.
 
+pub mod steps;
 pub mod tokens;
 pub mod writes;
 
 use crate::settings::{self, Flaw, Source, FLAWS, SECTIONS};
 use std::fmt;
+use steps::Steps;
 use tokens::Tokens;
 use writes::Writes;
 
@@ -113,6 +115,7 @@ pub struct Coverage {
     flaws: [[u64; FLAWS.len()]; 2],
     /// How often each section number was asked for.
     pub asked: [u64; DIGITS],
+    pub steps: Steps,
     pub tokens: Tokens,
     pub writes: Writes,
 }
@@ -131,6 +134,7 @@ impl Default for Coverage {
             loaded: Default::default(),
             flaws: [[0; FLAWS.len()]; 2],
             asked: [0; DIGITS],
+            steps: Steps::default(),
             tokens: Tokens::default(),
             writes: Writes::default(),
         }
@@ -201,6 +205,7 @@ impl Coverage {
         for (mine, more) in pairs.chain(self.rules.iter_mut().zip(&other.rules)) {
             *mine += more;
         }
+        self.steps.add(&other.steps);
         self.tokens.add(&other.tokens);
         self.writes.add(&other.writes);
     }
@@ -224,6 +229,7 @@ impl Coverage {
         table.extend([0, 2, 3, 5].map(|no| (format!("reading {no}"), self.read_numbers[no])));
         table.extend(RULES.iter().map(|rule| (format!("{rule:?}"), self.rules[*rule as usize])));
         self.settings_table(&mut table);
+        table.extend(self.steps.table());
         table.extend(self.writes.table());
         table
     }

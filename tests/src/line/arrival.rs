@@ -15,8 +15,27 @@ pub const DISCARD_KEY: u8 = 15;
 pub const QUOTE_KEY: u8 = 22;
 pub const CLEAR_KEY: u8 = 24;
 
+/// What an arrival came to. A key is stored alone, or behind others that wait.
+#[derive(Clone, Copy, Debug, PartialEq, Eq)]
+pub enum Arrival {
+    Stored,
+    StoredBehind,
+    Quoted,
+    QuotedBehind,
+    Dropped,
+    QuotedDropped,
+    Hello,
+    ImmediateClear,
+    Quote,
+    Clear,
+    DiscardOn,
+    /// Turns discard on, on a locked line.
+    Unlock,
+    DiscardOff,
+}
+
 impl Line {
-    pub(super) fn arrive(&mut self, code: u8, out: &mut Answer) {
+    pub(super) fn arrive(&mut self, code: u8, out: &mut Answer) -> Arrival {
         if !self.initiated {
             self.seen.met(Rule::KeyBeforeInitiate);
             return self.store(code, false, out);
@@ -36,6 +55,7 @@ impl Line {
                 self.seen.met_if(self.locked, Rule::LockedKeyHello);
                 self.seen.met_if(self.loaded.attributes, Rule::KeyLoadedHello);
                 self.send(Message::OutOfBand { discard: false, character: code }, out);
+                Arrival::Hello
             }
             (IMMEDIATE_CLEAR, _) => self.immediate_clear(code, out),
             (_, QUOTE_KEY | CLEAR_KEY | DISCARD_KEY) if !all_off => self.control(code, out),
@@ -45,12 +65,12 @@ impl Line {
                 let discard_stored = all_off && code == DISCARD_KEY;
                 self.seen.met_if(discard_stored, Rule::KeyDiscardDdd3);
                 self.seen.met_if(discard_stored && self.locked, Rule::LockedKeyDiscardDdd3);
-                self.store(code, false, out);
+                self.store(code, false, out)
             }
         }
     }
 
-    fn immediate_clear(&mut self, code: u8, out: &mut Answer) {
+    fn immediate_clear(&mut self, code: u8, out: &mut Answer) -> Arrival {
         self.seen.met_if(self.loaded.attributes, Rule::KeyLoadedClear);
         self.send(Message::OutOfBand { discard: false, character: code }, out);
         self.clear(false, out);
@@ -63,14 +83,16 @@ impl Line {
             self.seen.met(Rule::KeyImmediateClearIdle);
             self.seen.met_if(locked, Rule::ImmediateClearUnlocksIdle);
         }
+        Arrival::ImmediateClear
     }
 
-    fn control(&mut self, code: u8, out: &mut Answer) {
+    fn control(&mut self, code: u8, out: &mut Answer) -> Arrival {
         match code {
             QUOTE_KEY => {
                 self.seen.met(Rule::KeyQuote);
                 self.seen.met_if(self.locked, Rule::LockedKeyQuote);
                 self.quote_pending = true;
+                Arrival::Quote
             }
             CLEAR_KEY => {
                 let pending = self.read.is_some();
@@ -78,14 +100,20 @@ impl Line {
                 self.seen.met_if(self.locked && pending, Rule::LockedKeyClearRead);
                 self.seen.met_if(self.locked && !pending, Rule::LockedKeyClearIdle);
                 self.clear(true, out);
+                Arrival::Clear
             }
             _ => self.flip_discard(out),
         }
     }
 
     /// 15; when it turns discard on it unlocks too.
-    fn flip_discard(&mut self, out: &mut Answer) {
+    fn flip_discard(&mut self, out: &mut Answer) -> Arrival {
         self.discard = !self.discard;
+        let arrival = match (self.discard, self.locked) {
+            (true, false) => Arrival::DiscardOn,
+            (true, true) => Arrival::Unlock,
+            (false, _) => Arrival::DiscardOff,
+        };
         if self.discard {
             self.seen.met(Rule::KeyDiscardOn);
             self.seen.met_if(self.locked, Rule::DiscardOnUnlocks);
@@ -95,21 +123,29 @@ impl Line {
             self.seen.met_if(self.locked, Rule::DiscardOffKeepsLock);
         }
         self.send(Message::DiscardState { shown: !self.discard }, out);
+        arrival
     }
 
-    fn store(&mut self, code: u8, quoted: bool, out: &mut Answer) {
+    fn store(&mut self, code: u8, quoted: bool, out: &mut Answer) -> Arrival {
         if self.type_ahead.len() == TYPE_AHEAD {
             self.seen.met(Rule::KeyDropped);
             self.seen.met_if(self.locked, Rule::LockedKeyDropped);
             self.seen.met_if(quoted, Rule::KeyQuotedDropped);
             self.screen.send(BEL, &mut out.terminal);
             self.dropped = self.dropped.saturating_add(1);
-            return;
+            return if quoted { Arrival::QuotedDropped } else { Arrival::Dropped };
         }
         self.seen.met(Rule::KeyStored);
         self.seen.met_if(self.locked, Rule::LockedKeyStored);
+        let alone = self.type_ahead.is_empty();
         self.type_ahead.push_back(Key { code, quoted });
         self.idle = 0;
+        match (quoted, alone) {
+            (false, true) => Arrival::Stored,
+            (false, false) => Arrival::StoredBehind,
+            (true, true) => Arrival::Quoted,
+            (true, false) => Arrival::QuotedBehind,
+        }
     }
 
     /// The clear rule; immediate clear does it without rubbing out.

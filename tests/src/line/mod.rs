@@ -5,7 +5,7 @@ mod deleting;
 mod host;
 mod loading;
 mod reads;
-mod steps;
+pub mod steps;
 pub mod tokens;
 mod writes;
 
@@ -188,14 +188,23 @@ impl Line {
         self.type_ahead.len()
     }
 
-    /// A keystroke arrives.
+    /// A keystroke arrives, and a step follows in the same call. It finds the
+    /// line as arrival left it: a read may be gone by then, or a lock.
     pub fn key(&mut self, code: u8, areas: Areas) -> Answer {
-        self.call(areas, |line, out| line.arrive(code, out))
+        self.call(areas, |line, out| {
+            let arrival = line.arrive(code, out);
+            let stepped = line.take_step(out);
+            line.seen.steps.after(arrival, stepped);
+        })
     }
 
-    /// One step.
+    /// A step by itself, for keys that waited before a Start Read.
     pub fn step(&mut self, areas: Areas) -> Answer {
-        self.call(areas, Line::take_step)
+        self.call(areas, |line, out| {
+            line.note_step_held_back();
+            let stepped = line.take_step(out);
+            line.seen.steps.alone(stepped);
+        })
     }
 
     /// A second has passed.

@@ -11,31 +11,62 @@ const DELETE_WORD: u8 = 23;
 const DELETE_LINE: u8 = 21;
 const REDISPLAY: u8 = 18;
 
+/// What a step did, or why there was none.
+#[derive(Clone, Copy, Debug, PartialEq, Eq)]
+pub enum Stepped {
+    NoRead,
+    /// A read is pending, on a locked line.
+    Locked,
+    /// There is nothing to take.
+    Nothing,
+    /// Took a key, and the read goes on.
+    Key,
+    KeyCompletes,
+    TokenFits,
+    TokenAbsentee,
+    Timeout,
+}
+
 impl Line {
-    pub(super) fn take_step(&mut self, out: &mut Answer) {
-        if !self.may_step() {
-            return self.note_step_not_taken();
+    /// One step, if a read is pending and the line is not locked.
+    pub(super) fn take_step(&mut self, out: &mut Answer) -> Stepped {
+        let Some(read) = &self.read else { return Stepped::NoRead };
+        if self.locked {
+            return Stepped::Locked;
         }
-        let Some(read) = &self.read else { return };
         if let Some(token) = self.held.take() {
             self.seen.met_if(!read.escapes, Rule::StepHeldUnrecognised);
             let fits = self.offer(token, out);
             self.seen.met(if fits { Rule::StepHeldFits } else { Rule::StepHeldAbsentee });
-            return;
+            return if fits { Stepped::TokenFits } else { Stepped::TokenAbsentee };
         }
         let at_once = read.timeout == Some(0);
         match self.type_ahead.pop_front() {
-            Some(key) => self.take_key(key, out),
+            Some(key) => {
+                self.take_key(key, out);
+                if self.read.is_some() {
+                    Stepped::Key
+                } else {
+                    Stepped::KeyCompletes
+                }
+            }
             None if at_once => {
                 self.seen.met(Rule::StepTimeoutZero);
                 self.complete(TIMEOUT, 0, out);
+                Stepped::Timeout
             }
-            None => self.seen.met(Rule::StepEmpty),
+            None => {
+                self.seen.met(Rule::StepEmpty);
+                Stepped::Nothing
+            }
         }
     }
 
-    /// Counts a step that may not act, by what it would have done.
-    fn note_step_not_taken(&mut self) {
+    /// Counts a step by itself that may not act, by what it would have done.
+    pub(super) fn note_step_held_back(&mut self) {
+        if self.may_step() {
+            return;
+        }
         let Some(read) = &self.read else {
             self.seen.met_if(self.locked, Rule::LockedStepNoRead);
             return self.seen.met(Rule::StepNoRead);

@@ -1,0 +1,117 @@
+//! What steps did, or why there was none: of steps by themselves, and of the
+//! step that follows each kind of arrival (M-104).
+
+use crate::line::arrival::Arrival;
+use crate::line::steps::Stepped;
+
+const ARRIVALS: [Arrival; 13] = [
+    Arrival::Stored,
+    Arrival::StoredBehind,
+    Arrival::Quoted,
+    Arrival::QuotedBehind,
+    Arrival::Dropped,
+    Arrival::QuotedDropped,
+    Arrival::Hello,
+    Arrival::ImmediateClear,
+    Arrival::Quote,
+    Arrival::Clear,
+    Arrival::DiscardOn,
+    Arrival::Unlock,
+    Arrival::DiscardOff,
+];
+
+const STEPPED: [Stepped; 8] = [
+    Stepped::NoRead,
+    Stepped::Locked,
+    Stepped::Nothing,
+    Stepped::Key,
+    Stepped::KeyCompletes,
+    Stepped::TokenFits,
+    Stepped::TokenAbsentee,
+    Stepped::Timeout,
+];
+
+#[derive(Clone, Debug, Default, PartialEq, Eq)]
+pub struct Steps {
+    alone: [u64; STEPPED.len()],
+    after: [[u64; STEPPED.len()]; ARRIVALS.len()],
+}
+
+impl Steps {
+    /// A step by itself.
+    pub fn alone(&mut self, stepped: Stepped) {
+        self.alone[stepped as usize] += 1;
+    }
+
+    /// The step of a key.
+    pub fn after(&mut self, arrival: Arrival, stepped: Stepped) {
+        self.after[arrival as usize][stepped as usize] += 1;
+    }
+
+    pub fn add(&mut self, other: &Steps) {
+        let mine = self.alone.iter_mut().chain(self.after.as_flattened_mut());
+        let more = other.alone.iter().chain(other.after.as_flattened());
+        mine.zip(more).for_each(|(mine, more)| *mine += more);
+    }
+
+    /// Each thing that can be reached, with its count.
+    pub fn table(&self) -> Vec<(String, u64)> {
+        let alone = |stepped| (format!("step alone: {stepped:?}"), self.alone[stepped as usize]);
+        let mut table: Vec<(String, u64)> = STEPPED.map(alone).to_vec();
+        for arrival in ARRIVALS {
+            let counts = STEPPED.into_iter().zip(self.after[arrival as usize]);
+            let counts = counts.filter(|(stepped, _)| can_follow(arrival, *stepped));
+            table.extend(counts.map(|(done, n)| (format!("key {arrival:?}: {done:?}"), n)));
+        }
+        table
+    }
+}
+
+/// Whether an arrival can leave a line on which its step does this.
+fn can_follow(arrival: Arrival, stepped: Stepped) -> bool {
+    match arrival {
+        // At least one key waits: this one, or 64 others.
+        Arrival::Stored
+        | Arrival::StoredBehind
+        | Arrival::Quoted
+        | Arrival::QuotedBehind
+        | Arrival::Dropped
+        | Arrival::QuotedDropped => !matches!(stepped, Stepped::Nothing | Stepped::Timeout),
+        // No read is left.
+        Arrival::ImmediateClear => stepped == Stepped::NoRead,
+        // No key and no token is left.
+        Arrival::Clear => matches!(
+            stepped,
+            Stepped::NoRead | Stepped::Locked | Stepped::Nothing | Stepped::Timeout
+        ),
+        // The first finds the line unlocked, the second unlocks it.
+        Arrival::DiscardOn | Arrival::Unlock => stepped != Stepped::Locked,
+        Arrival::Hello | Arrival::Quote | Arrival::DiscardOff => true,
+    }
+}
+
+#[cfg(test)]
+mod tests {
+    use super::*;
+
+    #[test]
+    fn a_step_is_counted_by_what_came_before_it() {
+        let mut steps = Steps::default();
+        steps.alone(Stepped::Key);
+        steps.after(Arrival::Hello, Stepped::Timeout);
+        let mut twice = steps.clone();
+        twice.add(&steps);
+        let met: Vec<(String, u64)> = twice.table().into_iter().filter(|row| row.1 > 0).collect();
+        assert_eq!(met, [("step alone: Key".into(), 2), ("key Hello: Timeout".into(), 2)]);
+    }
+
+    #[test]
+    fn only_what_can_be_reached_is_asked_for() {
+        let table = Steps::default().table();
+        let asked = |name: &str| table.iter().any(|row| row.0 == name);
+        assert!(asked("key Dropped: TokenAbsentee") && !asked("key Dropped: Nothing"));
+        assert!(asked("key ImmediateClear: NoRead") && !asked("key ImmediateClear: Timeout"));
+        assert!(asked("key Clear: Timeout") && !asked("key Clear: TokenFits"));
+        assert!(asked("key DiscardOff: Locked") && !asked("key Unlock: Locked"));
+    }
+}
