@@ -133,23 +133,22 @@ impl Bench {
         told(&self.call(Order::Tick))
     }
 
-    /// Each key arrives and is followed by a step; gives all that was written.
+    /// Types the keys; gives all that was written.
     pub fn typed(&mut self, codes: &[u8]) -> (String, String) {
         let (mut terminal, mut messages) = (Vec::new(), Vec::new());
         for code in codes {
-            for order in [Order::Key(*code), Order::Step] {
-                let answer = self.call(order);
-                assert_eq!(answer.number, 0);
-                terminal.extend(answer.terminal);
-                messages.extend(answer.messages.iter().map(|message| hex(message)));
-            }
+            let answer = self.call(Order::Key(*code));
+            assert_eq!(answer.number, 0);
+            terminal.extend(answer.terminal);
+            messages.extend(answer.messages.iter().map(|message| hex(message)));
         }
         (hex(&terminal), messages.join(" | "))
     }
 
+    /// Types keys that write nothing: no read takes them yet.
     pub fn keys(&mut self, codes: &[u8]) {
         for code in codes {
-            assert_eq!(self.key(*code), (0, String::new(), String::new()));
+            assert_eq!(self.key(*code), done("", ""));
         }
     }
 
@@ -169,6 +168,10 @@ impl Bench {
         });
     }
 }
+
+/// Writes without output that lock and unlock.
+pub const LOCKING: &str = "07 01 00 00 00";
+pub const UNLOCKING: &str = "07 00 00 00 00";
 
 /// A Start Read to be filled in: flags, lengths, set and data.
 pub struct Start {
@@ -254,4 +257,9 @@ pub fn pair(terminal: &str, messages: &str) -> (String, String) {
 
 pub fn done(terminal: &str, messages: &str) -> (u8, String, String) {
     (0, terminal.to_string(), messages.to_string())
+}
+
+/// What rubbing out so many marks writes.
+pub fn rubbed(marks: usize) -> String {
+    "08 20 08 ".repeat(marks).trim_end().to_owned()
 }

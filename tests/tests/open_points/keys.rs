@@ -33,7 +33,9 @@ fn point_21_clearing_under_ddd() {
         assert_eq!(bench.key(24), done("", ""));
         assert_eq!(bench.host("05 00"), done("", "03 06 00 00 00 00 00 00"));
     }
+    // Stored under DDD 3; a lock lets it wait.
     start(UU2 | ZZ2 | (3 * DDD), b"", b"ab").on(&mut bench);
+    assert_eq!(bench.number(LOCKING), 0);
     assert_eq!(bench.key(24), done("", ""));
     assert_eq!(bench.host("0C 00"), done("", "0D 00 01 00"));
     assert_eq!(bench.host("06 00"), done("08 20 08 08 20 08", ""));
@@ -66,10 +68,7 @@ fn point_24_what_sets_idle_to_zero() {
         start(ZZ2 | Q | EE2, b"", b"").timeout(3).on(&mut bench);
         bench.tick();
         bench.tick();
-        for code in codes {
-            bench.key(*code);
-            bench.step();
-        }
+        bench.typed(codes);
         (0..ticks).any(|_| !bench.tick().2.is_empty())
     };
     assert!(timed_out(&[], 1));
@@ -84,8 +83,8 @@ fn point_24_what_sets_idle_to_zero() {
 fn point_25_an_out_of_band_completion() {
     let mut bench = Bench::initiated();
     assert_eq!(bench.number("0B 00 02 02 03 03 01"), 0);
-    start(ZZ2, b"? ", b"abc").on(&mut bench);
     bench.keys(b"xy");
+    start(ZZ2, b"? ", b"abc").on(&mut bench);
     let answer = "04 00 03 | 03 03 02 00 00 05 00 00";
     assert_eq!(bench.key(3), done("", answer));
     assert_eq!(bench.host("0C 00"), done("", "0D 00 00 00"));
@@ -96,6 +95,8 @@ fn point_26_bel_without_echo() {
     let mut bench = Bench::initiated();
     start(UU1 | ZZ2 | N, b"", b"").on(&mut bench);
     assert_eq!(bench.typed(&[127, 23]), pair("07 07", ""));
+    assert_eq!(bench.number("05 00"), 0);
     bench.keys(&[b'k'; 64]);
+    start(ZZ2 | N, b"", b"").on(&mut bench);
     assert_eq!(bench.key(b'k'), done("07", ""));
 }

@@ -2,11 +2,6 @@
 
 use crate::common::*;
 
-/// What rubbing out so many marks writes.
-fn rubbed(marks: usize) -> String {
-    "08 20 08 ".repeat(marks).trim_end().to_owned()
-}
-
 #[test]
 fn point_35_tabs_and_the_column_of_the_display() {
     let mut bench = Bench::initiated();

@@ -270,8 +270,8 @@ fn a_load_is_lent_no_areas() {
 #[test]
 fn an_unsound_record_leaves_the_line_as_it_was() {
     let mut bench = Bench::initiated();
-    start(Q, b"? ", b"ab").timeout(9).on(&mut bench);
     bench.keys(b"cd");
+    start(Q, b"? ", b"ab").timeout(9).on(&mut bench);
     let mut spoiled = full();
     spoiled[20] = 6;
     unsound(&mut bench, &spoiled);
@@ -292,13 +292,15 @@ fn a_load_changes_nothing_else() {
     assert_eq!(bench.tick(), done("", "03 05 04 00 00 04 02 00 61 62"));
     start(ZZ2 | EE2, b"", b"").on(&mut bench);
     // A quote, discard, a partial token and keys that wait outlast it.
-    bench.typed(&[27, b'[']);
-    bench.keys(b"5~k");
     assert_eq!(bench.key(15), done("", "09 00"));
+    bench.typed(&[27, b'[']);
+    assert_eq!(bench.number(LOCKING), 0);
+    bench.keys(b"5~k");
     bench.keys(&[22]);
     assert_eq!(bench.load(&quiet, &nothing()), 0);
     bench.keys(&[13]);
     assert_eq!(bench.host("0C 00"), done("", "0D 00 06 00"));
+    assert_eq!(bench.number(UNLOCKING), 0);
     assert_eq!(bench.step(), done("", ""));
     assert_eq!(bench.step(), done("", "03 11 00 00 00 00 00 00 1B 5B 35 7E"));
     start(ZZ2, b"", b"").on(&mut bench);

@@ -2,38 +2,39 @@
 
 use super::*;
 
-/// A read with a key that waits, on a locked line.
+/// A locked line with a half-typed read, and a key that waits.
 fn locked() -> Bench {
     let mut bench = half_typed(0);
-    bench.keys(b"c");
     assert_eq!(write(LOCK, b"").shown(&mut bench), "");
+    bench.keys(b"c");
     bench
 }
 
-/// Whether steps are held back: none takes the key that waits.
+/// Whether steps are held back, that of a key and one by itself. If not, the
+/// key shows one `c`, and the step another that waited.
 fn is_locked(bench: &mut Bench) -> bool {
-    match bench.step() {
-        (0, terminal, _) if terminal == "63" => false,
-        (0, terminal, messages) if terminal.is_empty() && messages.is_empty() => true,
-        other => panic!("{other:?}"),
+    let (key, step) = (bench.key(b'c'), bench.step());
+    if key == done("", "") {
+        assert_eq!(step, key);
+        return true;
     }
+    assert_eq!(key, done("63", ""));
+    assert!([done("", ""), done("63", "")].contains(&step), "{step:?}");
+    false
 }
 
 /// Whether steps are held back when all keys were cleared or the read is gone:
-/// a read is started, and a key arrives for it.
+/// a read is started for the next key.
 fn stays_locked(bench: &mut Bench) -> bool {
     assert_eq!(bench.number("05 00"), 0);
     assert_eq!(bench.number("06 00"), 0);
     start(ZZ1, b"", b"").on(bench);
-    bench.keys(b"c");
     is_locked(bench)
 }
 
 #[test]
 fn point_108_a_fresh_line_is_unlocked() {
-    let mut bench = half_typed(0);
-    bench.keys(b"c");
-    assert!(!is_locked(&mut bench));
+    assert!(!is_locked(&mut half_typed(0)));
 }
 
 #[test]
@@ -42,7 +43,6 @@ fn point_104_uu_locks_and_unlocks() {
     for (lock, after) in locks {
         for data in [&b""[..], b"A"] {
             let mut bench = half_typed(0);
-            bench.keys(b"c");
             write(lock, data).on(&mut bench);
             assert_eq!(is_locked(&mut bench), after, "{lock} unlocked");
             let mut bench = locked();
@@ -56,7 +56,6 @@ fn point_104_uu_locks_and_unlocks() {
 fn point_105_uu_acts_under_discard() {
     let mut bench = half_typed(0);
     bench.key(DISCARD_KEY);
-    bench.keys(b"ccc");
     for lock in [0, UNLOCK_AFTER, REDISPLAY_AFTER] {
         assert_eq!(write(LOCK, b"A").shown(&mut bench), "");
         assert!(is_locked(&mut bench));
@@ -69,7 +68,6 @@ fn point_105_uu_acts_under_discard() {
 fn point_105_uu_acts_in_any_part() {
     for part in [0, B, E, B | E] {
         let mut bench = half_typed(0);
-        bench.keys(b"c");
         assert_eq!(write(LOCK | part, b"A").shown(&mut bench), "41");
         assert!(is_locked(&mut bench));
         let shown = "41 0D 0A 3F 20 61 62";
@@ -83,17 +81,16 @@ fn point_105_uu_acts_in_any_part() {
 
 #[test]
 fn point_106_15_unlocks_when_it_turns_discard_on() {
+    // Its own step takes the key that waits.
     let mut bench = locked();
-    assert_eq!(bench.key(DISCARD_KEY), done("", "09 00"));
+    assert_eq!(bench.key(DISCARD_KEY), done("63", "09 00"));
     assert!(!is_locked(&mut bench));
-    bench.keys(b"c");
     write(LOCK, b"").on(&mut bench);
     assert_eq!(bench.key(DISCARD_KEY), done("", "09 01"));
     assert!(is_locked(&mut bench));
-    assert_eq!(bench.key(DISCARD_KEY), done("", "09 00"));
+    assert_eq!(bench.key(DISCARD_KEY), done("63", "09 00"));
     assert!(!is_locked(&mut bench));
     // Don't-discard does not undo the lock of its Write.
-    bench.keys(b"c");
     write(LOCK | D, b"").on(&mut bench);
     assert!(is_locked(&mut bench));
 }
@@ -104,9 +101,8 @@ fn point_106_a_stored_or_quoted_15_does_not_unlock() {
     bench.keys(&[QUOTE_KEY, DISCARD_KEY]);
     assert!(is_locked(&mut bench));
     let mut bench = half_typed(3 * DDD);
-    bench.keys(b"c");
     write(LOCK, b"").on(&mut bench);
-    bench.keys(&[DISCARD_KEY]);
+    bench.keys(&[b'c', DISCARD_KEY]);
     assert!(is_locked(&mut bench));
 }
 
@@ -162,8 +158,8 @@ fn held_back(bench: &mut Bench) {
 #[test]
 fn point_107_a_locked_step_takes_no_key() {
     let mut bench = half_typed(0);
-    bench.keys(b"c\r");
     write(LOCK, b"").on(&mut bench);
+    bench.keys(b"c\r");
     held_back(&mut bench);
     assert_eq!(bench.host("0C 00"), done("", "0D 00 02 00"));
     write(0, b"").on(&mut bench);

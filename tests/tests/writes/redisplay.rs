@@ -2,11 +2,6 @@
 
 use super::*;
 
-/// What rubbing out so many marks writes.
-fn rubbed(marks: usize) -> String {
-    "08 20 08 ".repeat(marks).trim_end().to_owned()
-}
-
 #[test]
 fn point_104_only_uu_3_redisplays() {
     for (lock, shown) in
