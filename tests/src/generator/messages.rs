@@ -8,6 +8,9 @@ const BOOLEANS: [u16; 7] = [0x201, 0x203, 0x204, 0x205, 0x206, 0x207, 0x209];
 const CARRIED: [u16; 4] = [0x204, 0x205, 0x206, 0x209];
 const PLAIN: [u16; 9] = [0x201, 0x203, 0x204, 0x205, 0x206, 0x207, 0x208, 0x209, 0x20A];
 
+/// EE: the read recognises escape sequences.
+pub const RECOGNISED: u8 = 2;
+
 /// The bytes of a message that is sound.
 pub fn bytes_of(message: &Message) -> Vec<u8> {
     message::write(message, message::LONGEST).unwrap_or_else(|_| vec![12, 0])

@@ -9,6 +9,7 @@ mod scenes;
 mod settings;
 mod tokens;
 mod typing;
+mod waiting;
 mod writes;
 
 use crate::line::Line;
@@ -20,6 +21,9 @@ use std::fmt::Write as _;
 pub use damage::damaged;
 pub use settings::settings_script;
 pub use tokens::token_script;
+
+/// For so many reads in a hundred, keys wait.
+const AHEAD: usize = 20;
 
 /// Makes a script with at least this many calls.
 pub fn script(seed: u64, calls: usize) -> String {
@@ -81,7 +85,7 @@ impl Generator {
     /// One scene; a script is a row of them.
     fn scene(&mut self) {
         self.lift_mostly();
-        match self.random.below(122) {
+        match self.random.below(130) {
             0..=25 => self.read(),
             26 => self.many_lines(),
             27..=29 => self.idling(),
@@ -110,6 +114,7 @@ impl Generator {
             100..=110 => self.settings(),
             111..=116 => self.locked(),
             117..=119 => self.skipped_linefeed(),
+            120..=127 => self.backlog(),
             _ => self.single_parts(),
         }
     }
@@ -141,10 +146,18 @@ impl Generator {
         self.beginning();
     }
 
-    /// Ends the read there is, most of the time, and starts one that mostly
-    /// keeps to the line's largest read.
+    /// Ends the read there is, most of the time, and starts one; at times keys
+    /// wait for it.
     fn start(&mut self, change: impl FnOnce(&mut Random, &mut StartRead)) {
         self.make_way();
+        if self.random.chance(AHEAD) {
+            self.type_ahead();
+        }
+        self.begin(change);
+    }
+
+    /// A Start Read that mostly keeps to the line's largest read.
+    fn begin(&mut self, change: impl FnOnce(&mut Random, &mut StartRead)) {
         let mut read = messages::start_read(&mut self.random);
         change(&mut self.random, &mut read);
         if self.random.chance(90) {
@@ -155,7 +168,7 @@ impl Generator {
 
     fn make_way(&mut self) {
         if self.line().read_pending() && self.random.chance(90) {
-            self.send(&[5, 0]);
+            self.unread();
         }
         if self.line().waiting() > 12 && self.random.chance(60) {
             self.send(&[6, 0]);
@@ -178,7 +191,7 @@ impl Generator {
             self.settle();
         }
         match self.random.below(7) {
-            0 => self.send(&[5, 0]),
+            0 => self.unread(),
             1..=3 => self.send(&[5, 1]),
             4 => self.send(&[6, 0]),
             _ => self.send(&[12, 0]),

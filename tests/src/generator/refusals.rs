@@ -37,7 +37,7 @@ impl Generator {
 
     pub(super) fn spoiled(&mut self) {
         if self.line().read_pending() && self.random.chance(50) {
-            self.send(&[5, 0]);
+            self.unread();
         }
         let kind = self.random.pick(&[1, 2, 2, 2, 2, 5, 6, 7, 7, 10, 10, 11, 11, 11, 12]);
         let sound = messages::bytes_of(&messages::sound(kind, &mut self.random));
@@ -47,7 +47,7 @@ impl Generator {
 
     pub(super) fn sound_message(&mut self) {
         if self.line().read_pending() && self.random.chance(50) {
-            self.send(&[5, 0]);
+            self.unread();
         }
         let kind =
             self.random.pick(&[1, 2, 2, 2, 2, 3, 4, 5, 6, 7, 7, 8, 9, 10, 11, 11, 12, 13, 14]);

@@ -2,7 +2,6 @@
 
 use super::{typing, Generator};
 use crate::message::{Message, Value, Write};
-use crate::script::Order;
 
 impl Generator {
     pub(super) fn read(&mut self) {
@@ -28,16 +27,16 @@ impl Generator {
         self.type_keys(keys);
     }
 
-    /// Types keys, stepping after each, after a few, or not at all; a read that
-    /// completes is mostly followed by another.
+    /// Types keys, with steps between for those that wait; a read that completes
+    /// is followed by another, at once or when some keys wait for it.
     pub(super) fn type_keys(&mut self, most: usize) {
-        let pace = self.random.pick(&[100, 100, 90, 50, 10]);
+        let (pace, soon) = (self.random.pick(&[0, 10, 50]), self.random.pick(&[100, 60, 60, 20]));
         for _ in 0..self.random.below(most + 1) {
-            if !self.line().read_pending() && self.random.chance(60) {
+            if !self.line().read_pending() && self.random.chance(soon) {
                 self.start(|_, _| {});
             }
             self.typed_key();
-            if self.random.chance(pace) {
+            if self.random.chance(if self.line().waiting() > 0 { pace } else { 5 }) {
                 self.step();
             }
             if self.random.chance(2) {
@@ -92,20 +91,6 @@ impl Generator {
         }
     }
 
-    /// More keys than type-ahead holds.
-    pub(super) fn flood(&mut self) {
-        for _ in 0..self.random.between(64, 72) {
-            let code = if self.random.chance(6) { 22 } else { self.random.between(32, 126) as u8 };
-            self.key(code);
-        }
-        self.order(Order::Dropped);
-        if self.random.chance(60) {
-            self.start(|_, read| read.clear = false);
-            let steps = self.random.below(70);
-            self.steps(steps);
-        }
-    }
-
     /// Drives the column to its top, then types and rubs out there.
     pub(super) fn far_right(&mut self) {
         for _ in 0..self.random.between(3, 5) {
@@ -121,7 +106,6 @@ impl Generator {
             let code = typing::key(&mut self.random);
             let code = self.random.pick(&[9, 9, 127, 23, b'a', code]);
             self.key(code);
-            self.step();
         }
     }
 
@@ -142,7 +126,6 @@ impl Generator {
         for _ in 0..self.random.between(2, 12) {
             let code = self.random.pick(&[127, 127, 21, 18, 10, 9, b'a', 23]);
             self.key(code);
-            self.step();
         }
     }
 
@@ -152,14 +135,12 @@ impl Generator {
         for _ in 0..self.random.between(1, 6) {
             let code = self.random.pick(&[9, b'a', 1]);
             self.key(code);
-            self.step();
         }
         let byte = self.random.pick(&[13, 8]);
         self.send(&[7, 8, 4, 0, 0, byte, byte]);
         for _ in 0..self.random.between(1, 6) {
             let code = self.random.pick(&[127, 23, 21, 9]);
             self.key(code);
-            self.step();
         }
     }
 
@@ -183,7 +164,6 @@ impl Generator {
                 1 => {
                     let code = self.random.pick(&[b'a', 127, 27, 155, b'[']);
                     self.key(code);
-                    self.step();
                 }
                 2 => self.small_requests(),
                 3 => self.step(),
@@ -203,41 +183,6 @@ impl Generator {
             self.host(&Message::Write(Write { status: true, data, ..Write::default() }));
         }
         self.type_keys(4);
-        self.send(&[5, 0]);
-    }
-
-    /// A token finds no room and meets the next read's ticks and requests
-    /// before its steps.
-    pub(super) fn absentee(&mut self) {
-        self.held_token();
-        for _ in 0..self.random.between(1, 4) {
-            match self.random.below(5) {
-                0 => self.step(),
-                1 => self.small_requests(),
-                _ => self.tick(),
-            }
-        }
-    }
-
-    /// A token found no room, and the next read has started.
-    pub(super) fn held_token(&mut self) {
-        self.start(|random, read| {
-            read.escapes = 2;
-            read.end_of_data = 0;
-            read.end_of_prompt = 0;
-            read.low_water = 0;
-            read.data.clear();
-            read.max_length = random.pick(&[1, 2]);
-        });
-        for code in [27, 91, b'5', b'~'] {
-            self.key(code);
-            self.step();
-        }
-        self.start(|random, read| {
-            read.clear = false;
-            read.timed = true;
-            read.timeout = random.pick(&[1, 2]);
-            read.escapes = random.pick(&[0, 1, 2]);
-        });
+        self.unread();
     }
 }

@@ -146,7 +146,6 @@ impl Generator {
             self.type_keys(3);
             let code = self.random.below(set.len().max(1) * 8) as u8;
             self.key(code);
-            self.step();
         }
     }
 

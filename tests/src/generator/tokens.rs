@@ -74,7 +74,7 @@ impl Generator {
         self.type_token(&keys);
         self.settle();
         match self.random.below(8) {
-            0 | 1 => self.host(&Message::Unread { if_empty: false }),
+            0 | 1 => self.unread(),
             2 | 3 => self.key(24),
             4 | 5 => self.host(&Message::ClearInput),
             6 => self.ticks(),
@@ -88,9 +88,6 @@ impl Generator {
                 self.key(22);
             }
             self.key(*code);
-            if self.random.chance(70) {
-                self.step();
-            }
         }
     }
 }

@@ -1,6 +1,7 @@
 //! Writes of every kind, and scenes about them: a locked line, the
 //! skip-linefeed mark, output that is lost.
 
+use super::messages::RECOGNISED;
 use super::random::Random;
 use super::{typing, Generator};
 use crate::line::arrival::{CLEAR_KEY, DISCARD_KEY, HELLO, IMMEDIATE_CLEAR, OUT_OF_BAND};
@@ -23,8 +24,6 @@ const LONGEST_DATA: usize = LONGEST - 5;
 /// Of a hundred locks this many are lifted before the next scene.
 const LIFTED: usize = 90;
 
-/// EE: the read recognises escape sequences.
-const RECOGNISED: u8 = 2;
 /// No out-of-band character.
 const ORDINARY: u8 = 0;
 
@@ -124,6 +123,11 @@ impl Generator {
         }
     }
 
+    pub(super) fn lock(&mut self) {
+        let write = write(&mut self.random);
+        self.write(Write { lock: LOCK, ..write });
+    }
+
     fn lift(&mut self) {
         let lock = self.random.pick(&UNLOCKING);
         let write = write(&mut self.random);
@@ -133,8 +137,7 @@ impl Generator {
     /// A lock in mid read, a handful of calls, and mostly the unlock.
     pub(super) fn locked(&mut self) {
         self.before_lock();
-        let write = write(&mut self.random);
-        self.write(Write { lock: LOCK, ..write });
+        self.lock();
         if self.random.chance(4) {
             self.flood();
         }
@@ -147,22 +150,21 @@ impl Generator {
 
     /// What a lock finds: a half-typed answer, mostly.
     fn before_lock(&mut self) {
-        match self.random.below(10) {
-            0 => self.held_token(),
-            1 => {
+        match self.random.below(11) {
+            0 | 1 => self.held_token(),
+            2 => {
                 self.start(|random, read| {
                     read.timed = true;
                     read.timeout = random.pick(&[0, 1, 2]);
                 });
                 self.settle();
             }
-            2 => {
+            3 => {
                 self.start(|_, read| read.escapes = RECOGNISED);
                 let code = self.random.pick(&[ESC, CSI]);
                 self.key(code);
-                self.step();
             }
-            3 => self.host(&Message::Unread { if_empty: false }),
+            4 => self.unread(),
             _ => {
                 self.start(|random, read| {
                     read.no_echo = random.chance(30);
@@ -195,7 +197,7 @@ impl Generator {
     }
 
     /// A code is out-of-band for this one key.
-    fn out_of_band_key(&mut self) {
+    pub(super) fn out_of_band_key(&mut self) {
         let character = self.random.pick(&typing::OUT_OF_BAND);
         let attributes = self.random.pick(&[HELLO, IMMEDIATE_CLEAR]);
         self.set_out_of_band(character, attributes);
