@@ -14,7 +14,7 @@ use writes::Writes;
 macro_rules! rules {
     ($($name:ident),* $(,)?) => {
         /// One rule of page 01, or one side of it.
-        #[derive(Clone, Copy, Debug, PartialEq, Eq)]
+        #[derive(Clone, Copy, Debug, PartialEq, Eq, PartialOrd, Ord)]
         pub enum Rule { $($name),* }
         pub const RULES: &[Rule] = &[$(Rule::$name),*];
     };
@@ -150,11 +150,12 @@ const RECEIVED_LOCKED: [usize; 7] = [2, 5, 6, 7, 10, 11, 12];
 
 impl Coverage {
     pub fn met(&mut self, rule: Rule) {
-        self.rules[rule as usize] += 1;
+        self.met_if(true, rule);
     }
 
     pub fn met_if(&mut self, holds: bool, rule: Rule) {
         self.rules[rule as usize] += u64::from(holds);
+        self.steps.met_if(holds, rule);
     }
 
     pub fn loaded(&mut self, place: usize, moment: Moment, source: Source) {

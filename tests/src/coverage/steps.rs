@@ -1,6 +1,7 @@
 //! What steps did, or why there was none: of steps by themselves, and of the
 //! step that follows each kind of arrival (M-104).
 
+use super::{Rule, RULES};
 use crate::line::arrival::Arrival;
 use crate::line::steps::Stepped;
 
@@ -31,26 +32,62 @@ const STEPPED: [Stepped; 8] = [
     Stepped::Timeout,
 ];
 
-#[derive(Clone, Debug, Default, PartialEq, Eq)]
+/// Whose step it is.
+#[derive(Clone, Copy, Debug, PartialEq, Eq)]
+pub enum Whose {
+    Key,
+    Alone,
+}
+
+#[derive(Clone, Debug, PartialEq, Eq)]
 pub struct Steps {
     alone: [u64; STEPPED.len()],
     after: [[u64; STEPPED.len()]; ARRIVALS.len()],
+    /// Rules met within steps, by whose they were.
+    rules: [[u64; RULES.len()]; 2],
+    /// The step that is under way.
+    under_way: Option<Whose>,
+}
+
+impl Default for Steps {
+    fn default() -> Self {
+        Steps {
+            alone: Default::default(),
+            after: Default::default(),
+            rules: [[0; RULES.len()]; 2],
+            under_way: None,
+        }
+    }
 }
 
 impl Steps {
-    /// A step by itself.
+    pub fn begin(&mut self, whose: Whose) {
+        self.under_way = Some(whose);
+    }
+
+    pub fn met_if(&mut self, holds: bool, rule: Rule) {
+        if let Some(whose) = self.under_way {
+            self.rules[whose as usize][rule as usize] += u64::from(holds);
+        }
+    }
+
+    /// A step by itself has ended.
     pub fn alone(&mut self, stepped: Stepped) {
+        self.under_way = None;
         self.alone[stepped as usize] += 1;
     }
 
-    /// The step of a key.
+    /// The step of a key has ended.
     pub fn after(&mut self, arrival: Arrival, stepped: Stepped) {
+        self.under_way = None;
         self.after[arrival as usize][stepped as usize] += 1;
     }
 
     pub fn add(&mut self, other: &Steps) {
         let mine = self.alone.iter_mut().chain(self.after.as_flattened_mut());
+        let mine = mine.chain(self.rules.as_flattened_mut());
         let more = other.alone.iter().chain(other.after.as_flattened());
+        let more = more.chain(other.rules.as_flattened());
         mine.zip(more).for_each(|(mine, more)| *mine += more);
     }
 
@@ -63,8 +100,19 @@ impl Steps {
             let counts = counts.filter(|(stepped, _)| can_follow(arrival, *stepped));
             table.extend(counts.map(|(done, n)| (format!("key {arrival:?}: {done:?}"), n)));
         }
+        for whose in [Whose::Key, Whose::Alone] {
+            let rules = RULES.iter().zip(self.rules[whose as usize]);
+            let rules = rules.filter(|(rule, _)| is_of_step(**rule));
+            table.extend(rules.map(|(rule, n)| (format!("{rule:?}, step {whose:?}"), n)));
+        }
         table
     }
+}
+
+/// Whether a step can meet the rule, that of a key and one by itself.
+fn is_of_step(rule: Rule) -> bool {
+    let lists = [Rule::StepHeldFits..=Rule::PartialDropped, Rule::EchoTab..=Rule::RubNoEcho];
+    lists.iter().any(|list| list.contains(&rule))
 }
 
 /// Whether an arrival can leave a line on which its step does this.
@@ -97,12 +145,16 @@ mod tests {
     #[test]
     fn a_step_is_counted_by_what_came_before_it() {
         let mut steps = Steps::default();
+        steps.begin(Whose::Alone);
+        steps.met_if(true, Rule::StepQuoted);
         steps.alone(Stepped::Key);
+        steps.met_if(true, Rule::RubTab);
         steps.after(Arrival::Hello, Stepped::Timeout);
         let mut twice = steps.clone();
         twice.add(&steps);
         let met: Vec<(String, u64)> = twice.table().into_iter().filter(|row| row.1 > 0).collect();
-        assert_eq!(met, [("step alone: Key".into(), 2), ("key Hello: Timeout".into(), 2)]);
+        let expected = ["step alone: Key", "key Hello: Timeout", "StepQuoted, step Alone"];
+        assert_eq!(met, expected.map(|name| (name.into(), 2)));
     }
 
     #[test]

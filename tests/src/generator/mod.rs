@@ -85,7 +85,7 @@ impl Generator {
     /// One scene; a script is a row of them.
     fn scene(&mut self) {
         self.lift_mostly();
-        match self.random.below(130) {
+        match self.random.below(138) {
             0..=25 => self.read(),
             26 => self.many_lines(),
             27..=29 => self.idling(),
@@ -115,6 +115,7 @@ impl Generator {
             111..=116 => self.locked(),
             117..=119 => self.skipped_linefeed(),
             120..=127 => self.backlog(),
+            128..=135 => self.drained(),
             _ => self.single_parts(),
         }
     }

@@ -1,7 +1,7 @@
 //! Scenes with escape sequences of every form: whole, spoiled and cut.
 
 use super::random::Random;
-use super::Generator;
+use super::{Generator, AHEAD};
 use crate::coverage::tokens::WATCHED;
 use crate::line::tokens::{Form, FORMS, INTERMEDIATES, LONGEST, PARAMETERS};
 use crate::message::{Message, BUFFER};
@@ -55,11 +55,19 @@ impl Generator {
         });
     }
 
+    /// Its keys arrive in a read, or wait for one.
     fn whole_token(&mut self) {
         let keys = escape_sequence(&mut self.random);
-        self.type_token(&keys);
-        let steps = self.random.below(6);
-        self.steps(steps);
+        if self.random.chance(AHEAD) {
+            self.unread();
+            self.type_token(&keys);
+            self.token_read();
+            self.settle();
+        } else {
+            self.type_token(&keys);
+            let steps = self.random.below(6);
+            self.steps(steps);
+        }
         match self.random.below(8) {
             0 => self.small_requests(),
             1 => self.ticks(),

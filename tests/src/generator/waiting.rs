@@ -1,7 +1,7 @@
 //! Scenes with keys that wait. A pending read takes a key when it arrives, so
 //! they are typed before a Start Read or on a locked line.
 
-use super::messages::{self, RECOGNISED};
+use super::messages::RECOGNISED;
 use super::Generator;
 use crate::line::arrival::{CLEAR_KEY, DISCARD_KEY, QUOTE_KEY};
 use crate::line::tokens::{CSI, ESC};
@@ -29,6 +29,18 @@ impl Generator {
         for _ in 0..self.random.pick(&[1, 1, 2, 3, 5, 12]) {
             self.typed_key();
         }
+    }
+
+    /// Steps by themselves take what waited for the read.
+    pub(super) fn drained(&mut self) {
+        self.make_way();
+        self.type_ahead();
+        self.begin(|random, read| {
+            if random.chance(50) {
+                bare(read, random.pick(&[1, 2, 5]));
+            }
+        });
+        self.settle();
     }
 
     fn printing_key(&mut self) {
@@ -60,6 +72,7 @@ impl Generator {
     /// Keys wait, at times behind a held token, a pending quote or a lock; then
     /// keys of every kind arrive for the next read.
     pub(super) fn backlog(&mut self) {
+        self.host(&Message::ClearInput);
         if self.random.chance(40) {
             self.leave_token();
         }
@@ -71,7 +84,7 @@ impl Generator {
         if self.random.chance(30) {
             self.key(QUOTE_KEY);
         }
-        if self.random.chance(30) {
+        if self.random.chance(40) {
             self.lock();
         }
         self.begin(|random, read| {
@@ -91,10 +104,10 @@ impl Generator {
 
     fn key_of_any_kind(&mut self) {
         match self.random.below(12) {
-            0..=3 => self.printing_key(),
-            4 | 5 => self.typed_key(),
-            6 | 7 => self.out_of_band_key(),
-            8 | 9 => self.key(DISCARD_KEY),
+            0..=2 => self.printing_key(),
+            3 => self.typed_key(),
+            4..=6 => self.out_of_band_key(),
+            7..=9 => self.key(DISCARD_KEY),
             10 => self.key(QUOTE_KEY),
             _ => self.key(CLEAR_KEY),
         }
@@ -127,10 +140,10 @@ impl Generator {
     /// A read with too little room leaves a token behind.
     fn leave_token(&mut self) {
         self.make_way();
-        let mut read = messages::start_read(&mut self.random);
-        bare(&mut read, self.random.pick(&[1, 2]));
-        read.escapes = RECOGNISED;
-        self.host(&Message::StartRead(read));
+        self.begin(|random, read| {
+            bare(read, random.pick(&[1, 2]));
+            read.escapes = RECOGNISED;
+        });
         for code in self.random.pick(&TOKENS) {
             self.key(code);
         }

@@ -9,6 +9,7 @@ pub mod steps;
 pub mod tokens;
 mod writes;
 
+use crate::coverage::steps::Whose;
 use crate::coverage::{Coverage, Rule};
 use crate::message::{self, Message, BUFFER};
 use crate::screen::{Screen, TOP};
@@ -193,6 +194,7 @@ impl Line {
     pub fn key(&mut self, code: u8, areas: Areas) -> Answer {
         self.call(areas, |line, out| {
             let arrival = line.arrive(code, out);
+            line.seen.steps.begin(Whose::Key);
             let stepped = line.take_step(out);
             line.seen.steps.after(arrival, stepped);
         })
@@ -202,6 +204,7 @@ impl Line {
     pub fn step(&mut self, areas: Areas) -> Answer {
         self.call(areas, |line, out| {
             line.note_step_held_back();
+            line.seen.steps.begin(Whose::Alone);
             let stepped = line.take_step(out);
             line.seen.steps.alone(stepped);
         })

@@ -44,6 +44,11 @@ fn a_key_that_completes_leaves_the_others() {
     assert_eq!(count(&mut bench), 4);
     plain().on(&mut bench);
     assert_eq!(bench.key(b'f'), done("62", ""));
+    // The key that arrived is more data itself.
+    let mut bench = waiting(b"\r");
+    start(ZZ2, b"", b"").on(&mut bench);
+    assert_eq!(bench.key(b'a'), done("", "03 10 00 00 00 00 00 00 0D"));
+    assert_eq!(count(&mut bench), 1);
 }
 
 #[test]
