@@ -145,7 +145,7 @@ impl Bench {
         (hex(&terminal), messages.join(" | "))
     }
 
-    /// Types keys that write nothing: no read takes them yet.
+    /// Types keys that write nothing: most of them wait.
     pub fn keys(&mut self, codes: &[u8]) {
         for code in codes {
             assert_eq!(self.key(*code), done("", ""));

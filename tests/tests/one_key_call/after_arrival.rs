@@ -33,7 +33,12 @@ fn a_quote() {
     let mut bench = waiting(b"a");
     start(ZZ2, b"", b"").on(&mut bench);
     assert_eq!(bench.key(QUOTE_KEY), done("61", ""));
-    // It marks the key that comes next, not the one that its step took.
+    assert_eq!(bench.key(CR), done("5E 4D", ""));
+    // It marks the key that comes next, not the one that its step takes.
+    let mut bench = waiting(b"\r");
+    start(ZZ2, b"", b"").on(&mut bench);
+    assert_eq!(bench.key(QUOTE_KEY), done("", "03 00 00 00 00 00 00 00 0D"));
+    start(ZZ2, b"", b"").on(&mut bench);
     assert_eq!(bench.key(CR), done("5E 4D", ""));
 }
 

@@ -77,6 +77,14 @@ fn point_24_what_sets_idle_to_zero() {
     assert!(!timed_out(b"a", 2));
     assert!(timed_out(b"a", 3));
     assert!(!timed_out(&[27], 2));
+    // So does a key that is stored and cleared before any read takes it.
+    let mut bench = Bench::initiated();
+    start(ZZ2 | Q, b"", b"").timeout(2).on(&mut bench);
+    assert_eq!(bench.tick(), done("", ""));
+    assert_eq!(bench.number(LOCKING), 0);
+    bench.keys(&[b'a', 24]);
+    assert_eq!(bench.tick(), done("", ""));
+    assert_eq!(bench.tick(), done("", "03 05 00 00 00 00 00 00"));
 }
 
 #[test]
