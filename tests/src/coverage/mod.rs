@@ -65,10 +65,11 @@ rules! {
     WriteRedisplaysIdle, WriteRedisplaysPartial, WriteRedisplaysElsewhere,
     // While the line is locked, and what unlocks it besides a Write.
     LockedStepNoRead, LockedStepHeld, LockedStepKey, LockedStepPartial, LockedStepTimeoutZero,
-    LockedStepEmpty, LockedTickWaiting, LockedTickHeld, LockedTickIdle, LockedTickTimeout, LockedKeyStored,
-    LockedKeyDropped, LockedKeyDiscardDdd3, LockedKeyQuote, LockedKeyHello, LockedKeyClearRead, LockedKeyClearIdle,
-    LockedReadPending, LockedReadFullAtOnce, LockedLoad, DiscardOnUnlocks, DiscardOffKeepsLock,
-    ImmediateClearUnlocksRead, ImmediateClearUnlocksIdle,
+    LockedStepEmpty, LockedTickWaiting, LockedTickHeld, LockedTickIdle, LockedTickTimeout,
+    LockedKeyStored, LockedKeyEndsIdle, LockedKeyDropped, LockedKeyDiscardDdd3, LockedKeyQuote,
+    LockedKeyHello, LockedKeyClearRead, LockedKeyClearIdle, LockedReadPending, LockedReadFullAtOnce,
+    LockedLoad, DiscardOnUnlocks, DiscardOffKeepsLock, ImmediateClearUnlocksRead,
+    ImmediateClearUnlocksIdle,
     // Settings.
     LoadOwnBeforeSite, LoadMixed, LoadNothing, LoadKeepsLargest, LargestReadMet,
     AskedOwn, AskedSite, AskedOwnBeforeSite, AskedEmpty, AskedOutside, AskedOwnUnsound,

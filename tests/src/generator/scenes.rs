@@ -167,9 +167,23 @@ impl Generator {
                 }
                 2 => self.small_requests(),
                 3 => self.step(),
+                4 => self.typed_in_vain(),
                 _ => self.tick(),
             }
         }
+    }
+
+    /// A key that a lock keeps from the read, and that is cleared: all it does
+    /// is end the idle seconds.
+    fn typed_in_vain(&mut self) {
+        self.lock();
+        self.key(b'a');
+        if self.random.chance(50) {
+            self.key(24);
+        } else {
+            self.host(&Message::ClearInput);
+        }
+        self.lift_mostly();
     }
 
     /// Many LFs in a read and outside it, so that the line count goes round.

@@ -137,6 +137,8 @@ impl Line {
         }
         self.seen.met(Rule::KeyStored);
         self.seen.met_if(self.locked, Rule::LockedKeyStored);
+        let idling = self.read.is_some() && self.idle > 0;
+        self.seen.met_if(self.locked && idling, Rule::LockedKeyEndsIdle);
         let alone = self.type_ahead.is_empty();
         self.type_ahead.push_back(Key { code, quoted });
         self.idle = 0;
