@@ -47,8 +47,8 @@ rules! {
     EchoTab, EchoControl, EchoHigh, EchoNothing, RubTab, RubTabBehindText, RubTabBehindHiddenLf,
     RubBehindTab, RubControl, RubNothing, RubNoEcho, ColumnTop, BackspaceAtEdge,
     // Host messages.
-    Initiated, InitiatedLoaded, ReadPending, ReadFullAtOnce, ReadClears, ReadClearsHeld, FormattingLf,
-    FormattingNoLf, HiddenLfInPrompt, HiddenLfInData, HiddenLfDeleted, HiddenLfRedisplayed,
+    Initiated, InitiatedLoaded, ReadPending, ReadFullAtOnce, ReadEndsIdle, ReadClears,
+    ReadClearsHeld, FormattingLf, FormattingNoLf, HiddenLfInPrompt, HiddenLfInData, HiddenLfDeleted, HiddenLfRedisplayed,
     AutoPrompt, SetLast, SetLastNone, SetLoaded, SetGiven, SetUniversal, RaiseOn, EscapesOn, NoEcho,
     EchoOffByCharacteristic, UnreadAlways, UnreadEmptyDone, UnreadEmptyWaiting,
     UnreadEmptyToken, UnreadEmptyInput, UnreadNoRead, ClearInput, CheckInput,

@@ -149,12 +149,7 @@ impl Generator {
     pub(super) fn idling(&mut self) {
         let value = Value::Attributes { character: b'!', mask: 3, attributes: 3 };
         self.host(&Message::Characteristics(vec![value]));
-        self.start(|random, read| {
-            read.timed = true;
-            read.timeout = random.between(1, 6) as u16;
-            read.escapes = random.pick(&[1, 2]);
-        });
-        self.settle();
+        self.timed_read();
         for _ in 0..self.random.between(3, 20) {
             match self.random.below(12) {
                 0 => {
@@ -168,9 +163,20 @@ impl Generator {
                 2 => self.small_requests(),
                 3 => self.step(),
                 4 => self.typed_in_vain(),
+                5 if self.random.chance(30) => self.timed_read(),
                 _ => self.tick(),
             }
         }
+    }
+
+    /// The seconds of a read before it do not count.
+    fn timed_read(&mut self) {
+        self.start(|random, read| {
+            read.timed = true;
+            read.timeout = random.between(1, 6) as u16;
+            read.escapes = random.pick(&[1, 2]);
+        });
+        self.settle();
     }
 
     /// A key that a lock keeps from the read, and that is cleared: all it does

@@ -36,6 +36,7 @@ impl Line {
         let full = read.buffer.len() == read.max_length;
         let largest = asked.max_length == self.largest_read;
         self.seen.met_if(largest && self.limited(), Rule::LargestReadMet);
+        self.seen.met_if(asked.timed && self.idle > 0, Rule::ReadEndsIdle);
         self.idle = 0;
         if asked.clear {
             self.seen.met(Rule::ReadClears);
