@@ -55,59 +55,66 @@ cast-move-keys-2 c = search needs
 
 move-keys-requires-2 : tie.Need-move-keys-requires-2
 move-keys-requires-2 c κs =
-    let start = c .before .before .before .before .before .before .before .before .before .before .before .before .before .before .before .before .before .before .before .before .before .before .before .before .before .before .before .before .before in
-    let moved = c .before .before .before .before .before .before .before .before .before .before .before .before .before .before .before .before .before .before .move-keys .ensures in
-    (ap length moved ∙ after-length (c .before .before .before .before .before .before .before .before .before .before .before .before .before .before .before .before .before .before .before .before .before .act-if .result) (start .args .self .flow .typed .«keys_len») (start .args .self .keys) ∙ start .pre .counted .keys, c .before .before .before .before .before .before .before .before .before .before .before .before .acts-on-key .ensures .0 .typed .keysLength)
+    let arrival = c .before .before .before .before .before .before .before .before .before .before .before .before in
+    let move = arrival .before .before .before .before .before .before in
+    let first = move .before .before .before in
+    let start = first .before .before .before .before .before .before .before .before in
+    let l = start .args .self in
+    let kept = ap length (move .move-keys .ensures) ∙ after-length (first .act-if .result) (l .flow .typed .«keys_len») (l .keys) in
+    (kept ∙ start .pre .counted .keys, arrival .acts-on-key .ensures .0 .typed .keysLength)
 
 acts-on-step-requires : tie.Need-acts-on-step-requires
 unfolding eventRule
 acts-on-step-requires c κs =
-    let start = c .before .before .before .before .before .before .before .before .before .before .before .before .before .before .before .before .before .before .before .before .before .before .before .before .before .before .before .before .before .before .before .before .before in
+    let choice = c .before .before .before .before .before .before in
+    let lookup = choice .before in
+    let arrival = lookup .before .before .before .before .before .before .before .before .before in
+    let move = arrival .before .before .before .before .before .before in
+    let first = move .before .before .before in
+    let room = first .before .before .before .before .before in
+    let start = room .before .before .before in
     let a = start .args in
     let l = a .self in
-    let arrival = c .before .before .before .before .before .before .before .before .before .before .before .before .before .before .before .before .before .before .before .before .before .before .before .before .before .act-if .ensures in
-    let moved = c .before .before .before .before .before .before .before .before .before .before .before .before .before .before .before .before .before .before .before .before .before .before .move-keys in
-    let arrived = c .before .before .before .before .before .before .before .before .before .before .before .before .before .before .before .before .acts-on-key in
-    let seen = c .before .before .before .before .before .before .before .look-up-for-step in
-    let act = c .before .before .before .before .before .before .act-if2 .ensures in (
-      arrived .ensures .0,
-      (
-        start .pre .counted .text,
-        (
-          keystroke-doable (a .code) (omega arith) l (start .pre) (a .terminal .now) (a .messages .now) (λ y. arrival .0 [] l y (refl, refl)) (arrival .1 .0)
-              (arrived .result) _ _ _ (moved .ensures) (arrived .ensures .0) (arrived .ensures .1 .0 l) (arrived .ensures .1 .1)
-              (λ y bounded. act .0 [] (onKeys _ l) y (seen .ensures [] (onKeys _ l) bounded refl refl)) (act .1 .0),
-          act .1 .1,
-        ),
-      ),
-    )
+    let arrived = arrival .acts-on-key in
+    let act = choice .act-if2 .ensures in
+    let can = keystroke-doable (a .code) (omega arith) l (start .pre) (a .terminal .now) (a .messages .now) (λ y. first .act-if .ensures .0 [] l y (refl, refl)) (first .act-if .ensures .1 .0)
+    (arrived .result) _ _ _ (move .move-keys .ensures) (arrived .ensures .0) (arrived .ensures .1 .0 l) (arrived .ensures .1 .1)
+    (λ y bounded. act .0 [] (onKeys _ l) y (lookup .look-up-for-step .ensures [] (onKeys _ l) bounded refl refl)) (act .1 .0) in
+    (arrived .ensures .0, (start .pre .counted .text, (can, act .1 .1)))
 
 row-of-requires : tie.Need-row-of-requires
 row-of-requires c κs = search needs
 
 same-length : tie.Need-same-length
-same-length c = c .before .before .before .before .before .before .acts-on-step .kept .1 .1 .0 ∙ c .before .before .before .before .before .before .before .before .before .before .before .before .before .before .before .before .before .before .before .before .before .before .before .acts-on-key .kept .1 .1 .0
+same-length c =
+    let stepped = c .before .before .before .before .before .before in
+    stepped .acts-on-step .kept .1 .1 .0 ∙ stepped .before .before .before .before .before .before .before .before .before .before .before .before .before .before .before .before .before .acts-on-key .kept .1 .1 .0
 
 same-length-2 : tie.Need-same-length-2
-same-length-2 c = c .before .before .before .before .before .before .acts-on-step .kept .1 .1 .1 .0 ∙ c .before .before .before .before .before .before .before .before .before .before .before .before .before .before .before .before .before .before .before .before .before .before .before .acts-on-key .kept .1 .1 .1 .0
+same-length-2 c =
+    let stepped = c .before .before .before .before .before .before in
+    stepped .acts-on-step .kept .1 .1 .1 .0 ∙ stepped .before .before .before .before .before .before .before .before .before .before .before .before .before .before .before .before .before .acts-on-key .kept .1 .1 .1 .0
 
 returns : tie.Need-returns
 unfolding eventRule
 returns c =
-    let start = c .before .before .before .before .before .before .before .before .before .before .before .before .before .before .before .before .before .before .before .before .before .before .before .before .before .before .before .before .before .before .before .before .before .before .before .before .before .before .before .before in
+    let choice = c .before .before .before .before .before .before .before .before .before .before .before .before .before in
+    let lookup = choice .before in
+    let arrival = lookup .before .before .before .before .before .before .before .before .before in
+    let move = arrival .before .before .before .before .before .before in
+    let first = move .before .before .before in
+    let room = first .before .before .before .before .before in
+    let start = room .before .before .before in
     let a = start .args in
     let l = a .self in
-    let arrival = c .before .before .before .before .before .before .before .before .before .before .before .before .before .before .before .before .before .before .before .before .before .before .before .before .before .before .before .before .before .before .before .before .act-if .ensures in
-    let moved = c .before .before .before .before .before .before .before .before .before .before .before .before .before .before .before .before .before .before .before .before .before .before .before .before .before .before .before .before .before .move-keys in
-    let arrived = c .before .before .before .before .before .before .before .before .before .before .before .before .before .before .before .before .before .before .before .before .before .before .before .acts-on-key in
-    let seen = c .before .before .before .before .before .before .before .before .before .before .before .before .before .before .look-up-for-step in
-    let act = c .before .before .before .before .before .before .before .before .before .before .before .before .before .act-if2 .ensures in
+    let arrived = arrival .acts-on-key in
+    let act = choice .act-if2 .ensures in
     let done = c .before .before .before .before .before .before .acts-on-step in
-    keystroke-answers (a .code) (omega arith) l (start .pre) (a .terminal .now) (a .messages .now) (λ y. arrival .0 [] l y (refl, refl)) (arrival .1 .0)
-    (arrived .result) _ _ _ (moved .ensures) (arrived .ensures .0) (arrived .ensures .1 .0 l) (arrived .ensures .1 .1)
-    (λ y bounded. act .0 [] (onKeys _ l) y (seen .ensures [] (onKeys _ l) bounded refl refl)) (act .1 .0)
-    (c .before .before .before .before .before .before .before .before .before .before .before .before .before .before .before .before .before .before .before .before .before .before .before .before .before .before .before .before .before .before .before .before .before .before .before .before .before .are-roomy .ensures) (done .result) _ _ _ _ (c .before .before .before .before .before .before .before .before .before .before .move-keys2 .ensures) (done .ensures .0) (done .ensures .1 .0) (done .ensures .1 .1 .0 (onFlow (arrived .result .flow) (onKeys _ l))) (done .ensures .1 .1 .1)
-    (c .row-of .ensures)
+    keystroke-answers (a .code) (omega arith) l (start .pre) (a .terminal .now) (a .messages .now) (λ y. first .act-if .ensures .0 [] l y (refl, refl)) (first .act-if .ensures .1 .0)
+    (arrived .result) _ _ _ (move .move-keys .ensures) (arrived .ensures .0) (arrived .ensures .1 .0 l) (arrived .ensures .1 .1)
+    (λ y bounded. act .0 [] (onKeys _ l) y (lookup .look-up-for-step .ensures [] (onKeys _ l) bounded refl refl)) (act .1 .0)
+    (room .are-roomy .ensures) (done .result) _ _ _ _ (c .before .before .before .before .before .before .before .before .before .before .move-keys2 .ensures) (done .ensures .0) (done .ensures .1 .0)
+    (done .ensures .1 .1 .0 (onFlow (arrived .result .flow) (onKeys _ l))) (done .ensures .1 .1 .1) (c .row-of .ensures)
 
 pub key-spec : {M : Type 1} → statement M
 key-spec =
