@@ -45,10 +45,10 @@ element-copy-out-next-key : tie.Need-element-copy-out-next-key
 element-copy-out-next-key c = search needs
 
 look-up-for-step-requires : tie.Need-look-up-for-step-requires
-look-up-for-step-requires c κs = c .before .before .before .before .before .before .before .before .acts-on-key .ensures .0 .typed
+look-up-for-step-requires c κs = search needs
 
 act-if-requires-2 : tie.Need-act-if-requires-2
-act-if-requires-2 c κs = c .before .before .before .before .before .before .before .before .before .acts-on-key .ensures .0 .typed
+act-if-requires-2 c κs = search needs
 
 cast-move-keys-2 : tie.Need-cast-move-keys-2
 cast-move-keys-2 c = search needs
