@@ -14,6 +14,7 @@ use Rattle.rules.specs.Numbers.{inputSize, typeAheadSize, smallArea}
 use Rattle.rules.specs.State.{codes}
 use Rattle.rules.specs.Arrival.{arrives}
 use Rattle.rules.specs.Steps.{steps}
+use Rattle.rules.specs.Messages.Layout.{byteValues}
 use Rattle.rules.specs.Messages.Codec as codec
 use Rattle.rules.specs.Messages.Codec.{read, soundLength}
 use Rattle.rules.specs.Calls as rules
@@ -240,7 +241,7 @@ module _ (e : rules.Event ℕ) (l : Line) (b : Bounded l) (t m : List ℕ) (rule
   acted-answers k = rw k (answers-by roomy refl)
 
 -- A keystroke: the act of its arrival, and behind it the act of its step, which is chosen at the line that arrival left.
-module _ (code : ℕ) (byte : code < 256) (l : Line) (b : Bounded l) (t m : List ℕ) {roomy : Bool} {arrival : Act}
+module _ (code : ℕ) (byte : code < byteValues) (l : Line) (b : Bounded l) (t m : List ℕ) {roomy : Bool} {arrival : Act}
     (meets : roomy ≡ true → Meets (arrives codes code) [] l arrival) (none : roomy ≡ false → arrival ≡ Nothing)
     (w : Work) (keys₁ t₁ m₁ : List ℕ) (k : keys₁ ≡ keysAfter arrival (l .flow .typed .«keys_len») (l .keys)) (f : CountedFlow (w .flow))
     (d : Done [] arrival (l .terms) l (workOn l 0 0) (l .text) t m w (l .text) t₁ m₁) (same : arrival ≡ Nothing → w ≡ workOn l 0 0) where
@@ -265,6 +266,6 @@ module _ (code : ℕ) (byte : code < 256) (l : Line) (b : Bounded l) (t m : List
         (record { line = onFlow (r .flow) (lent (l .terms) text₂ (onKeys keys₂ l)); number = n; terminal = r .at; messages = r .sent }) t₂ m₂
     unfolding answers keystroke isByteEvent
     keystroke-answers size r keys₂ text₂ t₂ m₂ k₂ f₂ full₂ d₂ same₂ =
-        acted-answers (rules.key code) l b t m (keystroke codes code) refl (lt-ltb code 256 byte) refl size
+        acted-answers (rules.key code) l b t m (keystroke codes code) refl (lt-ltb code byteValues byte) refl size
         (acted-then arrived
         (act-done left (w .at) (w .sent) (arrived .counted) (λ y. meets₂ y (left-bounded y)) none₂ r keys₂ text₂ t₂ m₂ k₂ f₂ full₂ d₂ same₂))

@@ -4,7 +4,7 @@ use native.Mathlib.Omega.{arith}
 use mathlib.Core.Bool.{Bool}
 use mathlib.Core.List.{List}
 use Rattle.rules.specs.Choice.{pick}
-use Rattle.rules.specs.Numbers.{inputSize, typeAheadSize}
+use Rattle.rules.specs.Numbers.{inputSize}
 use Rattle.rules.specs.State.{State, codes}
 use Rattle.rules.specs.Turns.{Fate, Turn, Rule, tells, behind, _then_}
 use Rattle.rules.specs.Arrival.{rubbingOut, clearRule, clearsBy, clearsAtOnce, controlled, byFirstRule, arrives}
