@@ -1,4 +1,4 @@
--- An act that is done: from what it does to the flow and the text to what the rules do.
+-- An act that is done: from what it does to the flow and the text to what the rules do; and the answer of a call whose acts are done.
 use mathlib.Core.Path.{_≡_, refl, sym, ap, _∙_, subst}
 use Prim.Native.Nat.{ℕ, _<_}
 use mathlib.Core.List.{List, [], _∷_}
@@ -40,7 +40,7 @@ use Rattle.line.specs.With.{onFlow, onKeys, lent}
 use Rattle.line.specs.KeyArray.{keysAfter}
 use Rattle.line.specs.Host.{Accepted}
 use Rattle.line.specs.Promise.{Progress, on, Does}
-use Rattle.line.specs.Acts.{actRule, callKindsOf, Ready, Doable, Done, Meets}
+use Rattle.line.specs.Acts.{actRule, eventKindsOf, Ready, Doable, Done, Meets}
 use Rattle.line.proofs.acts.Act.{the-type}
 use Rattle.line.proofs.ReceivedMessage.{true-false}
 use Rattle.line.proofs.KeyArrays.{after-length}
@@ -73,7 +73,7 @@ Moves (Obeys m) = Unit {0}
 pub moved : {x y : Act} → x ≡ y → Moves y → x ≡ Nothing → ⊥
 moved e m n = subst Moves (sym e ∙ n) m
 
--- the arms that a call leaves over
+-- the arms that an event's method leaves over
 abbrev keyRest : List ℕ
 keyRest = 0 ∷ 8 ∷ 9 ∷ 10 ∷ 11 ∷ 12 ∷ []
 
@@ -86,12 +86,12 @@ tickRest = 0 ∷ 1 ∷ 2 ∷ 3 ∷ 4 ∷ 5 ∷ 6 ∷ 7 ∷ 8 ∷ 9 ∷ 12 ∷ []
 abbrev hostRest : List ℕ
 hostRest = 0 ∷ 1 ∷ 2 ∷ 3 ∷ 4 ∷ 5 ∷ 6 ∷ 7 ∷ 8 ∷ 9 ∷ 10 ∷ 11 ∷ []
 
--- an act that a call may meet and for which it has no arm is none
+-- an act that an event may meet and for which its method has no arm is none
 pub record Rest (a : Act) : Type 0 where
-  pub key : callKindsOf a .key ≡ true → OneOf keyRest (tagOf the-type a) → a ≡ Nothing
-  pub step : callKindsOf a .step ≡ true → OneOf stepRest (tagOf the-type a) → a ≡ Nothing
-  pub tick : callKindsOf a .tick ≡ true → OneOf tickRest (tagOf the-type a) → a ≡ Nothing
-  pub host : callKindsOf a .host ≡ true → OneOf hostRest (tagOf the-type a) → a ≡ Nothing
+  pub key : eventKindsOf a .key ≡ true → OneOf keyRest (tagOf the-type a) → a ≡ Nothing
+  pub step : eventKindsOf a .step ≡ true → OneOf stepRest (tagOf the-type a) → a ≡ Nothing
+  pub tick : eventKindsOf a .tick ≡ true → OneOf tickRest (tagOf the-type a) → a ≡ Nothing
+  pub host : eventKindsOf a .host ≡ true → OneOf hostRest (tagOf the-type a) → a ≡ Nothing
 
 foreign : {A B : Type 0} → false ≡ true → A → B
 foreign e = absurd (true-false (sym e))
@@ -171,7 +171,7 @@ done-counted l a text r c size f =
       flow = f;
     }
 
--- One act of a call, which brings no message: in areas that are large enough its rule is done, in smaller ones nothing is.
+-- What a call has done by an act that brings no message, or by several: in areas that are large enough the rule, in smaller ones nothing.
 pub record Acted (rule : Rule ℕ) (roomy : Bool) (w : Progress) (t m : List ℕ) (r : Progress) (t′ m′ : List ℕ) : Type 0 where
   pub done : roomy ≡ true → Does rule w t m r t′ m′
   pub none : roomy ≡ false → (r ≡ w) × ((t′ ≡ t) × (m′ ≡ m))

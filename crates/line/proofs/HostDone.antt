@@ -51,7 +51,7 @@ use Rattle.line.specs.Promise.{Progress, on, Does}
 use Rattle.line.proofs.Turns.{then-does, changes-does, only-does, not-does}
 use Rattle.line.proofs.FlowChanges.{here-rule, for-equal}
 use Rattle.line.proofs.SentMessages.{sent-does}
-use Rattle.line.proofs.Answers.{doneAnswer, workOn, begun, answered}
+use Rattle.line.proofs.Answers.{doneAnswer, underWay, workOn, begun, answered}
 use Rattle.line.proofs.ReceivedMessage.{true-false}
 use Rattle.line.proofs.HostAccepted.{questions-known}
 
@@ -69,7 +69,7 @@ still-behind a b =
 
 -- another line that looks the same, before a rule and after it
 at-view : {f : Rule ℕ} {v l : Line} {at sent : ℕ} {r : Progress} {t t′ m m′ : List ℕ} → view v ≡ view l →
-    Does f (record { line = v; at = at; sent = sent }) t m r t′ m′ → Does f (record { line = l; at = at; sent = sent }) t m r t′ m′
+    Does f (underWay v at sent) t m r t′ m′ → Does f (underWay l at sent) t m r t′ m′
 at-view {f} {v} {l} {at} {sent} {r} {t} {t′} {m} {m′} e h =
     record {
       state = h .state ∙ ap (λ z. f z .state) e;
@@ -83,6 +83,12 @@ still-same : {w r : Progress} {t m : List ℕ} → view (r .line) ≡ view (w .l
 unfolding still messageBytes joined puts
 still-same {w} {r} {t} {m} e at sent =
     record { state = e; shows = ap (spot t) at; sends = ap (spot m) sent; terminalLength = refl; messagesLength = refl }
+
+-- the rules answer an accepted message by obeying it
+message-answers : (l : Line) (s : List ℕ) (m : HostMessage) → Accepted l s m →
+    answers codes (calls.message s) (view l) ≡ does (obeysHeld (heldIn s (messageOf m))) (view l)
+unfolding answers answersMessage obeysHeld
+message-answers l s m a = ap (λ o. answersMessage codes o (view l)) (a .taken) ∙ ap (λ h. does (obeysHeld h) (view l)) (sym (a .held))
 
 abbrev held-kind : Held → ℕ
 held-kind (codec.message x) = x .kind
@@ -252,11 +258,6 @@ module _ (s t before mid t′ m′ text′ : List ℕ) (l next : Line) (place : 
   host-does (ReadCharacteristics p) a size more e i d = for-equal obeysHeld (sym (held-questions s p)) (report-turns p a e i (d next more tt))
   host-does (Characteristics p) a size more e i d = for-equal obeysHeld (sym (held-settings s p)) (settings-turns p e i (d next more tt))
 
-  -- the rules answer an accepted message by obeying it
-  message-answers : (m : HostMessage) → Accepted l s m → answers codes (calls.message s) (view l) ≡ does (obeysHeld (heldIn s (messageOf m))) (view l)
-  unfolding answers answersMessage obeysHeld
-  message-answers m a = ap (λ o. answersMessage codes o (view l)) (a .taken) ∙ ap (λ h. does (obeysHeld h) (view l)) (sym (a .held))
-
   -- and the call's answer
   pub host-answers : (m : HostMessage) → Bounded l → Accepted l s m → areRoomy (length t) (length before) ≡ true → SetBy s m l next →
       Reported s m next before place mid → {act : Act} → act ≡ Obeys m →
@@ -266,6 +267,6 @@ module _ (s t before mid t′ m′ text′ : List ℕ) (l next : Line) (place : 
   host-answers m b a room set said {act} e d f size =
       let c = set-counted s l next m (b .counted) set in
       let works : Works m next = λ k. subst (λ x. Done s x (next .terms) k (workOn next 0 place) (next .text) t mid r text′ t′ m′) e (d k) in
-      answered (calls.message s) l t before b (obeysHeld (heldIn s (messageOf m))) (message-answers m a) (a .bytes) room
+      answered (calls.message s) l t before b (obeysHeld (heldIn s (messageOf m))) (message-answers l s m a) (a .bytes) room
       (on (lent (next .terms) text′ next) r) t′ m′ (host-does m a (b .counted .keys) (c .keys) set said works)
       (record { table = c .table; keys = c .keys; text = size; set = c .set; lastSet = c .lastSet; prompt = c .prompt; flow = f })

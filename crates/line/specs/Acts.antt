@@ -72,27 +72,27 @@ pub record CanTakeKey (f : Flow) (t : Terms) : Type 0 where
   pub waits : 0 < f .typed .«keys_len»
   pub short : f .typed .«token_len» < tokenSize
 
--- the calls that may meet an act
-pub record CallKinds : Type 0 where
+-- the events that may meet an act; a key is its arrival
+pub record EventKinds : Type 0 where
   pub key : Bool
   pub step : Bool
   pub tick : Bool
   pub host : Bool
 
-abbrev pub callKindsOf : Act → CallKinds
-callKindsOf Nothing = record { key = true; step = true; tick = true; host = true }
-callKindsOf (Stores c) = record { key = true; step = false; tick = false; host = false }
-callKindsOf (StoresQuoted c) = record { key = true; step = false; tick = false; host = false }
-callKindsOf (SendsOutOfBand c) = record { key = true; step = false; tick = false; host = false }
-callKindsOf (ClearsAtOnce c) = record { key = true; step = false; tick = false; host = false }
-callKindsOf Quotes = record { key = true; step = false; tick = false; host = false }
-callKindsOf Clears = record { key = true; step = false; tick = false; host = false }
-callKindsOf FlipsDiscard = record { key = true; step = false; tick = false; host = false }
-callKindsOf TakesToken = record { key = false; step = true; tick = false; host = false }
-callKindsOf (Takes k) = record { key = false; step = true; tick = false; host = false }
-callKindsOf TimesOut = record { key = false; step = true; tick = true; host = false }
-callKindsOf (Idles idle) = record { key = false; step = false; tick = true; host = false }
-callKindsOf (Obeys m) = record { key = false; step = false; tick = false; host = true }
+abbrev pub eventKindsOf : Act → EventKinds
+eventKindsOf Nothing = record { key = true; step = true; tick = true; host = true }
+eventKindsOf (Stores c) = record { key = true; step = false; tick = false; host = false }
+eventKindsOf (StoresQuoted c) = record { key = true; step = false; tick = false; host = false }
+eventKindsOf (SendsOutOfBand c) = record { key = true; step = false; tick = false; host = false }
+eventKindsOf (ClearsAtOnce c) = record { key = true; step = false; tick = false; host = false }
+eventKindsOf Quotes = record { key = true; step = false; tick = false; host = false }
+eventKindsOf Clears = record { key = true; step = false; tick = false; host = false }
+eventKindsOf FlipsDiscard = record { key = true; step = false; tick = false; host = false }
+eventKindsOf TakesToken = record { key = false; step = true; tick = false; host = false }
+eventKindsOf (Takes k) = record { key = false; step = true; tick = false; host = false }
+eventKindsOf TimesOut = record { key = false; step = true; tick = true; host = false }
+eventKindsOf (Idles idle) = record { key = false; step = false; tick = true; host = false }
+eventKindsOf (Obeys m) = record { key = false; step = false; tick = false; host = true }
 
 -- what is known of the line once an act is chosen
 abbrev pub Ready : List ℕ → Line → Act → Type 0

@@ -16,7 +16,7 @@ use Rattle.line.specs.declared.events.Event.{Event}
 use Rattle.line.specs.declared.events.Event.the-variants.{Key, Tick, Step, Host}
 use Rattle.line.specs.declared.acts.Act.{Act}
 use Rattle.line.specs.TokenChanges.{codesOf}
-use Rattle.line.specs.Acts.{callKindsOf, TakesFirst}
+use Rattle.line.specs.Acts.{eventKindsOf, TakesFirst}
 use Rattle.line.specs.Bounded.{Bounded}
 use Rattle.line.specs.Host.{messageOf, Accepted, obeysHeld}
 
@@ -35,12 +35,12 @@ LookedUp s l lookup (Host m) = Accepted l s m
 
 -- an event may meet this act
 abbrev pub isActOf : Event → Act → Bool
-isActOf (Key c) a = callKindsOf a .key
-isActOf Tick a = callKindsOf a .tick
-isActOf Step a = callKindsOf a .step
-isActOf (Host m) a = callKindsOf a .host
+isActOf (Key c) a = eventKindsOf a .key
+isActOf Tick a = eventKindsOf a .tick
+isActOf Step a = eventKindsOf a .step
+isActOf (Host m) a = eventKindsOf a .host
 
--- the rule that an event is
+-- the rule that an event is; a key is its arrival
 unfoldable pub eventRule : List ℕ → Event → Rule ℕ
 eventRule s (Key c) = arrives codes c
 eventRule s Tick = ticks codes

@@ -13,7 +13,7 @@ ghost use Rattle.line.specs.Bounded.{CountedFlow, CountedReading};
 ghost use Rattle.line.specs.With.{onFlow, lent};
 ghost use Rattle.line.specs.KeyArray.{stored};
 ghost use Rattle.line.specs.Promise.{on, Does, DoesOn};
-ghost use Rattle.line.specs.Acts.{callKindsOf, Meets};
+ghost use Rattle.line.specs.Acts.{eventKindsOf, Meets};
 use crate::Flow;
 use crate::Reading;
 use crate::Terms;
@@ -292,7 +292,7 @@ impl Work {
 // Rule 3, then 4.
 fn act_of_control(c: u8) -> Act
     ensures rule { λ a. ⌜ ((s : List ℕ) (l : Line) → Meets (rules.controlled codes c) s l a) ⌝ }
-    ensures kind { λ a. ⌜ callKindsOf a .key ≡ true ⌝ }
+    ensures kind { λ a. ⌜ eventKindsOf a .key ≡ true ⌝ }
 {
     if c == QUOTE_KEY {
         return Act::Quotes;
@@ -310,7 +310,7 @@ impl Flow {
     // Rules 1 to 4: the first that applies is the only one.
     fn act_after_initiate(self, c: u8, attribute: u8, t: Terms) -> Act
         ensures rule { λ a. ⌜ ((s : List ℕ) (l : Line) → attribute ≡ getD (l .attributes) c 0 → Meets (rules.byFirstRule codes c) s (onFlow self (lent t (l .text) l)) a) ⌝ }
-        ensures kind { λ a. ⌜ callKindsOf a .key ≡ true ⌝ }
+        ensures kind { λ a. ⌜ eventKindsOf a .key ≡ true ⌝ }
     {
         let known = self.terminal;
         if known.quoting {
@@ -332,7 +332,7 @@ impl Flow {
     // The arrival rules; before Initiate only rule 4 applies.
     pub(crate) fn act_of_key(self, c: u8, initiated: bool, attribute: u8, t: Terms) -> Act
         ensures rule { λ a. ⌜ ((s : List ℕ) (l : Line) → initiated ≡ l .initiated → attribute ≡ getD (l .attributes) c 0 → Meets (rules.arrives codes c) s (onFlow self (lent t (l .text) l)) a) ⌝ }
-        ensures kind { λ a. ⌜ callKindsOf a .key ≡ true ⌝ }
+        ensures kind { λ a. ⌜ eventKindsOf a .key ≡ true ⌝ }
     {
         if initiated {
             return self.act_after_initiate(c, attribute, t);

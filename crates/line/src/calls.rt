@@ -62,9 +62,9 @@ impl Line {
         let left = arrived.flow;
         let waiting = left.typed;
         let set = next.set;
-        let next_key = next.keys[0];
-        let seen = left.look_up_for_step(next_key, set, terms);
-        let act = left.act_if(roomy, Event::Step, seen, terms);
+        let first_left = next.keys[0];
+        let step_lookup = left.look_up_for_step(first_left, set, terms);
+        let act = left.act_if(roomy, Event::Step, step_lookup, terms);
         move_keys(&mut next.keys, waiting.keys_len as usize, act);
         let done = arrived.acts_on_step(act, terminal, messages, &mut next.text, terms);
         let after = done.flow;

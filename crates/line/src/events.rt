@@ -34,6 +34,7 @@ pub(crate) enum HostMessage {
     CheckInput,
 }
 
+// What a call brings. A key is its arrival: the keystroke makes a step behind it.
 pub(crate) enum Event {
     Key(u8),
     Tick,

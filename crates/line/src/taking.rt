@@ -20,7 +20,7 @@ ghost use Rattle.line.specs.TokenChanges.{codesOf};
 ghost use Rattle.line.specs.KeyArray.{shifted};
 ghost use Rattle.line.specs.Promise.{DoesAcross, DoesOn};
 ghost use Rattle.line.specs.Events.{LookedUpForStep};
-ghost use Rattle.line.specs.Acts.{CanTakeKey, idleAtZero, takesKey, takenRule, HasTakenKey, callKindsOf, Meets, TakesFirst};
+ghost use Rattle.line.specs.Acts.{CanTakeKey, idleAtZero, takesKey, takenRule, HasTakenKey, eventKindsOf, Meets, TakesFirst};
 use crate::Flow;
 use crate::Terms;
 use crate::Work;
@@ -50,7 +50,7 @@ impl Terms {
     // No key waits: a read with Q and TIMEOUT 0 completes.
     fn act_without_key(self) -> Act
         ensures rule { λ a. ⌜ ((s : List ℕ) (l : Line) → Meets (rules.takesFirst codes [] (readingOf (lent self (l .text) l) (l .flow .reading))) s (lent self (l .text) l) a) ⌝ }
-        ensures kind { λ a. ⌜ callKindsOf a .step ≡ true ⌝ }
+        ensures kind { λ a. ⌜ eventKindsOf a .step ≡ true ⌝ }
     {
         if self.timed & (self.timeout == 0) {
             return Act::TimesOut;
@@ -61,7 +61,7 @@ impl Terms {
 
 impl Flow {
     // The rules in order.
-    pub(crate) fn taken_as(self, key: u16, ends: bool, t: Terms) -> Taken
+    fn taken_as(self, key: u16, ends: bool, t: Terms) -> Taken
         requires { ⌜ CountedTyped (self .typed) ⌝ }
         ensures { λ k.
             ⌜ ((s : List ℕ) (l : Line) → CanTakeKey self t →
@@ -108,7 +108,7 @@ impl Flow {
         ensures rule { λ a.
             ⌜ ((s : List ℕ) (l : Line) → Bounded (onFlow self (lent t (l .text) l)) → held ≡ isWhole (codesOf (self .typed)) →
             TakesFirst s (onFlow self (lent t (l .text) l)) taken → Meets (rules.steps codes) s (onFlow self (lent t (l .text) l)) a) ⌝ }
-        ensures kind { λ a. ⌜ callKindsOf a .step ≡ true ⌝ }
+        ensures kind { λ a. ⌜ eventKindsOf a .step ≡ true ⌝ }
     {
         let known = self.terminal;
         if known.locked {
@@ -132,7 +132,7 @@ impl Flow {
     // Idle rises by one; at TIMEOUT the read completes.
     fn act_of_idling(self, t: Terms) -> Act
         ensures rule { λ a. ⌜ ((s : List ℕ) (l : Line) → Meets (rules.idles codes (readingOf (lent t (l .text) l) (self .reading))) s (onFlow self (lent t (l .text) l)) a) ⌝ }
-        ensures kind { λ a. ⌜ callKindsOf a .tick ≡ true ⌝ }
+        ensures kind { λ a. ⌜ eventKindsOf a .tick ≡ true ⌝ }
     {
         let r = self.reading;
         let idle = r.idle as u32 + 1;
@@ -146,7 +146,7 @@ impl Flow {
     pub(crate) fn act_of_tick(self, held: bool, t: Terms) -> Act
         requires { ⌜ CountedTyped (self .typed) ⌝ }
         ensures rule { λ a. ⌜ ((s : List ℕ) (l : Line) → held ≡ isWhole (codesOf (self .typed)) → Meets (rules.ticks codes) s (onFlow self (lent t (l .text) l)) a) ⌝ }
-        ensures kind { λ a. ⌜ callKindsOf a .tick ≡ true ⌝ }
+        ensures kind { λ a. ⌜ eventKindsOf a .tick ≡ true ⌝ }
     {
         let pending = self.pending;
         if !pending {

@@ -160,7 +160,7 @@ recognising = told (0x0B ∷ 0x00 ∷ 0x06 ∷ 0x02 ∷ 0x01 ∷ []) accepted []
 abbrev pub waiting : ℕ → Exchange
 waiting n = told (0x0C ∷ 0x00 ∷ []) accepted [] (0x04 ∷ 0x00 ∷ 0x0D ∷ 0x00 ∷ n ∷ 0x00 ∷ [])
 
--- keys that show nothing; the last one sends these messages
+-- keys that show nothing; the last one sends these messages. Of no keys nothing is claimed
 unfoldable pub typedUnseen : List ℕ → List ℕ → List Exchange
 typedUnseen [] messages = []
 typedUnseen (code ∷ []) messages = typed code [] messages ∷ []

@@ -16,7 +16,7 @@ use Rattle.rules.specs.Arrival.{idleAgain, keeps, countsDropped, drops, 
 use Rattle.rules.specs.Arrival.{Rubbing, rubbingOut, withoutRubbing, clearRule, sendsOutOfBand, endsOutOfBand, clearsAtOnce}
 use Rattle.rules.specs.Bounds.{BoundedReading, BoundedRead}
 use Rattle.rules.proofs.Bounds.Bytes.{no-bytes, one-byte, bytes-append}
-use Rattle.rules.proofs.Bounds.Turns.{OfRead, Steady, Good, Fine, fine, reset, reflagged, retyped, reread}
+use Rattle.rules.proofs.Bounds.Turns.{OfRead, Steady, Good, Fine, fine, arrivalArea, answerArea, reset, reflagged, retyped, reread}
 use Rattle.rules.proofs.Bounds.Turns.{still-good, changes-good, writes-good, sends-good, tells-then, changes-then, then-good, quiet-then, then-quiet, pick-good, only-good}
 use Rattle.rules.proofs.Bounds.Messages.{discardState-sent, outOfBand-sent}
 use Rattle.rules.proofs.Bounds.ReadData.{bounded-answerable, completes-good}
@@ -90,7 +90,7 @@ module _ {s : State ℕ} (h : Steady BoundedRead s) where
   clearsInput-good rubbingOut (some r) b = deletes-good cleared 0 r b h
   clearsInput-good withoutRubbing (some r) b = deletesWithoutRubbing-good cleared 0 r b h
 
-  endsOutOfBand-good : {bytes : ℕ} (o : Option (Reading ℕ)) → BoundedRead o → Good BoundedRead bytes (10 + inputSize) (endsOutOfBand codes o s)
+  endsOutOfBand-good : {bytes : ℕ} (o : Option (Reading ℕ)) → BoundedRead o → Good BoundedRead bytes answerArea (endsOutOfBand codes o s)
   unfolding endsOutOfBand
   endsOutOfBand-good none b = still-good h
   endsOutOfBand-good (some r) b = completes-good byOutOfBand 0 r (omega arith) (bounded-answerable r b) h
@@ -113,15 +113,15 @@ module _ {s : State ℕ} (h : Steady BoundedRead s) where
     unfolding sendsOutOfBand
     sendsOutOfBand-good = tells-then _ _ (sends-good _ (outOfBand-sent c byte) (omega arith) h)
 
-    pub clearsAtOnce-good : Good BoundedRead 0 (inputSize + 15) (clearsAtOnce codes c s)
+    pub clearsAtOnce-good : Good BoundedRead 0 (arrivalArea + answerArea) (clearsAtOnce codes c s)
     unfolding clearsAtOnce unlocks
     clearsAtOnce-good =
-        then-good _ _ 0 0 5 (10 + inputSize) (omega arith) (omega arith) sendsOutOfBand-good λ s₁ h₁.
+        then-good _ _ 0 0 5 answerArea (omega arith) (omega arith) sendsOutOfBand-good λ s₁ h₁.
         changes-then _ _
         (quiet-then _ _ (clearRule-good (reflagged h₁) withoutRubbing) λ s₂ h₂.
         endsOutOfBand-good h₂ (s₂ .pendingRead) (h₂ .pendingRead))
 
--- What these two leave for a step: no key, and no read.
+-- What the clear rule and immediate clear leave for a step: no key, and no read.
 
 clearsInput-keeps : (o : Option (Reading ℕ)) (s : State ℕ) → clearsInput codes rubbingOut o s .state .typed .typeAhead ≡ s .typed .typeAhead
 unfolding clearsInput deletes deletesWithoutRubbing still writes tells changes _then_ behind

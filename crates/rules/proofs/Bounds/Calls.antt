@@ -18,7 +18,7 @@ use Rattle.rules.specs.Bounds.{isAttribute, BoundedRead, Bounded, isByte
 use Rattle.rules.proofs.Choice.{pick-case, pick-second, halves, all-cons}
 use Rattle.rules.proofs.Outcomes.{refused-sound}
 use Rattle.rules.proofs.Bounds.Sent.{area-meant, read-sent}
-use Rattle.rules.proofs.Bounds.Turns.{Steady, Fine, fine, stepBytes, stepArea, still-good}
+use Rattle.rules.proofs.Bounds.Turns.{Steady, Fine, fine, stepBytes, answerArea, still-good}
 use Rattle.rules.proofs.Bounds.Steps.{steps-fine, ticks-fine}
 use Rattle.rules.proofs.Bounds.Keystroke.{arrives-leaves, keystroke-fine}
 use Rattle.rules.proofs.Bounds.Host.{obeys-fine}
@@ -40,7 +40,7 @@ steady b = record { host = b .host; terminal = b .terminal; typed = b .typed; pe
 bounded : {s : State ℕ} → Steady BoundedRead s → Bounded s
 bounded h = record { host = h .host; terminal = h .terminal; typed = h .typed; pendingRead = h .pendingRead }
 
--- between a key's arrival and its step
+-- the line between a key's arrival and its step is bounded
 pub arrives-bounded : (c : ℕ) (s : State ℕ) → c < 256 → Bounded s → Bounded (arrives codes c s .state)
 arrives-bounded c s byte b = bounded (arrives-leaves (steady b) c byte .arrival .state)
 
@@ -87,7 +87,7 @@ module _ {s : State ℕ} (h : Steady BoundedRead s) where
   answers-within : (e : Event ℕ) → isByteEvent e ≡ true → Within (answers codes e s)
   unfolding answers does isByteEvent
   answers-within (key c) byte = fine-within _ (keystroke-fine h c (ltb-true c 256 byte))
-  answers-within step byte = fine-within _ (fine stepBytes stepArea (omega arith) (omega arith) (steps-fine h))
+  answers-within step byte = fine-within _ (fine stepBytes answerArea (omega arith) (omega arith) (steps-fine h))
   answers-within tick byte = fine-within _ (ticks-fine h)
   answers-within (message bytes) small = answersMessage-within bytes small (received s bytes) refl
   answers-within (load own site) small = let h = halves (allBytes own) (allBytes site) small in answersLoad-within own site (h .0) (h .1)

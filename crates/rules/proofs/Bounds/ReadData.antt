@@ -18,7 +18,7 @@ use Rattle.rules.proofs.Numbers.{input-word}
 use Rattle.rules.proofs.Bounds.Bytes.{no-bytes}
 use Rattle.rules.proofs.Bounds.Screen.{change-byte}
 use Rattle.rules.proofs.Bounds.Sent.{Sent}
-use Rattle.rules.proofs.Bounds.Turns.{OfRead, Steady, Good, Fine, fine, retyped, reread}
+use Rattle.rules.proofs.Bounds.Turns.{OfRead, Steady, Good, Fine, fine, answerArea, retyped, reread}
 use Rattle.rules.proofs.Bounds.Turns.{changes-good, sends-good, tells-then, quiet-then, then-quiet, only-good}
 use Rattle.rules.proofs.Bounds.Messages.{bit-flag, readData-sent}
 
@@ -49,7 +49,7 @@ loses-good h = only-good _ _ (λ y. tells-then _ _ (changes-good _ (retyped h (e
 
 -- A completion, whatever read was pending: none is afterwards.
 pub completes-good : {R : OfRead} {bytes : ℕ} {s : State ℕ} (code ending : ℕ) (r : Reading ℕ) → code ≤ 13 → Answerable r → Steady R s →
-    Good BoundedRead bytes (10 + inputSize) (completes codes code ending r s)
+    Good BoundedRead bytes answerArea (completes codes code ending r s)
 unfolding completes sendsReadData endsRead
 completes-good code ending r c a h =
     quiet-then _ _ (loses-good h) λ s₁ h₁.
@@ -58,14 +58,14 @@ completes-good code ending r c a h =
 
 pub completes-fine : {R : OfRead} {s : State ℕ} (code ending : ℕ) (r : Reading ℕ) → code ≤ 13 → Answerable r → Steady R s →
     Fine (completes codes code ending r s)
-completes-fine code ending r c a h = fine 0 (10 + inputSize) (omega arith) (omega arith) (completes-good code ending r c a h)
+completes-fine code ending r c a h = fine 0 answerArea (omega arith) (omega arith) (completes-good code ending r c a h)
 
 -- A buffer that may be full, by a test: then the read completes.
 abbrev pub Unless : Bool → OfRead
 Unless full o = full ≡ false → BoundedRead o
 
 pub completes-full : {bytes : ℕ} {s : State ℕ} (full : Bool) (r : Reading ℕ) → Answerable r → Steady (Unless full) s →
-    Good BoundedRead bytes (10 + inputSize) (only full (completes codes byFullBuffer 0 r) s)
+    Good BoundedRead bytes answerArea (only full (completes codes byFullBuffer 0 r) s)
 completes-full full r a h =
     only-good full _ (λ y. completes-good byFullBuffer 0 r (omega arith) a h) λ n.
     record { host = h .host; terminal = h .terminal; typed = h .typed; pendingRead = h .pendingRead n }

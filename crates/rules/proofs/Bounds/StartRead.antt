@@ -20,7 +20,7 @@ use Rattle.rules.specs.StartRead.Acceptance.{shownPrompt, dataBehind, hi
 use Rattle.rules.specs.Bounds.{BoundedTerms, BoundedRead}
 use Rattle.rules.proofs.Choice.{pick-case}
 use Rattle.rules.proofs.Bounds.Bytes.{bytes-drop}
-use Rattle.rules.proofs.Bounds.Turns.{Steady, Good, Fine, fine, rehosted}
+use Rattle.rules.proofs.Bounds.Turns.{Steady, Good, Fine, fine, answerArea, rehosted}
 use Rattle.rules.proofs.Bounds.Turns.{changes-good, writes-good, then-good, quiet-then, then-quiet, writes-sends, only-good}
 use Rattle.rules.proofs.Bounds.Sent.{map-same}
 use Rattle.rules.proofs.Bounds.ReadData.{Answerable, Unless, completes-full}
@@ -90,16 +90,16 @@ module _ (m : Message ℕ) (known : AcceptedStartRead m) {s : State ℕ} (h : St
         displayColumn = top;
       }
 
-  begins-good : Good BoundedRead (2 + 8 * inputSize) (10 + inputSize) (begins codes m (openedRead codes m s) s)
+  begins-good : Good BoundedRead (2 + 8 * inputSize) answerArea (begins codes m (openedRead codes m s) s)
   unfolding begins clearsFirst feedsLine autoPrompts completesIfFull openedRead dataBehind hidesInput openedTerms shownPrompt
   begins-good =
       let r = openedRead codes m s in
       let t = terms-bounded in
       let n = input-length in
       quiet-then _ _ (only-good _ _ (λ y. emptiesTyped-good h) (λ n. h)) λ s₁ h₁.
-      then-good _ _ 1 (1 + 8 * inputSize) 0 (10 + inputSize) (omega arith) (omega arith)
+      then-good _ _ 1 (1 + 8 * inputSize) 0 answerArea (omega arith) (omega arith)
       (only-good _ _ (λ y. writes-good _ (omega arith) h₁) (λ n. h₁)) λ s₂ h₂.
-      then-good _ _ 1 (8 * inputSize) 0 (10 + inputSize) (omega arith) (omega arith)
+      then-good _ _ 1 (8 * inputSize) 0 answerArea (omega arith) (omega arith)
       (only-good _ _ (λ y. writes-good _ (omega arith) h₂) (λ n. h₂)) λ s₃ h₃.
       writes-sends _ _ (displays-good r reading-bounded (omega arith) h₃) λ s₄ h₄.
       completes-full full r reading-answerable h₄
@@ -107,7 +107,7 @@ module _ (m : Message ℕ) (known : AcceptedStartRead m) {s : State ℕ} (h : St
   pub startsRead-fine : Fine (startsRead codes m s)
   unfolding startsRead remembersSet
   startsRead-fine =
-      fine (2 + 8 * inputSize) (10 + inputSize) (omega arith) (omega arith)
+      fine (2 + 8 * inputSize) answerArea (omega arith) (omega arith)
       (then-quiet _ _ begins-good λ s₁ h₁.
       only-good _ _
       (λ y. changes-good _ (rehosted h₁ (record {

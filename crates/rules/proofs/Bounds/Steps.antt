@@ -22,7 +22,7 @@ use Rattle.rules.specs.Bounds.{BoundedTyped, BoundedReading, BoundedRead
 use Rattle.rules.proofs.Choice.{pick-case, all-cons}
 use Rattle.rules.proofs.Bounds.Bytes.{one-byte, bytes-append}
 use Rattle.rules.proofs.Bounds.Screen.{echo-length, echoTerminator-length}
-use Rattle.rules.proofs.Bounds.Turns.{Steady, Good, Fine, stepArea, FineStep, retyped, reread}
+use Rattle.rules.proofs.Bounds.Turns.{Steady, Good, Fine, answerArea, FineStep, retyped, reread}
 use Rattle.rules.proofs.Bounds.Turns.{still-good, changes-good, writes-good, tells-then, changes-then, writes-sends, roomier, pick-good, only-good}
 use Rattle.rules.proofs.Bounds.ReadData.{Answerable, bounded-answerable, emptied, completes-good, completes-fine, completes-full}
 use Rattle.rules.proofs.Bounds.Editing.{deletes-good, redisplays-good}
@@ -91,7 +91,7 @@ raisedBy-byte r c h =
 
 module _ (r : Reading ℕ) (b : BoundedReading r) where
   -- tokens never echo
-  takesToken-good : {bytes : ℕ} {s : State ℕ} → Steady BoundedRead s → Good BoundedRead bytes stepArea (takesToken codes r s)
+  takesToken-good : {bytes : ℕ} {s : State ℕ} → Steady BoundedRead s → Good BoundedRead bytes answerArea (takesToken codes r s)
   unfolding takesToken endsByToken
   takesToken-good {s = s} h =
       pick-good _ _ _
@@ -132,7 +132,7 @@ module _ (r : Reading ℕ) (b : BoundedReading r) where
     unfolding takesData echoesIf
     takesData-fine h =
         let full = eqb (endOf r + 1) (r .terms .maxLength) in
-        roomier 8 (10 + inputSize) (omega arith) (omega arith)
+        roomier 8 answerArea (omega arith) (omega arith)
         (changes-then _ _
         (writes-sends _ _ (writes-good _ (echoed-length (r .terms .echoes) _ (echo-length _ c)) (reread h (some (appended (c ∷ []) r)) one-bounded)) λ s₁ h₁.
         completes-full full (appended (c ∷ []) r) one-answerable h₁))
@@ -140,7 +140,7 @@ module _ (r : Reading ℕ) (b : BoundedReading r) where
     terminates-fine : {s : State ℕ} → Steady BoundedRead s → FineStep (terminates codes c r s)
     unfolding terminates echoesTerminatorIf
     terminates-fine h =
-        roomier 8 (10 + inputSize) (omega arith) (omega arith)
+        roomier 8 answerArea (omega arith) (omega arith)
         (writes-sends _ _ (writes-good _ (echoed-length (r .terms .terminatorEcho && r .terms .echoes) _ (echoTerminator-length _ c)) h) λ s₁ h₁.
         completes-good byTerminator 1 (appended (c ∷ []) r) (omega arith) one-answerable h₁)
 
@@ -179,7 +179,7 @@ module _ (r : Reading ℕ) (b : BoundedReading r) where
 
 module _ (r : Reading ℕ) (b : BoundedReading r) {s : State ℕ} (h : Steady BoundedRead s) where
   -- no key: nothing is written
-  takesNone-good : {bytes : ℕ} → Good BoundedRead bytes stepArea (takesFirst codes [] r s)
+  takesNone-good : {bytes : ℕ} → Good BoundedRead bytes answerArea (takesFirst codes [] r s)
   unfolding takesFirst
   takesNone-good = only-good _ _ (λ y. completes-good byTimeout 0 r (omega arith) (bounded-answerable r b) h) (λ n. h)
 
@@ -219,16 +219,16 @@ module _ {s : State ℕ} (h : Steady BoundedRead s) where
   steps-fine = only-good _ _ (λ y. stepsWhile-fine (s .pendingRead) (h .pendingRead)) (λ n. h)
 
   -- a step that finds no key shows nothing
-  unshown : (o : Option (Reading ℕ)) → BoundedRead o → s .typed .typeAhead ≡ [] → Good BoundedRead 0 stepArea (stepsWhile codes o s)
+  stepsWhile-without-keys : (o : Option (Reading ℕ)) → BoundedRead o → s .typed .typeAhead ≡ [] → Good BoundedRead 0 answerArea (stepsWhile codes o s)
   unfolding stepsWhile
-  unshown none b e = still-good h
-  unshown (some r) b e =
+  stepsWhile-without-keys none b e = still-good h
+  stepsWhile-without-keys (some r) b e =
       pick-good _ _ _ (λ y. takesToken-good r b h) λ n.
-      subst (λ keys. Good BoundedRead 0 stepArea (takesFirst codes keys r s)) (sym e) (takesNone-good r b h)
+      subst (λ keys. Good BoundedRead 0 answerArea (takesFirst codes keys r s)) (sym e) (takesNone-good r b h)
 
-  pub steps-without-keys : s .typed .typeAhead ≡ [] → Good BoundedRead 0 stepArea (steps codes s)
+  pub steps-without-keys : s .typed .typeAhead ≡ [] → Good BoundedRead 0 answerArea (steps codes s)
   unfolding steps
-  steps-without-keys e = only-good _ _ (λ y. unshown (s .pendingRead) (h .pendingRead) e) (λ n. h)
+  steps-without-keys e = only-good _ _ (λ y. stepsWhile-without-keys (s .pendingRead) (h .pendingRead) e) (λ n. h)
 
   -- and one that finds no read does nothing
   pub steps-without-read : s .pendingRead ≡ none → Good BoundedRead 0 0 (steps codes s)

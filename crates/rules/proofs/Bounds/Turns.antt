@@ -158,16 +158,17 @@ arrivalBytes = 1
 abbrev pub arrivalArea : ℕ
 arrivalArea = 5
 
--- A step rubs out a buffer at most, or echoes, and sends Read Data.
+-- Read Data with a whole buffer, behind its length.
+abbrev pub answerArea : ℕ
+answerArea = 10 + inputSize
+
+-- A step rubs out a buffer at most, or echoes, and sends Read Data at most.
 abbrev pub stepBytes : ℕ
 stepBytes = 24 * inputSize + 8
 
-abbrev pub stepArea : ℕ
-stepArea = 10 + inputSize
-
 abbrev pub FineStep : Turn ℕ → Type 0
-FineStep t = Good BoundedRead stepBytes stepArea t
+FineStep t = Good BoundedRead stepBytes answerArea t
 
 -- there is room for both, and most rules need no more
-pub fine : {t : Turn ℕ} (b a : ℕ) → b ≤ arrivalBytes + stepBytes → a ≤ arrivalArea + stepArea → Good BoundedRead b a t → Fine t
+pub fine : {t : Turn ℕ} (b a : ℕ) → b ≤ arrivalBytes + stepBytes → a ≤ arrivalArea + answerArea → Good BoundedRead b a t → Fine t
 fine b a p q h = let w = rubbing-room in let v = answer-room in roomier b a (omega arith) (omega arith) h

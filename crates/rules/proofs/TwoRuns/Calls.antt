@@ -7,10 +7,9 @@ use Rattle.rules.specs.Choice.{firstOf, allAre}
 use Rattle.rules.specs.Messages.Forms.{Message}
 use Rattle.rules.specs.Messages.Codec.{Outcome, refused, sound}
 use Rattle.rules.specs.State.{Characters, State, fresh}
-use Rattle.rules.specs.Turns.{Fate, Rule}
+use Rattle.rules.specs.Turns.{Fate, Rule, behind, _then_}
 use Rattle.rules.specs.Arrival.{arrives}
 use Rattle.rules.specs.Steps.{steps}
-use Rattle.rules.specs.Turns.{behind, _then_}
 use Rattle.rules.specs.Calls.{Event, key, step, tick, message, load, Call, Answer, refuses, does, received, answersMessage, answersLoad, keystroke, answers, answer}
 use Rattle.rules.proofs.Choice.{pick-both, all-halves}
 use Rattle.rules.proofs.TwoRuns.Twins.{Twin, isBoth, code₁, code₂, first-chars, second-chars, Level}

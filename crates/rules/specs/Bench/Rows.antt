@@ -87,7 +87,7 @@ starred =
     tokenTyped (27 ∷ 79 ∷ 80 ∷ []) 0x01 ∷
     tokenTyped (27 ∷ 63 ∷ 65 ∷ []) 0x01 ∷ []
 
--- Rows of our own, for mistakes that the starred cases do not show: those that page 01 warns of, those that settings, tokens and Writes invite, and some that edits of the definitions make.
+-- Rows of our own, for mistakes that the starred cases do not show: those that page 01 warns of, those that settings, tokens, Writes and the keystroke invite, and some that edits of the definitions make.
 unfoldable pub warned : List Case
 warned =
     -- waiting for one more key after the buffer is full
@@ -253,13 +253,16 @@ warned =
     stepped (0x30 ∷ []) [] ∷
     wroteNothing 0x01 ∷ stored 0x32 ∷ flipped 1 ∷ stepped [] [] ∷
     wroteNothing 0x00 ∷ stepped (0x32 ∷ []) [] ∷ []) ∷
-    -- immediate clear unlocks, and leaves no read for its step
+    -- immediate clear unlocks, and leaves no read for its step: one with Q and TIMEOUT 0 completes once
     runs
-    (initiated ∷ attribute 3 0x01 ∷ startedA ∷ wroteNothing 0x01 ∷
-    typed 3 [] (outOfBand 3 ++ (0x08 ∷ 0x00 ∷ 0x03 ∷ 0x03 ∷ 0x02 ∷ 0x00 ∷ 0x00 ∷ 0x02 ∷ 0x00 ∷ 0x00 ∷ [])) ∷
+    (initiated ∷ attribute 3 0x01 ∷ timedRead 0x00 ∷ wroteNothing 0x01 ∷
+    typed 3 [] (outOfBand 3 ++ (0x08 ∷ 0x00 ∷ 0x03 ∷ 0x03 ∷ 0x00 ∷ 0x00 ∷ 0x00 ∷ 0x00 ∷ 0x00 ∷ 0x00 ∷ [])) ∷
     startedA ∷ typed 0x31 (0x31 ∷ []) [] ∷ []) ∷
-    -- M-104, five rows. Before Initiate a key only waits. With a read the step takes the first that waits, not the one that came
-    runs (stored 0x34 ∷ initiated ∷ startedA ∷ typed 0x32 (0x34 ∷ []) [] ∷ stepped (0x32 ∷ []) [] ∷ []) ∷
+    -- M-104, five rows. Before Initiate even 15 only waits. With a read the step takes the first that waits, and the key that came is more data
+    runs
+    (stored discardKey ∷ initiated ∷ startedA ∷
+    typed 0x32 (0x5E ∷ 0x4F ∷ []) (0x09 ∷ 0x00 ∷ 0x03 ∷ 0x10 ∷ 0x02 ∷ 0x00 ∷ 0x00 ∷ 0x04 ∷ 0x00 ∷ 0x00 ∷ 0x0F ∷ []) ∷
+    waiting 1 ∷ []) ∷
     -- a dropped key is followed by the step too, which takes the first of the 64
     runs
     (initiated ∷ stored 0x34 ∷
@@ -272,9 +275,11 @@ warned =
     timedRead 0x00 ∷ typed 3 [] (outOfBand 3 ++ timedOut) ∷
     timedRead 0x00 ∷ typed 0x34 (0x34 ∷ []) [] ∷ typed clearKey (0x08 ∷ 0x20 ∷ 0x08 ∷ []) timedOut ∷
     timedRead 0x00 ∷ typed quoteKey [] timedOut ∷ []) ∷
-    -- locked, it completes on none of them but the 15 that unlocks
+    -- locked, it completes on none of them but the 15 that unlocks; what is quoted waits, until 24 clears it
     runs
     (initiated ∷ attribute 3 0x03 ∷ timedRead 0x00 ∷ wroteNothing 0x01 ∷
-    typed 3 [] (outOfBand 3) ∷ typed clearKey [] [] ∷ typed discardKey [] (discardState 0 ++ timedOut) ∷ []) ∷
-    -- in an area that is too small the key does not arrive
-    runs (initiated ∷ startedA ∷ asked (terminalArea - 1) messageArea (key 0x34) smallArea [] [] 0 ∷ waiting 0 ∷ stepped [] [] ∷ []) ∷ []
+    typed 3 [] (outOfBand 3) ∷ typed quoteKey [] [] ∷ stored 0x0D ∷ typed clearKey [] [] ∷ typed discardKey [] (discardState 0 ++ timedOut) ∷ []) ∷
+    -- in an area that is too small the key does not arrive: neither does it wait, nor is it returned
+    runs
+    (initiated ∷ startedA ∷ asked (terminalArea - 1) messageArea (key 0x34) smallArea [] [] 0 ∷ waiting 0 ∷
+    typed 0x0D (0x0D ∷ 0x0A ∷ []) (0x09 ∷ 0x00 ∷ 0x03 ∷ 0x00 ∷ 0x02 ∷ 0x00 ∷ 0x01 ∷ 0x00 ∷ 0x00 ∷ 0x00 ∷ 0x0D ∷ []) ∷ []) ∷ []

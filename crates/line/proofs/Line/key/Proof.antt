@@ -19,6 +19,25 @@ use Rattle.line.proofs.keys.move_keys.Reads as move-keys-reads
 use Rattle.line.proofs.refusals.are_roomy.Reads as are-roomy-reads
 use Rattle.line.proofs.refusals.row_of.Reads as row-of-reads
 
+-- The places of the call, back from the one where the step's act is chosen.
+abbrev lookup : tie.After-act-if2 → tie.After-look-up-for-step
+lookup p = p .before
+
+abbrev arrival : tie.After-act-if2 → tie.After-acts-on-key
+arrival p = lookup p .before .before .before .before .before .before .before .before .before
+
+abbrev move : tie.After-act-if2 → tie.After-move-keys
+move p = arrival p .before .before .before .before .before .before
+
+abbrev choice : tie.After-act-if2 → tie.After-act-if
+choice p = move p .before .before .before
+
+abbrev room : tie.After-act-if2 → tie.After-are-roomy
+room p = choice p .before .before .before .before .before
+
+abbrev start : tie.After-act-if2 → tie.Start
+start p = room p .before .before .before
+
 are-roomy-requires : tie.Need-are-roomy-requires
 are-roomy-requires c κs = search needs
 
@@ -36,13 +55,13 @@ move-keys-requires c κs = search needs
 
 acts-on-key-requires : tie.Need-acts-on-key-requires
 acts-on-key-requires c κs =
-    let start = c .before .before .before .before .before .before .before .before .before .before .before .before .before .before .before .before in
-    let l = start .args .self in
-    let arrival = c .before .before .before .before .before .before .before .before .act-if .ensures in
-    (start .pre .counted .flow, (start .pre .counted .text, (act-doable l 0 0 (start .pre .counted) (λ y. arrival .0 [] l y (refl, refl)) (arrival .1 .0), arrival .1 .1)))
+    let pre = c .before .before .before .before .before .before .before .before .before .before .before .before .before .before .before .before .pre in
+    let l = c .before .before .before .before .before .before .before .before .before .before .before .before .before .before .before .before .args .self in
+    let act = c .before .before .before .before .before .before .before .before .act-if .ensures in
+    (pre .counted .flow, (pre .counted .text, (act-doable l 0 0 (pre .counted) (λ y. act .0 [] l y (refl, refl)) (act .1 .0), act .1 .1)))
 
-element-copy-out-next-key : tie.Need-element-copy-out-next-key
-element-copy-out-next-key c = search needs
+element-copy-out-first-left : tie.Need-element-copy-out-first-left
+element-copy-out-first-left c = search needs
 
 look-up-for-step-requires : tie.Need-look-up-for-step-requires
 look-up-for-step-requires c κs = search needs
@@ -55,65 +74,46 @@ cast-move-keys-2 c = search needs
 
 move-keys-requires-2 : tie.Need-move-keys-requires-2
 move-keys-requires-2 c κs =
-    let arrival = c .before .before .before .before .before .before .before .before .before .before .before .before in
-    let move = arrival .before .before .before .before .before .before in
-    let first = move .before .before .before in
-    let start = first .before .before .before .before .before .before .before .before in
-    let l = start .args .self in
-    let kept = ap length (move .move-keys .ensures) ∙ after-length (first .act-if .result) (l .flow .typed .«keys_len») (l .keys) in
-    (kept ∙ start .pre .counted .keys, arrival .acts-on-key .ensures .0 .typed .keysLength)
+    let p = c .before .before in
+    let l = start p .args .self in
+    let kept = ap length (move p .move-keys .ensures) ∙ after-length (choice p .act-if .result) (l .flow .typed .«keys_len») (l .keys) in
+    (kept ∙ start p .pre .counted .keys, arrival p .acts-on-key .ensures .0 .typed .keysLength)
 
 acts-on-step-requires : tie.Need-acts-on-step-requires
 unfolding eventRule
 acts-on-step-requires c κs =
-    let choice = c .before .before .before .before .before .before in
-    let lookup = choice .before in
-    let arrival = lookup .before .before .before .before .before .before .before .before .before in
-    let move = arrival .before .before .before .before .before .before in
-    let first = move .before .before .before in
-    let room = first .before .before .before .before .before in
-    let start = room .before .before .before in
-    let a = start .args in
+    let p = c .before .before .before .before .before .before in
+    let a = start p .args in
     let l = a .self in
-    let arrived = arrival .acts-on-key in
-    let act = choice .act-if2 .ensures in
-    let can = keystroke-doable (a .code) (omega arith) l (start .pre) (a .terminal .now) (a .messages .now) (λ y. first .act-if .ensures .0 [] l y (refl, refl)) (first .act-if .ensures .1 .0)
-    (arrived .result) _ _ _ (move .move-keys .ensures) (arrived .ensures .0) (arrived .ensures .1 .0 l) (arrived .ensures .1 .1)
-    (λ y bounded. act .0 [] (onKeys _ l) y (lookup .look-up-for-step .ensures [] (onKeys _ l) bounded refl refl)) (act .1 .0) in
-    (arrived .ensures .0, (start .pre .counted .text, (can, act .1 .1)))
+    let arrived = arrival p .acts-on-key in
+    let act = p .act-if2 .ensures in
+    let can = keystroke-doable (a .code) (omega (arith, start p .good)) l (start p .pre) (a .terminal .now) (a .messages .now) (λ y. choice p .act-if .ensures .0 [] l y (refl, refl)) (choice p .act-if .ensures .1 .0)
+    (arrived .result) _ _ _ (move p .move-keys .ensures) (arrived .ensures .0) (arrived .ensures .1 .0 l) (arrived .ensures .1 .1)
+    (λ y bounded. act .0 [] (onKeys _ l) y (lookup p .look-up-for-step .ensures [] (onKeys _ l) bounded refl refl)) (act .1 .0) in
+    (arrived .ensures .0, (start p .pre .counted .text, (can, act .1 .1)))
 
 row-of-requires : tie.Need-row-of-requires
 row-of-requires c κs = search needs
 
 same-length : tie.Need-same-length
-same-length c =
-    let stepped = c .before .before .before .before .before .before in
-    stepped .acts-on-step .kept .1 .1 .0 ∙ stepped .before .before .before .before .before .before .before .before .before .before .before .before .before .before .before .before .before .acts-on-key .kept .1 .1 .0
+same-length c = c .before .before .before .before .before .before .acts-on-step .kept .1 .1 .0 ∙ arrival (c .before .before .before .before .before .before .before .before .before .before .before .before .before) .acts-on-key .kept .1 .1 .0
 
 same-length-2 : tie.Need-same-length-2
-same-length-2 c =
-    let stepped = c .before .before .before .before .before .before in
-    stepped .acts-on-step .kept .1 .1 .1 .0 ∙ stepped .before .before .before .before .before .before .before .before .before .before .before .before .before .before .before .before .before .acts-on-key .kept .1 .1 .1 .0
+same-length-2 c = c .before .before .before .before .before .before .acts-on-step .kept .1 .1 .1 .0 ∙ arrival (c .before .before .before .before .before .before .before .before .before .before .before .before .before) .acts-on-key .kept .1 .1 .1 .0
 
 returns : tie.Need-returns
 unfolding eventRule
 returns c =
-    let choice = c .before .before .before .before .before .before .before .before .before .before .before .before .before in
-    let lookup = choice .before in
-    let arrival = lookup .before .before .before .before .before .before .before .before .before in
-    let move = arrival .before .before .before .before .before .before in
-    let first = move .before .before .before in
-    let room = first .before .before .before .before .before in
-    let start = room .before .before .before in
-    let a = start .args in
+    let p = c .before .before .before .before .before .before .before .before .before .before .before .before .before in
+    let a = start p .args in
     let l = a .self in
-    let arrived = arrival .acts-on-key in
-    let act = choice .act-if2 .ensures in
+    let arrived = arrival p .acts-on-key in
+    let act = p .act-if2 .ensures in
     let done = c .before .before .before .before .before .before .acts-on-step in
-    keystroke-answers (a .code) (omega arith) l (start .pre) (a .terminal .now) (a .messages .now) (λ y. first .act-if .ensures .0 [] l y (refl, refl)) (first .act-if .ensures .1 .0)
-    (arrived .result) _ _ _ (move .move-keys .ensures) (arrived .ensures .0) (arrived .ensures .1 .0 l) (arrived .ensures .1 .1)
-    (λ y bounded. act .0 [] (onKeys _ l) y (lookup .look-up-for-step .ensures [] (onKeys _ l) bounded refl refl)) (act .1 .0)
-    (room .are-roomy .ensures) (done .result) _ _ _ _ (c .before .before .before .before .before .before .before .before .before .before .move-keys2 .ensures) (done .ensures .0) (done .ensures .1 .0)
+    keystroke-answers (a .code) (omega (arith, start p .good)) l (start p .pre) (a .terminal .now) (a .messages .now) (λ y. choice p .act-if .ensures .0 [] l y (refl, refl)) (choice p .act-if .ensures .1 .0)
+    (arrived .result) _ _ _ (move p .move-keys .ensures) (arrived .ensures .0) (arrived .ensures .1 .0 l) (arrived .ensures .1 .1)
+    (λ y bounded. act .0 [] (onKeys _ l) y (lookup p .look-up-for-step .ensures [] (onKeys _ l) bounded refl refl)) (act .1 .0)
+    (room p .are-roomy .ensures) (done .result) _ _ _ _ (c .before .before .before .before .before .before .before .before .before .before .move-keys2 .ensures) (done .ensures .0) (done .ensures .1 .0)
     (done .ensures .1 .1 .0 (onFlow (arrived .result .flow) (onKeys _ l))) (done .ensures .1 .1 .1) (c .row-of .ensures)
 
 pub key-spec : {M : Type 1} → statement M
@@ -126,7 +126,7 @@ key-spec =
     cast-move-keys
     move-keys-requires
     acts-on-key-requires
-    element-copy-out-next-key
+    element-copy-out-first-left
     look-up-for-step-requires
     act-if-requires-2
     cast-move-keys-2
