@@ -1,4 +1,4 @@
-# make test: every proof and test. make run: bench case B, call by call. make bench: calls a second, and the kernel's own line discipline.
+# make test: every proof and test. make run: bench case B, call by call. make bench: calls a second, and beside it the kernel's own line discipline.
 CARGO = cargo --quiet
 TESTS = --offline --release --manifest-path tests/Cargo.toml
 REPLAY = target/bin/replay

@@ -15,13 +15,9 @@ use second::line::TYPE_AHEAD;
 use second::screen::{CR, HT};
 
 const DELETE_LINE_KEY: u8 = 21;
-/// The key that tests make out-of-band, and how.
-const BAND_KEY: u8 = 3;
-const MAKE_HELLO: &str = "0B 00 02 02 03 03 03";
-const MAKE_IMMEDIATE_CLEAR: &str = "0B 00 02 02 03 03 01";
-const TOLD: &str = "04 00 03";
 const DISCARD_ON: &str = "09 00";
 const DISCARD_OFF: &str = "09 01";
+const TIMED_OUT: &str = "03 05 00 00 00 00 00 00";
 
 /// A line on which these keys wait for a read.
 fn waiting(codes: &[u8]) -> Bench {
@@ -68,5 +64,3 @@ fn at_once(text: &[u8]) -> Start {
 fn plain() -> Start {
     start(ZZ1, b"", b"")
 }
-
-const TIMED_OUT: &str = "03 05 00 00 00 00 00 00";

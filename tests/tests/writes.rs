@@ -34,8 +34,6 @@ const S: u16 = 1 << 10;
 
 const DELETE_KEY: u8 = 127;
 const REDISPLAY_KEY: u8 = 18;
-/// The key that tests make out-of-band.
-const BAND_KEY: u8 = 3;
 
 /// A Write to be filled in.
 struct Write {

@@ -1,5 +1,5 @@
-//! What steps did, or why there was none: of steps by themselves, and of the
-//! step that follows each kind of arrival (M-104).
+//! What steps did, or why there was none: of bare steps, and of the step that
+//! follows each kind of arrival (M-104).
 
 use super::{Rule, RULES};
 use crate::line::arrival::Arrival;
@@ -32,27 +32,27 @@ const STEPPED: [Stepped; 8] = [
     Stepped::Timeout,
 ];
 
-/// Whose step it is.
+/// What a step follows: a key's arrival, or nothing.
 #[derive(Clone, Copy, Debug, PartialEq, Eq)]
-pub enum Whose {
-    Key,
-    Alone,
+pub enum StepKind {
+    OfKey,
+    Bare,
 }
 
 #[derive(Clone, Debug, PartialEq, Eq)]
 pub struct Steps {
-    alone: [u64; STEPPED.len()],
+    bare: [u64; STEPPED.len()],
     after: [[u64; STEPPED.len()]; ARRIVALS.len()],
-    /// Rules met within steps, by whose they were.
+    /// Rules met within steps, by their kind.
     rules: [[u64; RULES.len()]; 2],
     /// The step that is under way.
-    under_way: Option<Whose>,
+    under_way: Option<StepKind>,
 }
 
 impl Default for Steps {
     fn default() -> Self {
         Steps {
-            alone: Default::default(),
+            bare: Default::default(),
             after: Default::default(),
             rules: [[0; RULES.len()]; 2],
             under_way: None,
@@ -61,20 +61,20 @@ impl Default for Steps {
 }
 
 impl Steps {
-    pub fn begin(&mut self, whose: Whose) {
-        self.under_way = Some(whose);
+    pub fn begin(&mut self, kind: StepKind) {
+        self.under_way = Some(kind);
     }
 
     pub fn met_if(&mut self, holds: bool, rule: Rule) {
-        if let Some(whose) = self.under_way {
-            self.rules[whose as usize][rule as usize] += u64::from(holds);
+        if let Some(kind) = self.under_way {
+            self.rules[kind as usize][rule as usize] += u64::from(holds);
         }
     }
 
-    /// A step by itself has ended.
-    pub fn alone(&mut self, stepped: Stepped) {
+    /// A bare step has ended.
+    pub fn bare(&mut self, stepped: Stepped) {
         self.under_way = None;
-        self.alone[stepped as usize] += 1;
+        self.bare[stepped as usize] += 1;
     }
 
     /// The step of a key has ended.
@@ -84,32 +84,33 @@ impl Steps {
     }
 
     pub fn add(&mut self, other: &Steps) {
-        let mine = self.alone.iter_mut().chain(self.after.as_flattened_mut());
+        let mine = self.bare.iter_mut().chain(self.after.as_flattened_mut());
         let mine = mine.chain(self.rules.as_flattened_mut());
-        let more = other.alone.iter().chain(other.after.as_flattened());
+        let more = other.bare.iter().chain(other.after.as_flattened());
         let more = more.chain(other.rules.as_flattened());
         mine.zip(more).for_each(|(mine, more)| *mine += more);
     }
 
     /// Each thing that can be reached, with its count.
     pub fn table(&self) -> Vec<(String, u64)> {
-        let alone = |stepped| (format!("step alone: {stepped:?}"), self.alone[stepped as usize]);
-        let mut table: Vec<(String, u64)> = STEPPED.map(alone).to_vec();
+        let bare = |stepped| (format!("bare step: {stepped:?}"), self.bare[stepped as usize]);
+        let mut table: Vec<(String, u64)> = STEPPED.map(bare).to_vec();
         for arrival in ARRIVALS {
             let counts = STEPPED.into_iter().zip(self.after[arrival as usize]);
             let counts = counts.filter(|(stepped, _)| can_follow(arrival, *stepped));
             table.extend(counts.map(|(done, n)| (format!("key {arrival:?}: {done:?}"), n)));
         }
-        for whose in [Whose::Key, Whose::Alone] {
-            let rules = RULES.iter().zip(self.rules[whose as usize]);
+        for kind in [StepKind::OfKey, StepKind::Bare] {
+            let rules = RULES.iter().zip(self.rules[kind as usize]);
             let rules = rules.filter(|(rule, _)| is_of_step(**rule));
-            table.extend(rules.map(|(rule, n)| (format!("{rule:?}, step {whose:?}"), n)));
+            table.extend(rules.map(|(rule, n)| (format!("{rule:?}, step {kind:?}"), n)));
         }
         table
     }
 }
 
-/// Whether a step can meet the rule, that of a key and one by itself.
+/// Whether a step can meet the rule, that of a key and a bare one. It goes by the
+/// order of `rules!`: the lists of steps and tokens, and the screen's.
 fn is_of_step(rule: Rule) -> bool {
     let lists = [Rule::StepHeldFits..=Rule::PartialDropped, Rule::EchoTab..=Rule::RubNoEcho];
     lists.iter().any(|list| list.contains(&rule))
@@ -145,15 +146,15 @@ mod tests {
     #[test]
     fn a_step_is_counted_by_what_came_before_it() {
         let mut steps = Steps::default();
-        steps.begin(Whose::Alone);
+        steps.begin(StepKind::Bare);
         steps.met_if(true, Rule::StepQuoted);
-        steps.alone(Stepped::Key);
+        steps.bare(Stepped::Key);
         steps.met_if(true, Rule::RubTab);
         steps.after(Arrival::Hello, Stepped::Timeout);
         let mut twice = steps.clone();
         twice.add(&steps);
         let met: Vec<(String, u64)> = twice.table().into_iter().filter(|row| row.1 > 0).collect();
-        let expected = ["step alone: Key", "key Hello: Timeout", "StepQuoted, step Alone"];
+        let expected = ["bare step: Key", "key Hello: Timeout", "StepQuoted, step Bare"];
         assert_eq!(met, expected.map(|name| (name.into(), 2)));
     }
 

@@ -169,7 +169,7 @@ impl Generator {
         }
     }
 
-    /// The seconds of a read before it do not count.
+    /// A timed read; the idle seconds of one before it do not count.
     fn timed_read(&mut self) {
         self.start(|random, read| {
             read.timed = true;

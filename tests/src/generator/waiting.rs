@@ -31,7 +31,7 @@ impl Generator {
         }
     }
 
-    /// Steps by themselves take what waited for the read.
+    /// Bare steps take what waited for the read.
     pub(super) fn drained(&mut self) {
         self.make_way();
         self.type_ahead();

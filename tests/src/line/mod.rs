@@ -9,7 +9,7 @@ pub mod steps;
 pub mod tokens;
 mod writes;
 
-use crate::coverage::steps::Whose;
+use crate::coverage::steps::StepKind;
 use crate::coverage::{Coverage, Rule};
 use crate::message::{self, Message, BUFFER};
 use crate::screen::{Screen, TOP};
@@ -194,19 +194,20 @@ impl Line {
     pub fn key(&mut self, code: u8, areas: Areas) -> Answer {
         self.call(areas, |line, out| {
             let arrival = line.arrive(code, out);
-            line.seen.steps.begin(Whose::Key);
+            line.seen.steps.begin(StepKind::OfKey);
             let stepped = line.take_step(out);
             line.seen.steps.after(arrival, stepped);
         })
     }
 
-    /// A step by itself, for keys that waited before a Start Read.
+    /// A bare step, for what waits already: keys typed before a Start Read or while
+    /// locked, a held token.
     pub fn step(&mut self, areas: Areas) -> Answer {
         self.call(areas, |line, out| {
             line.note_step_held_back();
-            line.seen.steps.begin(Whose::Alone);
+            line.seen.steps.begin(StepKind::Bare);
             let stepped = line.take_step(out);
-            line.seen.steps.alone(stepped);
+            line.seen.steps.bare(stepped);
         })
     }
 

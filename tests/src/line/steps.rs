@@ -62,7 +62,7 @@ impl Line {
         }
     }
 
-    /// Counts a step by itself that may not act, by what it would have done.
+    /// Counts a bare step that may not act, by what it would have done.
     pub(super) fn note_step_held_back(&mut self) {
         if self.may_step() {
             return;

@@ -173,6 +173,12 @@ impl Bench {
 pub const LOCKING: &str = "07 01 00 00 00";
 pub const UNLOCKING: &str = "07 00 00 00 00";
 
+/// The key that tests make out-of-band, and how; the Out-of-Band that it sends.
+pub const BAND_KEY: u8 = 3;
+pub const MAKE_HELLO: &str = "0B 00 02 02 03 03 03";
+pub const MAKE_IMMEDIATE_CLEAR: &str = "0B 00 02 02 03 03 01";
+pub const TOLD: &str = "04 00 03";
+
 /// A Start Read to be filled in: flags, lengths, set and data.
 pub struct Start {
     pub flags: u32,

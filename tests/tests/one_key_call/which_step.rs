@@ -17,7 +17,7 @@ fn the_step_takes_the_first_key_that_waits() {
     plain().on(&mut bench);
     assert_eq!(bench.key(b'c'), done("61", ""));
     assert_eq!(count(&mut bench), 2);
-    // One step a call: the others wait for steps by themselves, or for the next keys.
+    // One step a call: the others wait for bare steps, or for the next keys.
     assert_eq!(bench.key(b'd'), done("62", ""));
     assert_eq!(bench.step(), done("63", ""));
     assert_eq!(bench.step(), done("64", ""));
@@ -153,7 +153,7 @@ fn in_a_small_area_the_key_does_not_arrive() {
 }
 
 #[test]
-fn the_step_by_itself_stays() {
+fn the_bare_step_stays() {
     let mut bench = waiting(b"ab\r");
     start(ZZ2, b"", b"").on(&mut bench);
     assert_eq!(bench.step(), done("61", ""));

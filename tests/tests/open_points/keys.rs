@@ -23,7 +23,7 @@ fn point_20_a_pending_quote_waits_for_its_key() {
 #[test]
 fn point_21_clearing_under_ddd() {
     let mut bench = Bench::initiated();
-    assert_eq!(bench.number("0B 00 02 02 03 03 03"), 0);
+    assert_eq!(bench.number(MAKE_HELLO), 0);
     start(ZZ2 | (3 * DDD), b"", b"").on(&mut bench);
     assert_eq!(bench.key(3), done("", "04 00 03"));
     bench.host("05 00");
@@ -64,7 +64,7 @@ fn point_23_our_out_of_band_has_no_flag() {
 fn point_24_what_sets_idle_to_zero() {
     let timed_out = |codes: &[u8], ticks: usize| {
         let mut bench = Bench::initiated();
-        bench.number("0B 00 02 02 03 03 03");
+        bench.number(MAKE_HELLO);
         start(ZZ2 | Q | EE2, b"", b"").timeout(3).on(&mut bench);
         bench.tick();
         bench.tick();
@@ -90,7 +90,7 @@ fn point_24_what_sets_idle_to_zero() {
 #[test]
 fn point_25_an_out_of_band_completion() {
     let mut bench = Bench::initiated();
-    assert_eq!(bench.number("0B 00 02 02 03 03 01"), 0);
+    assert_eq!(bench.number(MAKE_IMMEDIATE_CLEAR), 0);
     bench.keys(b"xy");
     start(ZZ2, b"? ", b"abc").on(&mut bench);
     let answer = "04 00 03 | 03 03 02 00 00 05 00 00";

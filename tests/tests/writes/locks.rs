@@ -10,7 +10,7 @@ fn locked() -> Bench {
     bench
 }
 
-/// Whether steps are held back, that of a key and one by itself. If not, the
+/// Whether steps are held back, that of a key and a bare one. If not, the
 /// key shows one `c`, and the step another that waited.
 fn is_locked(bench: &mut Bench) -> bool {
     let (key, step) = (bench.key(b'c'), bench.step());
@@ -109,13 +109,13 @@ fn point_106_a_stored_or_quoted_15_does_not_unlock() {
 #[test]
 fn point_106_immediate_clear_unlocks() {
     let mut bench = locked();
-    assert_eq!(bench.number("0B 00 02 02 03 03 01"), 0);
+    assert_eq!(bench.number(MAKE_IMMEDIATE_CLEAR), 0);
     // The read completes, two columns behind the prompt; nothing is rubbed out.
     assert_eq!(bench.key(BAND_KEY), done("", "04 00 03 | 03 03 02 00 00 04 00 00"));
     assert!(!stays_locked(&mut bench));
     assert_eq!(bench.number("05 00"), 0);
     write(LOCK, b"").on(&mut bench);
-    assert_eq!(bench.key(BAND_KEY), done("", "04 00 03"));
+    assert_eq!(bench.key(BAND_KEY), done("", TOLD));
     assert!(!stays_locked(&mut bench));
 }
 
@@ -125,8 +125,8 @@ fn point_106_what_leaves_the_lock() {
     // 24 rubs out `ab`, and the keys that wait are gone.
     assert_eq!(bench.key(CLEAR_KEY), done("08 20 08 08 20 08", ""));
     assert!(stays_locked(&mut bench));
-    assert_eq!(bench.number("0B 00 02 02 03 03 03"), 0);
-    assert_eq!(bench.key(BAND_KEY), done("", "04 00 03"));
+    assert_eq!(bench.number(MAKE_HELLO), 0);
+    assert_eq!(bench.key(BAND_KEY), done("", TOLD));
     assert!(is_locked(&mut bench));
     // Clear Input; Unread with a key that waits, and always.
     for message in ["06 00", "05 01", "05 00"] {
