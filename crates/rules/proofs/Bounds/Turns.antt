@@ -151,7 +151,7 @@ module _ {R : OfRead} {bytes area : ℕ} {s : State ℕ} (t : Bool) where
 abbrev pub Fine : Turn ℕ → Type 0
 Fine t = Good BoundedRead terminalArea messageArea t
 
--- Most keys that arrive write a BEL at most, and send an Out-of-Band at most.
+-- Most keys that arrive write a BEL at most, and send no more than an Out-of-Band.
 abbrev pub arrivalBytes : ℕ
 arrivalBytes = 1
 
