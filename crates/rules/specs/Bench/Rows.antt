@@ -10,8 +10,9 @@ use Rattle.rules.specs.Token.{ESC}
 use Rattle.rules.specs.Editing.{redisplayKey}
 use Rattle.rules.specs.Arrival.{quoteKey, clearKey, discardKey}
 use Rattle.rules.specs.Calls.{key, tick}
-use Rattle.rules.specs.Bench.{Case, reads, copies, asks, runs, asked, says, typed, stored, stepped, told, initiated, startA, startedA, timedRead, timedOut, wrote, wroteNothing, completed}
-use Rattle.rules.specs.Bench.{discardState, flipped, attribute, outOfBand, recognising, waiting, typedUnseen, tokenTyped, loading, emptyRecord, switchRecord, attributeRecord, setRecord, largestReadRecord, inOrder}
+use Rattle.rules.specs.Bench.{Case, reads, copies, asks, runs, asked, says, typed, stored, stepped, told, initiated, startA, startedA, timedRead, timedOut, wrote, wroteNothing}
+use Rattle.rules.specs.Bench.{completed, discardState, flipped, attribute, outOfBand, recognising, waiting, typedUnseen, tokenTyped, loading, emptyRecord, switchRecord}
+use Rattle.rules.specs.Bench.{attributeRecord, setRecord, largestReadRecord, inOrder}
 
 -- The starred cases in order; D and H have two rows each. Request M-101 adds two.
 unfoldable pub starred : List Case
