@@ -49,7 +49,8 @@ rules! {
     // Host messages.
     Initiated, InitiatedLoaded, ReadPending, ReadFullAtOnce, ReadEndsIdle, ReadClears,
     ReadClearsHeld, FormattingLf, FormattingNoLf, HiddenLfInPrompt, HiddenLfInData, HiddenLfDeleted,
-    HiddenLfRedisplayed, AutoPrompt, SetLast, SetLastNone, SetLoaded, SetGiven, SetUniversal, RaiseOn, EscapesOn, NoEcho,
+    HiddenLfRedisplayed, AutoPrompt, SetLast, SetLastNone, SetLoaded, SetGiven, SetUniversal,
+    RaiseOn, EscapesOn, NoEcho,
     EchoOffByCharacteristic, UnreadAlways, UnreadEmptyDone, UnreadEmptyWaiting,
     UnreadEmptyToken, UnreadEmptyInput, UnreadNoRead, ClearInput, CheckInput,
     SetAttributes, SetRaise, SetEcho, SetEscapes, SetAutoPrompt, SetNothing, SetInMidRead,

@@ -1,6 +1,7 @@
 //! Scenes with a read in them: typing, editing, out-of-band, ticks.
 
 use super::{typing, Generator};
+use crate::line::arrival::CLEAR_KEY;
 use crate::message::{Message, Value, Write};
 
 impl Generator {
@@ -185,7 +186,7 @@ impl Generator {
         self.lock();
         self.key(b'a');
         if self.random.chance(50) {
-            self.key(24);
+            self.key(CLEAR_KEY);
         } else {
             self.host(&Message::ClearInput);
         }

@@ -12,8 +12,8 @@ use crate::script::Order;
 /// Each too long for the reads that leave one behind.
 const TOKENS: [[u8; 4]; 2] = [[ESC, b'[', b'5', b'~'], [CSI, b'1', b'2', b'A']];
 
-/// A read without text, and with room for so much.
-fn bare(read: &mut StartRead, room: u16) {
+/// Makes it a read without text, and with room for so much.
+fn empty(read: &mut StartRead, room: u16) {
     (read.end_of_data, read.end_of_prompt, read.low_water) = (0, 0, 0);
     read.data.clear();
     read.max_length = room;
@@ -37,7 +37,7 @@ impl Generator {
         self.type_ahead();
         self.begin(|random, read| {
             if random.chance(50) {
-                bare(read, random.pick(&[1, 2, 5]));
+                empty(read, random.pick(&[1, 2, 5]));
             }
         });
         self.settle();
@@ -92,7 +92,7 @@ impl Generator {
             read.timed = random.chance(60);
             read.timeout = random.pick(&[0, 0, 1]);
             if random.chance(50) {
-                bare(read, random.pick(&[1, 2, 5]));
+                empty(read, random.pick(&[1, 2, 5]));
             }
         });
         for _ in 0..self.random.between(1, 6) {
@@ -141,7 +141,7 @@ impl Generator {
     fn leave_token(&mut self) {
         self.make_way();
         self.begin(|random, read| {
-            bare(read, random.pick(&[1, 2]));
+            empty(read, random.pick(&[1, 2]));
             read.escapes = RECOGNISED;
         });
         for code in self.random.pick(&TOKENS) {

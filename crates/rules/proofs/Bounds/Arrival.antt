@@ -16,7 +16,7 @@ use Rattle.rules.specs.Arrival.{idleAgain, keeps, countsDropped, drops, 
 use Rattle.rules.specs.Arrival.{Rubbing, rubbingOut, withoutRubbing, clearRule, sendsOutOfBand, endsOutOfBand, clearsAtOnce}
 use Rattle.rules.specs.Bounds.{BoundedReading, BoundedRead}
 use Rattle.rules.proofs.Bounds.Bytes.{no-bytes, one-byte, bytes-append}
-use Rattle.rules.proofs.Bounds.Turns.{OfRead, Steady, Good, Fine, fine, arrivalArea, answerArea, reset, reflagged, retyped, reread}
+use Rattle.rules.proofs.Bounds.Turns.{OfRead, Steady, Good, Fine, fine, arrivalBytes, arrivalArea, answerArea, reset, reflagged, retyped, reread}
 use Rattle.rules.proofs.Bounds.Turns.{still-good, changes-good, writes-good, sends-good, tells-then, changes-then, then-good, quiet-then, then-quiet, pick-good, only-good}
 use Rattle.rules.proofs.Bounds.Messages.{discardState-sent, outOfBand-sent}
 use Rattle.rules.proofs.Bounds.ReadData.{bounded-answerable, completes-good}
@@ -48,14 +48,14 @@ module _ {area : ℕ} {s : State ℕ} (c : ℕ) (byte : c < 256) (h : Steady Bou
       }))
       (idleAgain (s .pendingRead)) (idleAgain-bounded (s .pendingRead) (h .pendingRead)))
 
-  drops-good : Good BoundedRead 1 area (drops c s)
+  drops-good : Good BoundedRead arrivalBytes area (drops c s)
   unfolding drops countsDropped
   drops-good =
       tells-then _ _
       (then-good _ _ 1 0 0 area (omega arith) (omega arith) (writes-good _ (omega arith) h) λ s₁ h₁.
       changes-good _ (reset h₁ (record { column = h₁ .terminal .column; line = h₁ .terminal .line; dropped = omega arith })))
 
-  pub stores-good : (quoted : Bool) → Good BoundedRead 1 area (stores typeAheadSize quoted c s)
+  pub stores-good : (quoted : Bool) → Good BoundedRead arrivalBytes area (stores typeAheadSize quoted c s)
   unfolding stores
   stores-good quoted =
       pick-good _ _ _ (λ y. keeps-good quoted (ltb-true (length (s .typed .typeAhead)) typeAheadSize y)) (λ n. drops-good)
@@ -105,18 +105,18 @@ module _ {s : State ℕ} (h : Steady BoundedRead s) where
   clearRule-fine = fine (24 * inputSize) 0 (omega arith) (omega arith) (clearRule-good h rubbingOut)
 
   module _ (c : ℕ) (byte : c < 256) where
-    pub storesQuoted-good : {area : ℕ} → Good BoundedRead 1 area (storesQuoted c s)
+    pub storesQuoted-good : {area : ℕ} → Good BoundedRead arrivalBytes area (storesQuoted c s)
     unfolding storesQuoted
     storesQuoted-good = changes-then _ _ (stores-good c byte (reflagged h) true)
 
-    pub sendsOutOfBand-good : {bytes : ℕ} → Good BoundedRead bytes 5 (sendsOutOfBand codes c s)
+    pub sendsOutOfBand-good : {bytes : ℕ} → Good BoundedRead bytes arrivalArea (sendsOutOfBand codes c s)
     unfolding sendsOutOfBand
     sendsOutOfBand-good = tells-then _ _ (sends-good _ (outOfBand-sent c byte) (omega arith) h)
 
     pub clearsAtOnce-good : Good BoundedRead 0 (arrivalArea + answerArea) (clearsAtOnce codes c s)
     unfolding clearsAtOnce unlocks
     clearsAtOnce-good =
-        then-good _ _ 0 0 5 answerArea (omega arith) (omega arith) sendsOutOfBand-good λ s₁ h₁.
+        then-good _ _ 0 0 arrivalArea answerArea (omega arith) (omega arith) sendsOutOfBand-good λ s₁ h₁.
         changes-then _ _
         (quiet-then _ _ (clearRule-good (reflagged h₁) withoutRubbing) λ s₂ h₂.
         endsOutOfBand-good h₂ (s₂ .pendingRead) (h₂ .pendingRead))

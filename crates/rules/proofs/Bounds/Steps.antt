@@ -25,7 +25,7 @@ use Rattle.rules.proofs.Bounds.Screen.{echo-length, echoTerminator-leng
 use Rattle.rules.proofs.Bounds.Turns.{Steady, Good, Fine, answerArea, FineStep, retyped, reread}
 use Rattle.rules.proofs.Bounds.Turns.{still-good, changes-good, writes-good, tells-then, changes-then, writes-sends, roomier, pick-good, only-good}
 use Rattle.rules.proofs.Bounds.ReadData.{Answerable, bounded-answerable, emptied, completes-good, completes-fine, completes-full}
-use Rattle.rules.proofs.Bounds.Editing.{deletes-good, redisplays-good}
+use Rattle.rules.proofs.Bounds.Editing.{deletes-good, redisplayBytes, redisplays-good}
 use Rattle.rules.proofs.Bounds.Arrival.{idle-bounded}
 
 -- A read with more input, as far as it fits.
@@ -160,7 +160,7 @@ module _ (r : Reading ℕ) (b : BoundedReading r) where
         pick-good _ _ _ (λ y. erases-fine _ h) λ n.
         pick-good _ _ _ (λ y. erases-fine _ h) λ n.
         pick-good _ _ _ (λ y. tells-then _ _ (deletes-fine edited 0 h)) λ n.
-        tells-then _ _ (roomier (2 + 8 * inputSize) 0 (omega arith) (omega arith) (redisplays-good r b h))
+        tells-then _ _ (roomier redisplayBytes 0 (omega arith) (omega arith) (redisplays-good r b h))
 
     takesPlain-fine : {s : State ℕ} → Steady BoundedRead s → FineStep (takesPlain codes c r s)
     unfolding takesPlain
