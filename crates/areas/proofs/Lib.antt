@@ -1,2 +1,3 @@
 -- Laws of what is put into an area; crates above cite them.
 pub mod Putting
+pub mod InFront

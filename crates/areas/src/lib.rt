@@ -4,6 +4,12 @@ ghost use Rattle.rules.specs.Messages.Layout.{wordBytes, bytesOf};
 ghost use Rattle.areas.specs.Puts.{Puts};
 use rules::forms;
 
+// What a function that writes to the front of an area answers: the number of a refusal, or 0 and how many bytes stand there.
+pub struct Written {
+    pub number: u8,
+    pub len: usize,
+}
+
 pub fn put_byte(b: u8, area: &mut [u8], at: usize) -> usize
     ensures { λ r. ⌜ Puts (b ∷ []) (now (area .entry)) at r (now (area .exit)) ⌝ }
 {

@@ -1,10 +1,13 @@
 -- What the laws need of the sizes. Nothing else looks at their numerals.
 use mathlib.Core.Path.{_≡_, refl}
+use lib.Dec.{eqb}
 use Prim.Native.Nat.{ℕ, _+_, _*_, _≤_, _<_}
 use native.Mathlib.Omega.{arith}
-use Rattle.rules.specs.Numbers.{inputSize, typeAheadSize, tokenSize, messageSize, terminalArea, messageArea, topColumn, topDropped}
-use Rattle.rules.specs.Messages.Layout.{byteValues}
-use Rattle.rules.specs.Settings.{topLargestRead}
+use Rattle.rules.specs.Numbers.{inputSize, typeAheadSize, tokenSize, messageSize, terminalArea, messageArea, movingArea, codeCount, topColumn, topDropped}
+use Rattle.rules.specs.Messages.Layout.{wordBytes, byteValues}
+use Rattle.rules.specs.Messages.Codec.{setSize}
+use Rattle.rules.specs.Settings.{form1, switchAt, switchCount, topLargestRead}
+use Rattle.rules.proofs.Choice.{pick-case}
 
 -- behind a BEL: rubbing out a whole buffer, three bytes for each of a character's eight marks, or one echo
 pub rubbing-room : 24 * inputSize + 9 ≤ terminalArea
@@ -30,10 +33,15 @@ pub message-room : messageArea ≤ messageSize
 unfolding messageArea messageSize
 message-room = omega arith
 
--- the largest read that a settings record can hold
-pub largest-read-room : topLargestRead ≤ inputSize
-unfolding inputSize
-largest-read-room = omega arith
+-- the largest read that a settings record can hold, of either form
+pub largest-read-room : (form : ℕ) → topLargestRead form ≤ inputSize
+unfolding topLargestRead inputSize
+largest-read-room form = pick-case (λ top. top ≤ inputSize) (eqb form form1) (λ y. omega arith) (λ n. omega arith)
+
+-- a settings record with every section at its longest: its form, the switches, a pair for each code, a whole set and a largest read, each behind its length
+pub moving-room : 1 + 4 * wordBytes + switchAt switchCount + 2 * codeCount + setSize + wordBytes ≤ movingArea
+unfolding movingArea
+moving-room = omega arith
 
 -- counts and positions fit words
 pub input-word : inputSize < 65536
@@ -63,13 +71,13 @@ longest-room = omega arith
 -- The sizes as the code has them, in src/lib.rt.
 -- for proofs that write what the code computes
 abbrev pub inputNumeral : ℕ
-inputNumeral = 132
+inputNumeral = 1024
 
 pub input-size : inputSize ≡ inputNumeral
 unfolding inputSize
 input-size = refl
 
-pub message-size : messageSize ≡ 256
+pub message-size : messageSize ≡ 2048
 unfolding messageSize
 message-size = refl
 
@@ -81,11 +89,11 @@ pub token-size : tokenSize ≡ 16
 unfolding tokenSize
 token-size = refl
 
-pub terminal-area : terminalArea ≡ 4096
+pub terminal-area : terminalArea ≡ 32768
 unfolding terminalArea
 terminal-area = refl
 
-pub message-area : messageArea ≡ 256
+pub message-area : messageArea ≡ 2048
 unfolding messageArea
 message-area = refl
 

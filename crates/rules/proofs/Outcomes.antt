@@ -25,6 +25,9 @@ module _ {A : Type 0} where
   pub refused-same : {k n : ℕ} → _≡_ {A = Outcome A} (refused k) (refused n) → k ≡ n
   refused-same e = cc
 
+  pub other-refusal : {k n : ℕ} → (k ≡ n → ⊥) → _≡_ {A = Outcome A} (refused k) (refused n) → ⊥
+  other-refusal other e = other (refused-same e)
+
 -- reading: its tests, and the fields
 pub record Readable (bytes : List ℕ) (m : Message ℕ) : Type 0 where
   pub length : soundLength (length bytes) ≡ true

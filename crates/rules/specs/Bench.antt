@@ -14,6 +14,7 @@ use Rattle.rules.specs.Screen.{SP}
 use Rattle.rules.specs.State.{State, fresh, codes}
 use Rattle.rules.specs.Arrival.{discardKey}
 use Rattle.rules.specs.Settings.{foundSection}
+use Rattle.rules.specs.Settings.Moving.{move}
 use Rattle.rules.specs.Calls.{Event, key, step, message, load, Call, Answer, answer, messageBytes}
 
 -- a call and what it is to answer: number, terminal bytes, the message area's bytes, and the dropped count after it
@@ -31,6 +32,8 @@ pub data Case : Type 0 where
   copies : List ℕ → ℕ → List ℕ → Case
   -- asked for this section of an own record and a site record, these bytes are found
   asks : ℕ → List ℕ → List ℕ → List ℕ → Case
+  -- moved to this form in an area of this length, this settings record gives this number and these bytes
+  moves : ℕ → ℕ → List ℕ → ℕ → List ℕ → Case
   -- these calls, from a fresh line, answer this
   runs : List Exchange → Case
 
@@ -66,6 +69,7 @@ unfoldable pub holds : Case → Bool
 holds (reads bytes m) = readsAs m (read bytes)
 holds (copies bytes number again) = endsIn number again (copyOf (read bytes))
 holds (asks n own site section) = same section (foundSection n own site)
+holds (moves form area bytes number after) = endsIn number after (move form area bytes)
 holds (runs es) = runsAs fresh es
 
 -- the places of the rows that do not hold, counted from a number
@@ -108,7 +112,7 @@ initiated =
     told (0x01 ∷ 0x00 ∷ 0x01 ∷ 0x00 ∷ 0x00 ∷ replicate revisionSize SP) accepted []
     (0x19 ∷ 0x00 ∷ 0x01 ∷ 0x00 ∷ 0x01 ∷ 0x00 ∷ 0x00 ∷
     (replicate revisionSize SP ++
-    (0x01 ∷ 0x02 ∷ 0x00 ∷ 0x01 ∷ 0x02 ∷ 0x02 ∷ 0x84 ∷ 0x00 ∷ 0x03 ∷ 0x02 ∷ 0xFE ∷ 0x7F ∷ [])))
+    (0x01 ∷ 0x02 ∷ 0x00 ∷ 0x08 ∷ 0x02 ∷ 0x02 ∷ 0x00 ∷ 0x04 ∷ 0x03 ∷ 0x02 ∷ 0xFE ∷ 0x7F ∷ [])))
 
 -- case A's bytes, and its acceptance, which writes the prompt
 abbrev pub startA : List ℕ
@@ -180,9 +184,13 @@ tokenTyped token completion =
 abbrev pub loading : List ℕ → List ℕ → ℕ → Exchange
 loading own site number = asked 0 0 (load own site) number [] [] 0
 
--- a record without anything, and records of one section; the first number is the section's length
+-- a record of a form with these bytes for a largest read, or none; its length is less than 256
+abbrev pub largestReadRecord : ℕ → List ℕ → List ℕ
+largestReadRecord form bytes = form ∷ 0x00 ∷ 0x00 ∷ 0x00 ∷ 0x00 ∷ 0x00 ∷ 0x00 ∷ length bytes ∷ 0x00 ∷ bytes
+
+-- of form 1, a record without anything, and records of one section; the first number is the section's length
 abbrev pub emptyRecord : List ℕ
-emptyRecord = 0x01 ∷ 0x00 ∷ 0x00 ∷ 0x00 ∷ 0x00 ∷ 0x00 ∷ 0x00 ∷ 0x00 ∷ 0x00 ∷ []
+emptyRecord = largestReadRecord 0x01 []
 
 abbrev pub switchRecord : ℕ → List ℕ → List ℕ
 switchRecord size bytes = 0x01 ∷ size ∷ 0x00 ∷ (bytes ++ (0x00 ∷ 0x00 ∷ 0x00 ∷ 0x00 ∷ 0x00 ∷ 0x00 ∷ []))
@@ -193,8 +201,14 @@ attributeRecord size pairs = 0x01 ∷ 0x00 ∷ 0x00 ∷ size ∷ 0x00 ∷ (pairs
 abbrev pub setRecord : ℕ → List ℕ → List ℕ
 setRecord size bytes = 0x01 ∷ 0x00 ∷ 0x00 ∷ 0x00 ∷ 0x00 ∷ size ∷ 0x00 ∷ (bytes ++ (0x00 ∷ 0x00 ∷ []))
 
-abbrev pub largestReadRecord : ℕ → List ℕ
-largestReadRecord most = 0x01 ∷ 0x00 ∷ 0x00 ∷ 0x00 ∷ 0x00 ∷ 0x00 ∷ 0x00 ∷ 0x01 ∷ 0x00 ∷ most ∷ []
+-- a record of a form with all four sections, and these bytes for its largest read
+abbrev pub fullRecord : ℕ → List ℕ → List ℕ
+fullRecord form bytes =
+    form ∷
+    (0x0C ∷ 0x00 ∷ 0x04 ∷ 0x02 ∷ 0x01 ∷ 0x05 ∷ 0x02 ∷ 0x00 ∷ 0x06 ∷ 0x02 ∷ 0x00 ∷ 0x09 ∷ 0x02 ∷ 0x01 ∷
+    0x02 ∷ 0x00 ∷ 0x41 ∷ 0x04 ∷
+    0x02 ∷ 0x00 ∷ 0x00 ∷ 0x20 ∷
+    length bytes ∷ 0x00 ∷ bytes)
 
 -- the numbers of a Start Read by name, and in the order of its head
 pub record StartReadNumbers : Type 0 where

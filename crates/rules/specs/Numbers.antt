@@ -3,7 +3,7 @@ use Prim.Native.Nat.{ℕ}
 
 -- characters of the input buffer
 unfoldable pub inputSize : ℕ
-inputSize = 132
+inputSize = 1024
 
 -- keys that wait in type-ahead
 unfoldable pub typeAheadSize : ℕ
@@ -15,14 +15,18 @@ tokenSize = 16
 
 -- bytes of the longest message, received or written
 unfoldable pub messageSize : ℕ
-messageSize = 256
+messageSize = 2048
 
 -- bytes a call needs of each area
 unfoldable pub terminalArea : ℕ
-terminalArea = 4096
+terminalArea = 32768
 
 unfoldable pub messageArea : ℕ
-messageArea = 256
+messageArea = 2048
+
+-- and moving a settings record to the other form (M-107)
+unfoldable pub movingArea : ℕ
+movingArea = 600
 
 -- character codes, each with its attribute
 abbrev pub codeCount : ℕ
@@ -39,7 +43,7 @@ topDropped = 65535
 abbrev pub accepted : ℕ
 accepted = 0
 
--- terminal area or message area too small
+-- an area too small
 abbrev pub smallArea : ℕ
 smallArea = 1
 
@@ -66,3 +70,7 @@ notCarried = 6
 -- a settings record that breaks a rule (M-100)
 abbrev pub unsoundRecord : ℕ
 unsoundRecord = 7
+
+-- a settings record whose largest read the other form cannot hold (M-107)
+abbrev pub tooLarge : ℕ
+tooLarge = 8

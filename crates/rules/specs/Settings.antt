@@ -1,4 +1,5 @@
--- Request M-100: the settings record, form 1: its bytes, what it says, asking for a section, and loading.
+-- Requests M-100 and M-107: the settings record, forms 1 and 2: its bytes, what it says, asking for a section, and loading.
+pub mod Moving
 use Prim.Native.Nat.{ℕ, zero, suc, _+_, _-_, _*_, _≤_, _<_}
 use mathlib.Core.Path.{_≡_}
 use mathlib.Core.Bool.{Bool, true, false, not, _&&_, _||_}
@@ -16,7 +17,7 @@ use Rattle.rules.specs.State.{Switches, Host, withHost}
 use Rattle.rules.specs.Turns.{Rule, changes}
 use Rattle.rules.specs.Characteristics.{wholeMask, isDeferredClear}
 
--- The record: a byte 1, then sections, each after its length in two bytes, low byte first.
+-- The record: a byte for its form, then sections, each after its length in two bytes, low byte first.
 
 -- the first byte is the form
 abbrev pub formIn : List ℕ → ℕ
@@ -24,6 +25,12 @@ formIn bytes = byteAt bytes 0
 
 abbrev pub form1 : ℕ
 form1 = 1
+
+abbrev pub form2 : ℕ
+form2 = 2
+
+unfoldable pub isForm : ℕ → Bool
+isForm form = eqb form form1 || eqb form form2
 
 abbrev pub behindForm : List ℕ → List ℕ
 behindForm bytes = drop 1 bytes
@@ -110,21 +117,28 @@ soundPairs least (code ∷ value ∷ rest) = leb least code && isListed value &&
 unfoldable pub soundSet : List ℕ → Bool
 soundSet bytes = isEmpty bytes || leb (length bytes) setSize && not (eqb (byteAt bytes (length bytes - 1)) 0)
 
--- Largest read: none or one byte, 0 to 132.
-abbrev pub topLargestRead : ℕ
-topLargestRead = 132
+-- Largest read, the only section in which the forms differ: none, or in form 1 one byte, 0 to 132, and in form 2 two, low byte first, 0 to 1,024.
+unfoldable pub largestReadBytes : ℕ → ℕ
+largestReadBytes form = pick (eqb form form1) 1 wordBytes
 
-unfoldable pub soundLargestRead : List ℕ → Bool
-soundLargestRead bytes = isEmpty bytes || eqb (length bytes) 1 && leb (byteAt bytes 0) topLargestRead
+unfoldable pub topLargestRead : ℕ → ℕ
+topLargestRead form = pick (eqb form form1) 132 1024
+
+-- a byte that is not there counts 0, so this is what either form's section says
+abbrev pub largestReadIn : List ℕ → ℕ
+largestReadIn bytes = numberAt wordBytes 0 bytes
+
+unfoldable pub soundLargestRead : ℕ → List ℕ → Bool
+soundLargestRead form bytes = isEmpty bytes || eqb (length bytes) (largestReadBytes form) && leb (largestReadIn bytes) (topLargestRead form)
 
 unfoldable pub isSound : List ℕ → Bool
 isSound bytes =
-    eqb (formIn bytes) form1 &&
+    isForm (formIn bytes) &&
     areWhole sectionCount (behindForm bytes) &&
     soundSwitches (sectionIn characteristicsSection bytes) &&
     soundPairs 0 (sectionIn attributesSection bytes) &&
     soundSet (sectionIn setSection bytes) &&
-    soundLargestRead (sectionIn largestReadSection bytes)
+    soundLargestRead (formIn bytes) (sectionIn largestReadSection bytes)
 
 -- What it says.
 
@@ -145,9 +159,6 @@ withPairs (code ∷ value ∷ rest) table = withPairs rest (set table code value
 
 unfoldable pub tableIn : List ℕ → List ℕ
 tableIn bytes = withPairs bytes (replicate codeCount 0)
-
-abbrev pub largestReadIn : List ℕ → ℕ
-largestReadIn bytes = byteAt bytes 0
 
 -- a meaning: each part may be none
 pub record Meaning : Type 0 where
@@ -209,7 +220,7 @@ attributeParametersFrom code (value ∷ table) = attributeParameter code value �
 abbrev pub attributeParameters : List ℕ → List (List ℕ)
 attributeParameters table = attributeParametersFrom 0 table
 
--- Writing it: every meaning that a record can have has one, and only one.
+-- Writing it: in each form every meaning that a record can have has one, and only one.
 
 -- the switches, each as the parameter that sets it
 abbrev pub switchParameter : ℕ → Bool → List ℕ
@@ -250,18 +261,18 @@ unfoldable pub orEmpty : {A : Type 0} → (A → List ℕ) → Option A → List
 orEmpty writes none = []
 orEmpty writes (some part) = writes part
 
-unfoldable pub sectionsOf : Meaning → List (List ℕ)
-sectionsOf m =
+unfoldable pub sectionsOf : ℕ → Meaning → List (List ℕ)
+sectionsOf form m =
     orEmpty switchBytes (m .switches) ∷
     orEmpty (pairsFrom 0) (m .attributes) ∷
     orEmpty (setWhere setSize) (m .set) ∷
-    orEmpty (λ n. n ∷ []) (m .largestRead) ∷
+    orEmpty (bytesOf (largestReadBytes form)) (m .largestRead) ∷
     []
 
-unfoldable pub recordOf : Meaning → List ℕ
-recordOf m = form1 ∷ joined (map framed (sectionsOf m))
+unfoldable pub recordOf : ℕ → Meaning → List ℕ
+recordOf form m = form ∷ joined (map framed (sectionsOf form m))
 
--- One meaning has one record.
+-- One meaning has one record of each form.
 abbrev pub OneRecord : Type 0
 OneRecord =
     (a b : List ℕ) →
@@ -269,10 +280,11 @@ OneRecord =
     allBytes b ≡ true →
     isSound a ≡ true →
     isSound b ≡ true →
+    formIn a ≡ formIn b →
     meaningOf a ≡ meaningOf b →
     a ≡ b
 
--- The meanings that a record can have.
+-- The meanings that a record of a form can have.
 
 -- attributes: one for each code, of seven bits, none deferred-clear, not all 0
 unfoldable pub isSayable : ℕ → Bool
@@ -289,17 +301,17 @@ pub record SayableSet (test : ℕ → Bool) : Type 0 where
   pub member : (c : ℕ) × (test c ≡ true)
 
 -- each part, where there is one
-pub record Sayable (m : Meaning) : Type 0 where
+pub record Sayable (form : ℕ) (m : Meaning) : Type 0 where
   pub attributes : (table : List ℕ) → m .attributes ≡ some table → SayableTable table
   pub set : (test : ℕ → Bool) → m .set ≡ some test → SayableSet test
-  pub largestRead : (n : ℕ) → m .largestRead ≡ some n → n ≤ topLargestRead
+  pub largestRead : (n : ℕ) → m .largestRead ≡ some n → n ≤ topLargestRead form
 
--- Every such meaning has a record.
-pub record RecordFor (m : Meaning) : Type 0 where
-  pub bytes : List ℕ
+-- Every such meaning has a record: the one that is written.
+pub record IsRecordOf (form : ℕ) (m : Meaning) (bytes : List ℕ) : Type 0 where
   pub areBytes : allBytes bytes ≡ true
   pub sound : isSound bytes ≡ true
+  pub inForm : formIn bytes ≡ form
   pub means : meaningOf bytes ≡ m
 
 abbrev pub EveryMeaning : Type 0
-EveryMeaning = (m : Meaning) → Sayable m → RecordFor m
+EveryMeaning = (form : ℕ) (m : Meaning) → isForm form ≡ true → Sayable form m → IsRecordOf form m (recordOf form m)

@@ -21,6 +21,7 @@ use Rattle.rules.specs.Characteristics
 use Rattle.rules.specs.Write
 use Rattle.rules.specs.Host
 use Rattle.rules.specs.Settings
+use Rattle.rules.specs.Settings.Moving
 use Rattle.rules.specs.Calls
 use Rattle.rules.specs.Bench
 use Rattle.rules.specs.Bench.Rows
@@ -32,7 +33,7 @@ unfolding Choice.pick Choice.firstOf Choice.within Choice.bit Choice.isEmpty Cho
 openChoice = tt
 
 unfoldable pub openNumbers : Unit {0}
-unfolding Numbers.inputSize Numbers.typeAheadSize Numbers.tokenSize Numbers.messageSize Numbers.terminalArea Numbers.messageArea Numbers.topColumn Numbers.topDropped
+unfolding Numbers.inputSize Numbers.typeAheadSize Numbers.tokenSize Numbers.messageSize Numbers.terminalArea Numbers.messageArea Numbers.movingArea Numbers.topColumn Numbers.topDropped
 openNumbers = tt
 
 unfoldable pub openLayout : Unit {0}
@@ -108,8 +109,12 @@ unfolding Host.ourInitiate Host.initiates Host.reports Host.setsCharacteristics 
 openHost = tt
 
 unfoldable pub openSettings : Unit {0}
-unfolding Settings.frontSection Settings.behindSection Settings.areWhole Settings.sectionBehind Settings.sectionIn Settings.isSwitch Settings.soundSwitches Settings.isListed Settings.soundPairs Settings.soundSet Settings.soundLargestRead Settings.isSound Settings.switchesIn Settings.withPairs Settings.tableIn Settings.unlessEmpty Settings.meaningOf Settings.areSound Settings.foundSection Settings.foundOr Settings.loaded Settings.loads Settings.attributeParametersFrom Settings.switchParameters Settings.switchBytes Settings.pairsFrom Settings.bitsWhere Settings.unlessTrailing Settings.setWhere Settings.orEmpty Settings.sectionsOf Settings.recordOf Settings.isSayable
+unfolding Settings.isForm Settings.frontSection Settings.behindSection Settings.areWhole Settings.sectionBehind Settings.sectionIn Settings.isSwitch Settings.soundSwitches Settings.isListed Settings.soundPairs Settings.soundSet Settings.largestReadBytes Settings.topLargestRead Settings.soundLargestRead Settings.isSound Settings.switchesIn Settings.withPairs Settings.tableIn Settings.unlessEmpty Settings.meaningOf Settings.areSound Settings.foundSection Settings.foundOr Settings.loaded Settings.loads Settings.attributeParametersFrom Settings.switchParameters Settings.switchBytes Settings.pairsFrom Settings.bitsWhere Settings.unlessTrailing Settings.setWhere Settings.orEmpty Settings.sectionsOf Settings.recordOf Settings.isSayable
 openSettings = tt
+
+unfoldable pub openMoving : Unit {0}
+unfolding Moving.otherForm Moving.isMovable Moving.largestReadAs Moving.movedSections Moving.moved Moving.moveRefusals Moving.move
+openMoving = tt
 
 unfoldable pub openCalls : Unit {0}
 unfolding Calls.areaAfter Calls.mapText Calls.sentBytes Calls.isServers Calls.isHosts Calls.carriesStartRead Calls.carriesWrite Calls.isPending Calls.isTimely Calls.carriesQuestions Calls.passesTest Calls.isUnsound Calls.isCarriedBy Calls.carries Calls.refusals Calls.received Calls.refuses Calls.does Calls.answersLoad Calls.answersMessage Calls.keystroke Calls.answers Calls.answer Calls.messageBytes Calls.runFrom Calls.run
@@ -128,5 +133,5 @@ unfolding Examples.sameSeen Examples.looksSame Examples.hostReads Examples.conve
 openExamples = tt
 
 unfoldable pub whole : Unit {0}
-unfolding openChoice openNumbers openLayout openParameters openForms openCodec openUnused openStartRead openScreen openState openTurns openToken openReadData openEditing openArrival openAcceptance openSteps openCharacteristics openWrite openHost openSettings openCalls openBench openTwoRuns openExamples
+unfolding openChoice openNumbers openLayout openParameters openForms openCodec openUnused openStartRead openScreen openState openTurns openToken openReadData openEditing openArrival openAcceptance openSteps openCharacteristics openWrite openHost openSettings openMoving openCalls openBench openTwoRuns openExamples
 whole = tt

@@ -5,20 +5,22 @@ pub mod forms;
 pub mod out_of_band;
 pub mod selectors;
 
-pub const INPUT_SIZE: usize = 132;
+pub const INPUT_SIZE: usize = 1024;
 
 pub const TYPE_AHEAD_SIZE: usize = 64;
 
 pub const TOKEN_SIZE: usize = 16;
 
-pub const MESSAGE_SIZE: usize = 256;
+pub const MESSAGE_SIZE: usize = 2048;
 
 // bytes of the shortest message (specs/Messages/Codec.antt)
 pub const SHORTEST_MESSAGE: usize = 1;
 
-pub const TERMINAL_AREA: usize = 4096;
+pub const TERMINAL_AREA: usize = 32768;
 
-pub const MESSAGE_AREA: usize = 256;
+pub const MESSAGE_AREA: usize = 2048;
+
+pub const MOVING_AREA: usize = 600;
 
 // character codes, each with its attribute
 pub const CODE_COUNT: usize = 256;
@@ -47,6 +49,8 @@ pub const UNSOUND: u8 = 5;
 pub const NOT_CARRIED: u8 = 6;
 
 pub const UNSOUND_RECORD: u8 = 7;
+
+pub const TOO_LARGE: u8 = 8;
 
 // MSGTYPE, as in specs/Messages/Forms.antt.
 

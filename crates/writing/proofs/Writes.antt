@@ -43,49 +43,10 @@ use Rattle.fronts.specs.Front.{frontTail, frontBytes}
 use Rattle.writing.specs.declared.spans.Spans.{Spans}
 use Rattle.writing.specs.Spans.{spansOf, spannedSize, inside, listBytes}
 use Rattle.writing.specs.Fits.{FitsIn}
-use Rattle.writing.specs.Writing.{Encodes, firstRefusal, writing, again, copied, numberIn, bytesIn}
+use Rattle.writing.specs.Writing.{InFront, firstRefusal, writing, again, copied, numberIn, bytesIn}
 use Rattle.writing.proofs.Lengths.{cut-short, inside-length, all-inside}
 use Rattle.writing.proofs.Fitting.{span-bytes}
 use Rattle.writing.proofs.WholeLists.{setting-fits}
-
--- A refusal leaves the area as it was.
-pub refusal : {o : Outcome (List ℕ)} {before : List ℕ} {n : ℕ} → o ≡ refused n →
-    Encodes o before (record { number = n; len = 0 }) before
-unfolding numberIn bytesIn areaAfter
-refusal {before = before} e =
-    record {
-      number = ap numberIn (sym e);
-      len = ap (λ o. length (bytesIn o)) (sym e);
-      area = ap (λ o. areaAfter (bytesIn o) before) (sym e);
-      same = refl;
-    }
-
--- one outcome for another that it equals
-pub answers-as : {o o′ : Outcome (List ℕ)} {before after : List ℕ} {r : Written} → o ≡ o′ → Encodes o′ before r after → Encodes o before r after
-answers-as e w = rw e w
-
--- bytes that were written stand in front
-module _ {bytes before after : List ℕ} {r : Written} (w : Encodes (sound bytes) before r after) where
-  answer-accepted : r .number ≡ accepted
-  unfolding numberIn
-  answer-accepted = w .number
-
-  front-bytes : take (r .len) after ≡ bytes
-  unfolding bytesIn areaAfter
-  front-bytes = ap₂ take (w .len) (w .area) ∙ take-append-seam bytes (drop (length bytes) before)
-
--- bytes put from the front on, where there is room
-pub put-in-front : {o : Outcome (List ℕ)} {bytes before after : List ℕ} {n : ℕ} → o ≡ sound bytes → length bytes ≤ length before →
-    Puts bytes before 0 n after → Encodes o before (record { number = 0; len = n }) after
-unfolding numberIn bytesIn
-put-in-front {o} {bytes} {before} {after} {n} e room w =
-    let there = w .area ∙ puts-front bytes before room in
-    record {
-      number = ap numberIn (sym e);
-      len = ap (λ p. p .at) there ∙ ap (λ o. length (bytesIn o)) (sym e);
-      area = ap (λ p. p .area) there ∙ ap (λ o. areaAfter (bytesIn o) before) (sym e);
-      same = w .same;
-    }
 
 -- Bytes whose limits are all 256 are their own.
 full : List ℕ → Bool
@@ -360,8 +321,8 @@ module _ {s : List ℕ} {f : Found} (found : Finds s (asHeld (read s)) f) {m : M
       copy-found area s (ap (foundIn s) (sym e) ∙ found .fields) ∙
       sym (writing-inside area s m (all-inside (length s) m (ap (foundInside (length s)) (sym e) ∙ found .inside)))
 
-  module _ {before after : List ℕ} {r : Written} (w : Encodes (writing (length before) s m) before r after) where
-    pub answers-again : Encodes (copied (length before) s) before r after
+  module _ {before after : List ℕ} {r : Written} (w : InFront (writing (length before) s m) before r after) where
+    pub answers-again : InFront (copied (length before) s) before r after
     answers-again = answers-as (writes-found (length before)) w
 
     abbrev wrote : List ℕ
@@ -378,7 +339,7 @@ module _ {s : List ℕ} {f : Found} (found : Finds s (asHeld (read s)) f) {m : M
         by-outcome (refused n) o = absurd (refused-sound (sym (ap asHeld o) ∙ sym (found .fields) ∙ ap (foundIn s) e))
         by-outcome (sound x) o =
             let b = copy-back (length before) s x bytes o room in
-            let answer : Encodes (sound (b .0)) before r after = answers-as (sym (b .1)) answers-again in
+            let answer : InFront (sound (b .0)) before r after = answers-as (sym (b .1)) answers-again in
             let there = front-bytes answer in (
               answer-accepted answer,
               λ g h. h .fields ∙ ap (λ bytes. asHeld (read bytes)) there ∙ ap asHeld (b .2 ∙ sym o) ∙ sym (found .fields),

@@ -31,18 +31,3 @@ again area (sound x) = written area (message x)
 
 unfoldable pub copied : ℕ → List ℕ → Outcome (List ℕ)
 copied area s = again area (read s)
-
-unfoldable pub numberIn : Outcome (List ℕ) → ℕ
-numberIn (refused n) = n
-numberIn (sound bytes) = accepted
-
-unfoldable pub bytesIn : Outcome (List ℕ) → List ℕ
-bytesIn (refused n) = []
-bytesIn (sound bytes) = bytes
-
--- the bytes stand in front, and behind them what stood there
-pub record Encodes (o : Outcome (List ℕ)) (before : List ℕ) (r : Written) (after : List ℕ) : Type 0 where
-  pub number : r .number ≡ numberIn o
-  pub len : r .len ≡ length (bytesIn o)
-  pub area : after ≡ areaAfter (bytesIn o) before
-  pub same : length after ≡ length before

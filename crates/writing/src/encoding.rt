@@ -2,13 +2,14 @@
 ghost use mathlib.Core.Path.{_≡_};
 ghost use lib.ListN.{length};
 ghost use Rattle.rules.specs.Messages.Codec.{definedKind};
-ghost use Rattle.writing.specs.Writing.{Encodes, firstRefusal, writing, copied};
-use crate::Written;
+ghost use Rattle.areas.specs.InFront.{InFront};
+ghost use Rattle.writing.specs.Writing.{firstRefusal, writing, copied};
 use crate::fits::fits_message;
 use crate::lists::put_list;
 use crate::spans::inside;
 use crate::spans::size_of;
 use crate::spans::spans_of;
+use areas::Written;
 use fronts::put_message;
 use message::Found;
 use message::Message;
@@ -40,7 +41,7 @@ fn first_refusal(room: usize, size: u32, kind: u8, passes: bool) -> u8
 
 // The length is judged by the spans' own lengths, before a span that lies outside the slice is refused.
 pub fn encode(m: Message, s: &[u8], area: &mut [u8]) -> Written
-    ensures { λ r. ⌜ Encodes (writing (length (now (area .entry))) (now (s .entry)) m) (now (area .entry)) r (now (area .exit)) ⌝ }
+    ensures { λ r. ⌜ InFront (writing (length (now (area .entry))) (now (s .entry)) m) (now (area .entry)) r (now (area .exit)) ⌝ }
 {
     let p = spans_of(m);
     let kind = p.kind;
@@ -65,7 +66,7 @@ pub fn encode(m: Message, s: &[u8], area: &mut [u8]) -> Written
 
 // Decodes a message and encodes it again.
 pub fn copy(s: &[u8], area: &mut [u8]) -> Written
-    ensures { λ r. ⌜ Encodes (copied (length (now (area .entry))) (now (s .entry))) (now (area .entry)) r (now (area .exit)) ⌝ }
+    ensures { λ r. ⌜ InFront (copied (length (now (area .entry))) (now (s .entry))) (now (area .entry)) r (now (area .exit)) ⌝ }
 {
     let f = message::decode(s);
     let Found::Message(m) = f else {

@@ -7,10 +7,11 @@ use mathlib.Core.List.{List, [], _∷_}
 use lib.ListN.{length}
 use Rattle.rules.specs.Choice.{within, isEmpty, allAre}
 use Rattle.rules.specs.Numbers.{codeCount, inputSize}
+use Rattle.rules.specs.Messages.Layout.{numberOf}
 use Rattle.rules.specs.Messages.Codec.{setSize, allBytes}
 use Rattle.rules.specs.State.{Host, State}
 use Rattle.rules.specs.Settings.{characteristicsSection, attributesSection, setSection, largestReadSection, sectionCount, sectionIn}
-use Rattle.rules.specs.Settings.{soundPairs, soundSet, soundLargestRead, isSound, tableIn, largestReadIn, isSayable, SayableTable}
+use Rattle.rules.specs.Settings.{formIn, soundPairs, soundSet, isSound, tableIn, largestReadIn, isSayable, SayableTable}
 use Rattle.rules.specs.Settings.{areSound, foundSection, foundOr, loaded, loads}
 use Rattle.rules.specs.Bounds.{isAttribute, BoundedHost, BoundedRead}
 use Rattle.rules.proofs.Choice.{pick-case, halves, all-weaken}
@@ -20,7 +21,7 @@ use Rattle.rules.proofs.Bounds.Turns.{Steady, Fine, rehosted, changes-g
 use Rattle.rules.proofs.Settings.Tests.{sound-parts}
 use Rattle.rules.proofs.Settings.Sections.{section-bytes}
 use Rattle.rules.proofs.Settings.Pairs.{pairs-sayable}
-use Rattle.rules.proofs.Settings.Set.{set-parts}
+use Rattle.rules.proofs.Settings.Set.{set-size}
 use Rattle.rules.proofs.Settings.LargestRead.{largest-read-sayable}
 
 -- A section that is found is a sound record's, or empty.
@@ -47,11 +48,6 @@ module _ (own site : List ℕ) (test : List ℕ → Bool) where
   found-tested n nothing each = found-case own site (λ bytes. test bytes ≡ true) n nothing (each own) (each site)
 
 -- a set that is found fits
-set-size : (bytes : List ℕ) → soundSet bytes ≡ true → length bytes ≤ setSize
-unfolding isEmpty
-set-size [] e = omega arith
-set-size (b ∷ bytes) e = set-parts (b ∷ bytes) e refl .0
-
 pub set-found : (own site : List ℕ) → length (foundSection setSection own site) ≤ setSize
 unfolding soundSet isEmpty
 set-found own site =
@@ -62,6 +58,12 @@ sayable-attribute : (value : ℕ) → isSayable value ≡ true → isAttribute v
 unfolding isSayable isAttribute
 sayable-attribute value e = halves _ _ e .0
 
+sound-largest-read : (bytes : List ℕ) → isSound bytes ≡ true → largestReadIn (sectionIn largestReadSection bytes) ≤ inputSize
+sound-largest-read bytes e =
+    let top = largest-read-sayable (formIn bytes) (sectionIn largestReadSection bytes) (sound-parts bytes e .largestRead) in
+    let room = largest-read-room (formIn bytes) in
+    omega arith
+
 module _ (own site : List ℕ) (ours : allBytes own ≡ true) (theirs : allBytes site ≡ true) where
   found-bytes : (n : ℕ) → allBytes (foundSection n own site) ≡ true
   found-bytes n = found-case own site (λ bytes. allBytes bytes ≡ true) n no-bytes (λ e. section-bytes n own ours) (λ e. section-bytes n site theirs)
@@ -71,13 +73,10 @@ module _ (own site : List ℕ) (ours : allBytes own ≡ true) (theirs : allBytes
   table-sayable =
       pairs-sayable _ (found-bytes attributesSection) (found-tested own site (soundPairs 0) attributesSection refl (λ bytes e. sound-parts bytes e .attributes))
 
-  largest-read-within : isEmpty (foundSection largestReadSection own site) ≡ false → largestReadIn (foundSection largestReadSection own site) ≤ inputSize
-  unfolding soundLargestRead isEmpty
-  largest-read-within filled =
-      let sound = found-tested own site soundLargestRead largestReadSection refl (λ bytes e. sound-parts bytes e .largestRead) in
-      let top = largest-read-sayable (foundSection largestReadSection own site) sound filled in
-      let room = largest-read-room in
-      omega arith
+  largest-read-within : largestReadIn (foundSection largestReadSection own site) ≤ inputSize
+  unfolding numberOf
+  largest-read-within =
+      found-case own site (λ section. largestReadIn section ≤ inputSize) largestReadSection (omega arith) (sound-largest-read own) (sound-largest-read site)
 
   loaded-bounded : (h : Host) → BoundedHost h → BoundedHost (loaded own site h)
   unfolding loaded
@@ -93,7 +92,7 @@ module _ (own site : List ℕ) (ours : allBytes own ≡ true) (theirs : allBytes
             (b .attributes);
         setLength = found-or (λ bytes. length bytes ≤ setSize) (λ bytes. bytes) set (h .lastSet) (λ filled. set-found own site) (b .setLength);
         setBytes = found-or (λ bytes. allBytes bytes ≡ true) (λ bytes. bytes) set (h .lastSet) (λ filled. found-bytes setSection) (b .setBytes);
-        largestRead = found-or (λ n. n ≤ inputSize) largestReadIn largestRead (h .largestRead) largest-read-within (b .largestRead);
+        largestRead = found-or (λ n. n ≤ inputSize) largestReadIn largestRead (h .largestRead) (λ filled. largest-read-within) (b .largestRead);
       }
 
   pub loads-fine : {s : State ℕ} → Steady BoundedRead s → Fine (loads own site s)

@@ -41,7 +41,7 @@ module _ {A : Type 0} (says : List ℕ → A) where
   part-holds P [] h part e = absurd (Option·none-ne-some part e)
   part-holds P (b ∷ bytes) h part e = subst P (Option·some-injective (says (b ∷ bytes)) part e) (h refl)
 
-  says-some : (section : List ℕ) → isEmpty section ≡ false → unlessEmpty says section ≡ some (says section)
+  pub says-some : (section : List ℕ) → isEmpty section ≡ false → unlessEmpty says section ≡ some (says section)
   unfolding unlessEmpty isEmpty
   says-some [] e = absurd (true≢false e)
   says-some (b ∷ bytes) e = refl

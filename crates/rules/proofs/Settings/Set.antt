@@ -150,12 +150,17 @@ set-trimmed (suc n) test =
     pick-case Trimmed _ (λ none. none-trimmed) (λ some. trimmed-more (bitsWhere byteBits test) others some later)
 
 -- The section.
-pub set-parts : (bytes : List ℕ) → soundSet bytes ≡ true → isEmpty bytes ≡ false → (length bytes ≤ setSize) × Trimmed bytes
+set-parts : (bytes : List ℕ) → soundSet bytes ≡ true → isEmpty bytes ≡ false → (length bytes ≤ setSize) × Trimmed bytes
 unfolding soundSet
 set-parts bytes sound filled =
     let last = eqb (byteAt bytes (length bytes - 1)) 0 in
     let t = halves (leb (length bytes) setSize) (not last) (rw filled at sound) in
     (leb-true (length bytes) setSize (t .0), λ f. eqb-false (byteAt bytes (length bytes - 1)) 0 (not-true last (t .1)))
+
+pub set-size : (bytes : List ℕ) → soundSet bytes ≡ true → length bytes ≤ setSize
+unfolding isEmpty
+set-size [] e = omega arith
+set-size (b ∷ bytes) e = set-parts (b ∷ bytes) e refl .0
 
 pub set-back : (bytes : List ℕ) → allBytes bytes ≡ true → soundSet bytes ≡ true → isEmpty bytes ≡ false → setWhere setSize (inSet bytes) ≡ bytes
 set-back bytes e sound filled =

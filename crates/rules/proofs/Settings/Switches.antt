@@ -9,7 +9,7 @@ use lib.ListN.{length, drop, length-drop, take-append-drop, drop-of-length-le}
 use lib.Seq.{drop-drop, drop-cons}
 use borrow.Author.Tests.{ltb-true, lt-ltb, eqb-true}
 use Rattle.rules.specs.Choice.{isOn, bit, isEmpty, allAre, joined}
-use Rattle.rules.specs.Messages.Layout.{byteValues, wordBytes, numberAt, bytesOf}
+use Rattle.rules.specs.Messages.Layout.{fieldsIn, byteValues, wordBytes, numberAt, bytesOf}
 use Rattle.rules.specs.Messages.Parameters.{oneBit, raiseInput, normalEcho, escapeRecognition, autoPrompt}
 use Rattle.rules.specs.Messages.Parameters.{setting, soundParameter, cut}
 use Rattle.rules.specs.Messages.Codec.{allBytes}
@@ -54,6 +54,11 @@ module _ (bytes : List ℕ) (e : allBytes bytes ≡ true) where
       (switch-back 2 escapeRecognition _ (omega arith) (t .2)
       (switch-back 3 autoPrompt _ (omega arith) (t .3)
       (drop-of-length-le bytes {i = switchAt switchCount} (omega arith))))))
+
+pub switches-size : (bytes : List ℕ) → allBytes bytes ≡ true → soundSwitches bytes ≡ true → length bytes ≤ switchAt switchCount
+unfolding switchBytes switchParameters joined fieldsIn isEmpty
+switches-size [] e sound = omega arith
+switches-size (b ∷ bytes) e sound = let back = ap length (switches-back (b ∷ bytes) e sound refl) in omega arith
 
 -- What is written of the switches: it says them, is sound, and sets them.
 switches-on : (s : Switches) →

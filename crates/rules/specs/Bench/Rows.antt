@@ -3,16 +3,16 @@ use Prim.Native.Nat.{_-_}
 use mathlib.Core.List.{List, [], _∷_, _++_}
 use lib.ListN.{length, take, replicate}
 use Rattle.rules.specs.Choice.{joined}
-use Rattle.rules.specs.Numbers.{terminalArea, messageArea, typeAheadSize, accepted, smallArea, wrongTime, unsound, notCarried, unsoundRecord}
+use Rattle.rules.specs.Numbers.{terminalArea, messageArea, typeAheadSize, accepted, smallArea, wrongTime, unsound, notCarried, unsoundRecord, tooLarge}
 use Rattle.rules.specs.Messages.Forms.{startRead}
 use Rattle.rules.specs.Screen.{HT, DEL}
 use Rattle.rules.specs.Token.{ESC}
 use Rattle.rules.specs.Editing.{redisplayKey}
 use Rattle.rules.specs.Arrival.{quoteKey, clearKey, discardKey}
 use Rattle.rules.specs.Calls.{key, tick}
-use Rattle.rules.specs.Bench.{Case, reads, copies, asks, runs, asked, says, typed, stored, stepped, told, initiated, startA, startedA, timedRead, timedOut, wrote, wroteNothing}
+use Rattle.rules.specs.Bench.{Case, reads, copies, asks, moves, runs, asked, says, typed, stored, stepped, told, initiated, startA, startedA, timedRead, timedOut, wrote, wroteNothing}
 use Rattle.rules.specs.Bench.{completed, discardState, flipped, attribute, outOfBand, recognising, waiting, typedUnseen, tokenTyped, loading, emptyRecord, switchRecord}
-use Rattle.rules.specs.Bench.{attributeRecord, setRecord, largestReadRecord, inOrder}
+use Rattle.rules.specs.Bench.{attributeRecord, setRecord, largestReadRecord, fullRecord, inOrder}
 
 -- The starred cases in order; D and H have two rows each. Request M-101 adds two.
 unfoldable pub starred : List Case
@@ -57,12 +57,12 @@ starred =
     typed 0x0D (0x0D ∷ 0x0A ∷ []) (0x0B ∷ 0x00 ∷ 0x03 ∷ 0x00 ∷ 0x02 ∷ 0x00 ∷ 0x01 ∷ 0x00 ∷ 0x02 ∷ 0x00 ∷ 0x33 ∷ 0x35 ∷ 0x0D ∷ []) ∷ []) ∷
     -- C: A without its last byte
     runs (initiated ∷ told (take (length startA - 1) startA) unsound [] [] ∷ []) ∷
-    -- D: END-OF-DATA 132 of 132 completes at once; MAX-LENGTH 133 is 5
+    -- D: END-OF-DATA 1,024 of 1,024 completes at once, the column at its top; MAX-LENGTH 1,025 is 5
     runs
     (initiated ∷
-    told ((0x02 ∷ 0x00 ∷ 0x00 ∷ 0x00 ∷ 0x84 ∷ 0x00 ∷ 0x84 ∷ 0x00 ∷ 0x00 ∷ 0x00 ∷ 0x00 ∷ 0x00 ∷ 0x00 ∷ 0x00 ∷ 0x84 ∷ 0x00 ∷ 0x00 ∷ []) ++ replicate 132 0x41) accepted (replicate 132 0x41)
-    ((0x8C ∷ 0x00 ∷ 0x03 ∷ 0x04 ∷ 0x84 ∷ 0x00 ∷ 0x00 ∷ 0x84 ∷ 0x84 ∷ 0x00 ∷ []) ++ replicate 132 0x41) ∷ []) ∷
-    runs (initiated ∷ told (0x02 ∷ 0x00 ∷ 0x00 ∷ 0x00 ∷ 0x85 ∷ 0x00 ∷ 0x00 ∷ 0x00 ∷ 0x00 ∷ 0x00 ∷ 0x00 ∷ 0x00 ∷ 0x00 ∷ 0x00 ∷ 0x00 ∷ 0x00 ∷ 0x00 ∷ []) unsound [] [] ∷ []) ∷
+    told ((0x02 ∷ 0x00 ∷ 0x00 ∷ 0x00 ∷ 0x00 ∷ 0x04 ∷ 0x00 ∷ 0x04 ∷ 0x00 ∷ 0x00 ∷ 0x00 ∷ 0x00 ∷ 0x00 ∷ 0x00 ∷ 0x00 ∷ 0x04 ∷ 0x00 ∷ []) ++ replicate 1024 0x41) accepted (replicate 1024 0x41)
+    ((0x08 ∷ 0x04 ∷ 0x03 ∷ 0x04 ∷ 0x00 ∷ 0x04 ∷ 0x00 ∷ 0xE7 ∷ 0x00 ∷ 0x04 ∷ []) ++ replicate 1024 0x41) ∷ []) ∷
+    runs (initiated ∷ told (0x02 ∷ 0x00 ∷ 0x00 ∷ 0x00 ∷ 0x01 ∷ 0x04 ∷ 0x00 ∷ 0x00 ∷ 0x00 ∷ 0x00 ∷ 0x00 ∷ 0x00 ∷ 0x00 ∷ 0x00 ∷ 0x00 ∷ 0x00 ∷ 0x00 ∷ []) unsound [] [] ∷ []) ∷
     -- E: MAX-LENGTH 0, buffer full, no data
     runs (initiated ∷ told (0x02 ∷ 0x00 ∷ 0x00 ∷ 0x00 ∷ 0x00 ∷ 0x00 ∷ 0x00 ∷ 0x00 ∷ 0x00 ∷ 0x00 ∷ 0x00 ∷ 0x00 ∷ 0x00 ∷ 0x00 ∷ 0x00 ∷ 0x00 ∷ 0x00 ∷ []) accepted [] (0x08 ∷ 0x00 ∷ 0x03 ∷ 0x04 ∷ 0x00 ∷ 0x00 ∷ 0x00 ∷ 0x00 ∷ 0x00 ∷ 0x00 ∷ []) ∷ []) ∷
     -- F: DEL at once
@@ -168,17 +168,40 @@ warned =
     -- a section's length is read low byte first
     asks 2 (attributeRecord 2 (0x41 ∷ 0x04 ∷ [])) emptyRecord (0x41 ∷ 0x04 ∷ []) ∷
     -- the own record's section goes before the site's
-    asks 4 (largestReadRecord 80) (largestReadRecord 72) (80 ∷ []) ∷
-    asks 4 emptyRecord (largestReadRecord 72) (72 ∷ []) ∷
-    -- unsound records: a set that ends in 0; a byte behind the last section; a code twice; deferred-clear; a largest read of 133; a switch of 2; a site record of another form
+    asks 4 (largestReadRecord 1 (80 ∷ [])) (largestReadRecord 1 (72 ∷ [])) (80 ∷ []) ∷
+    asks 4 emptyRecord (largestReadRecord 1 (72 ∷ [])) (72 ∷ []) ∷
+    -- unsound records: a set that ends in 0; a byte behind the last section; a code twice; deferred-clear; a largest read of 133; a switch of 2; a site record of form 3
     asks 3 (setRecord 2 (0x01 ∷ 0x00 ∷ [])) emptyRecord [] ∷
-    asks 4 (largestReadRecord 80 ++ (0x00 ∷ [])) emptyRecord [] ∷
+    asks 4 (largestReadRecord 1 (80 ∷ []) ++ (0x00 ∷ [])) emptyRecord [] ∷
     asks 2 (attributeRecord 4 (0x41 ∷ 0x04 ∷ 0x41 ∷ 0x08 ∷ [])) emptyRecord [] ∷
     asks 2 (attributeRecord 2 (0x41 ∷ 0x02 ∷ [])) emptyRecord [] ∷
-    asks 4 (largestReadRecord 132) emptyRecord (132 ∷ []) ∷
-    asks 4 (largestReadRecord 133) emptyRecord [] ∷
+    asks 4 (largestReadRecord 1 (132 ∷ [])) emptyRecord (132 ∷ []) ∷
+    asks 4 (largestReadRecord 1 (133 ∷ [])) emptyRecord [] ∷
     asks 1 (switchRecord 12 (0x04 ∷ 0x02 ∷ 0x00 ∷ 0x05 ∷ 0x02 ∷ 0x02 ∷ 0x06 ∷ 0x02 ∷ 0x00 ∷ 0x09 ∷ 0x02 ∷ 0x00 ∷ [])) emptyRecord [] ∷
-    asks 4 (largestReadRecord 80) (0x02 ∷ []) [] ∷
+    asks 4 (largestReadRecord 1 (80 ∷ [])) (largestReadRecord 3 []) [] ∷
+    -- M-107, forms: in form 2 two bytes, low byte first, up to 1,024, and in form 1 one; mixed records are asked as each has it
+    asks 4 (largestReadRecord 2 (0x00 ∷ 0x04 ∷ [])) emptyRecord (0x00 ∷ 0x04 ∷ []) ∷
+    asks 4 (largestReadRecord 2 (0x01 ∷ 0x04 ∷ [])) emptyRecord [] ∷
+    asks 4 (largestReadRecord 2 (0x84 ∷ [])) emptyRecord [] ∷
+    asks 4 (largestReadRecord 1 (0x84 ∷ 0x00 ∷ [])) emptyRecord [] ∷
+    asks 4 (largestReadRecord 1 (0x84 ∷ [])) (largestReadRecord 2 (0x84 ∷ 0x00 ∷ [])) (0x84 ∷ []) ∷
+    asks 4 (largestReadRecord 2 []) (largestReadRecord 1 (0x84 ∷ [])) (0x84 ∷ []) ∷
+    asks 4 emptyRecord (largestReadRecord 2 (0x84 ∷ 0x00 ∷ [])) (0x84 ∷ 0x00 ∷ []) ∷
+    -- moving: a record without anything, and one of all sections, to form 2 and back
+    moves 2 600 emptyRecord accepted (largestReadRecord 2 []) ∷
+    moves 1 600 (largestReadRecord 2 []) accepted emptyRecord ∷
+    moves 2 600 (fullRecord 1 (0x50 ∷ [])) accepted (fullRecord 2 (0x50 ∷ 0x00 ∷ [])) ∷
+    moves 1 600 (fullRecord 2 (0x50 ∷ 0x00 ∷ [])) accepted (fullRecord 1 (0x50 ∷ [])) ∷
+    -- form 1 holds 132 and no more: 8 at 133, and where the low byte alone would fit
+    moves 1 600 (largestReadRecord 2 (0x84 ∷ 0x00 ∷ [])) accepted (largestReadRecord 1 (0x84 ∷ [])) ∷
+    moves 1 600 (largestReadRecord 2 (0x85 ∷ 0x00 ∷ [])) tooLarge [] ∷
+    moves 1 600 (largestReadRecord 2 (0x50 ∷ 0x01 ∷ [])) tooLarge [] ∷
+    -- a largest read over 1,024 is 7, and so is a record that has the form already; the area goes before both
+    moves 1 600 (largestReadRecord 2 (0x01 ∷ 0x04 ∷ [])) unsoundRecord [] ∷
+    moves 1 600 emptyRecord unsoundRecord [] ∷
+    moves 2 600 (largestReadRecord 2 []) unsoundRecord [] ∷
+    moves 1 599 (largestReadRecord 2 (0x85 ∷ 0x00 ∷ [])) smallArea [] ∷
+    moves 2 599 [] smallArea [] ∷
     -- loaded attributes are all of them: a code that is not listed has 0
     runs
     (initiated ∷ attribute 0x41 0x04 ∷
@@ -187,10 +210,15 @@ warned =
     (0x0C ∷ 0x00 ∷ 0x0B ∷ 0x00 ∷ 0x02 ∷ 0x02 ∷ 0x41 ∷ 0x7F ∷ 0x00 ∷ 0x02 ∷ 0x02 ∷ 0x42 ∷ 0x7F ∷ 0x04 ∷ []) ∷ []) ∷
     -- a largest read, loaded before Initiate: one more is 5, before V's 6, and as many are taken
     runs
-    (loading (largestReadRecord 80) emptyRecord accepted ∷ initiated ∷
+    (loading (largestReadRecord 1 (80 ∷ [])) emptyRecord accepted ∷ initiated ∷
     told (0x02 ∷ 0x11 ∷ 0x90 ∷ 0x00 ∷ 0x51 ∷ 0x00 ∷ 0x02 ∷ 0x00 ∷ 0x00 ∷ 0x00 ∷ 0x02 ∷ 0x00 ∷ 0x00 ∷ 0x00 ∷ 0x02 ∷ 0x00 ∷ 0x00 ∷ 0x3F ∷ 0x20 ∷ []) unsound [] [] ∷
     told (0x02 ∷ 0x11 ∷ 0x90 ∷ 0x00 ∷ 0x50 ∷ 0x00 ∷ 0x02 ∷ 0x00 ∷ 0x00 ∷ 0x00 ∷ 0x02 ∷ 0x00 ∷ 0x00 ∷ 0x00 ∷ 0x02 ∷ 0x00 ∷ 0x00 ∷ 0x3F ∷ 0x20 ∷ []) notCarried [] [] ∷
     startedA ∷ []) ∷
+    -- and in form 2 beside a record of form 1: of 515 (0x0203) one more is 5, and as many are taken
+    runs
+    (loading emptyRecord (largestReadRecord 2 (0x03 ∷ 0x02 ∷ [])) accepted ∷ initiated ∷
+    told (0x02 ∷ 0x00 ∷ 0x00 ∷ 0x00 ∷ 0x04 ∷ 0x02 ∷ replicate 11 0x00) unsound [] [] ∷
+    told (0x02 ∷ 0x00 ∷ 0x00 ∷ 0x00 ∷ 0x03 ∷ 0x02 ∷ replicate 11 0x00) accepted [] [] ∷ []) ∷
     -- a loaded set is the one that ZZ 0 looks at: "A" ends the read
     runs
     (initiated ∷ loading (setRecord 9 (replicate 8 0x00 ++ (0x02 ∷ []))) emptyRecord accepted ∷
@@ -205,7 +233,7 @@ warned =
     startedA ∷ typed 0x31 [] [] ∷ []) ∷
     -- a refused load, which is no record or one of another form, leaves the line as it was
     runs
-    (initiated ∷ loading emptyRecord [] unsoundRecord ∷ loading (largestReadRecord 1) (0x02 ∷ []) unsoundRecord ∷ startedA ∷ []) ∷
+    (initiated ∷ loading emptyRecord [] unsoundRecord ∷ loading (largestReadRecord 1 (1 ∷ [])) (largestReadRecord 3 []) unsoundRecord ∷ startedA ∷ []) ∷
     -- M-103, six rows. A half-typed answer: an alarm locks (UU 1, PP 1 of one line), a key waits, and behind the unlock (UU 3, QQ 2, S) the keeper sees the answer again; Write Completion counts the "!" and not the redisplay
     runs
     (initiated ∷ startedA ∷
