@@ -97,6 +97,10 @@ pub message-area : messageArea ≡ 2048
 unfolding messageArea
 message-area = refl
 
+pub moving-area : movingArea ≡ 600
+unfolding movingArea
+moving-area = refl
+
 pub top-column : topColumn ≡ 999
 unfolding topColumn
 top-column = refl

@@ -2,3 +2,4 @@
 mod Walk
 mod Pairs
 mod Found
+mod Moved

@@ -1,14 +1,19 @@
-// The settings record, form 1: whether it breaks a rule, its sections, and the attributes that it lists.
+// The settings record, forms 1 and 2: whether it breaks a rule, its sections, the attributes that it lists, and moving it from form to form.
 ghost use mathlib.Core.Path.{_≡_};
 ghost use Rattle.rules.specs.Settings.{isSound, foundSection, tableIn};
 
+mod moving;
 mod sections;
 mod sound;
 
+pub use crate::moving::to_form_1;
+pub use crate::moving::to_form_2;
 use crate::sections::section_in;
 use rules::forms;
 
 const FORM_1: u8 = 1;
+
+const FORM_2: u8 = 2;
 
 // The sections, in this order.
 pub const CHARACTERISTICS_SECTION: u8 = 1;
@@ -35,12 +40,13 @@ const PAIR_SIZE: usize = 2;
 pub fn is_sound(record: &[u8]) -> bool
     ensures { λ r. ⌜ r ≡ isSound (now («record» .entry)) ⌝ }
 {
-    (fields::byte_at(record, 0) == FORM_1)
+    let form = fields::byte_at(record, 0);
+    ((form == FORM_1) | (form == FORM_2))
         & sections::are_whole(SECTION_COUNT, sections::behind_form(record))
         & sound::switches(section_in(CHARACTERISTICS_SECTION, record))
         & sound::pairs(section_in(ATTRIBUTES_SECTION, record))
         & sound::set(section_in(SET_SECTION, record))
-        & sound::largest_read(section_in(LARGEST_READ_SECTION, record))
+        & sound::largest_read(form, section_in(LARGEST_READ_SECTION, record))
 }
 
 // Section n of the line's own record where it is not empty, otherwise of the site's: a part of the record. Empty when either record breaks a rule, or no section has this number.

@@ -1,15 +1,24 @@
 // What each section may hold.
 ghost use mathlib.Core.Path.{_≡_};
 ghost use Rattle.rules.specs.Settings as rules;
+use crate::FORM_1;
 use crate::PAIR_SIZE;
 use crate::SELECTOR_BYTES;
 use crate::SWITCH_COUNT;
 use crate::SWITCH_SIZE;
 use rules::bits;
+use rules::forms;
 use rules::out_of_band;
 use rules::selectors;
 
-const TOP_LARGEST_READ: u8 = 132;
+// What each form holds of a largest read: so many bytes, and so much.
+const FORM_1_BYTES: u8 = 1;
+
+const FORM_2_BYTES: u8 = forms::WORD_BYTES;
+
+const FORM_1_TOP: u16 = 132;
+
+const FORM_2_TOP: u16 = 1024;
 
 // The n-th switch is this one, on or off.
 fn is_switch(section: &[u8], n: u8, selector: u16) -> bool
@@ -69,9 +78,31 @@ pub(crate) fn set(section: &[u8]) -> bool
     (section.len() <= rules::SET_SIZE) & !(fields::byte_at(section, section.len() - 1) == 0)
 }
 
-// None, or one byte.
-pub(crate) fn largest_read(section: &[u8]) -> bool
-    ensures { λ r. ⌜ r ≡ rules.soundLargestRead (now (section .entry)) ⌝ }
+// Bytes of a largest read.
+pub(crate) fn largest_read_bytes(form: u8) -> u8
+    ensures { λ r. ⌜ r ≡ rules.largestReadBytes form ⌝ }
 {
-    (section.len() == 0) | (section.len() == 1) & (fields::byte_at(section, 0) <= TOP_LARGEST_READ)
+    if form == FORM_1 {
+        return FORM_1_BYTES;
+    }
+    FORM_2_BYTES
+}
+
+// And the most that it may be.
+pub(crate) fn top_largest_read(form: u8) -> u16
+    ensures { λ r. ⌜ r ≡ rules.topLargestRead form ⌝ }
+{
+    if form == FORM_1 {
+        return FORM_1_TOP;
+    }
+    FORM_2_TOP
+}
+
+// None, or as the form has it.
+pub(crate) fn largest_read(form: u8, section: &[u8]) -> bool
+    ensures { λ r. ⌜ r ≡ rules.soundLargestRead form (now (section .entry)) ⌝ }
+{
+    (section.len() == 0)
+        | (section.len() == largest_read_bytes(form) as usize)
+            & (fields::word_at(section, 0) <= top_largest_read(form))
 }

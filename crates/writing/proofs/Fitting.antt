@@ -23,12 +23,7 @@ use Rattle.writing.specs.Fits.{FitsIn}
 use Rattle.writing.specs.Spans.{spansOf}
 use Rattle.writing.proofs.Lengths.{spans-length}
 
--- the bytes of a slice are bytes, and so are those of a span
-pub bytes-all : (s : List ℕ) → ((i : ℕ) → byteAt s i < 256) → allBytes s ≡ true
-unfolding allBytes allAre
-bytes-all [] h = refl
-bytes-all (b ∷ s) h = both (lt-ltb b 256 (h zero)) (bytes-all s (λ i. h (suc i)))
-
+-- the bytes of a span are bytes
 pub span-bytes : (s : List ℕ) (p : Span) → allBytes s ≡ true → allBytes (spanOf s p) ≡ true
 unfolding allBytes spanOf
 span-bytes s p h = all-split (λ b. ltb b 256) (p .len) _ (all-split (λ b. ltb b 256) (p .start) s h .1) .0

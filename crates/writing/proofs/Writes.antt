@@ -37,13 +37,14 @@ use Rattle.message.specs.Found.{Finds, parametersOf, startReadIn, heldIn, asHel
 use Rattle.parameters.specs.Lists.{soundFrom}
 use Rattle.parameters.proofs.Shapes.{is-setting}
 use Rattle.message.proofs.Lists.{list-from}
-use Rattle.writing.specs.declared.Written.{Written}
-use Rattle.areas.specs.Puts.{Puts}
+use Rattle.areas.specs.declared.Written.{Written}
+use Rattle.areas.specs.InFront.{InFront}
+use Rattle.areas.proofs.InFront.{answers-as, answer-accepted, front-bytes}
 use Rattle.fronts.specs.Front.{frontTail, frontBytes}
 use Rattle.writing.specs.declared.spans.Spans.{Spans}
 use Rattle.writing.specs.Spans.{spansOf, spannedSize, inside, listBytes}
 use Rattle.writing.specs.Fits.{FitsIn}
-use Rattle.writing.specs.Writing.{InFront, firstRefusal, writing, again, copied, numberIn, bytesIn}
+use Rattle.writing.specs.Writing.{firstRefusal, writing, again, copied}
 use Rattle.writing.proofs.Lengths.{cut-short, inside-length, all-inside}
 use Rattle.writing.proofs.Fitting.{span-bytes}
 use Rattle.writing.proofs.WholeLists.{setting-fits}

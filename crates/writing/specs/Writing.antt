@@ -1,17 +1,14 @@
--- Writing a message: its outcome, and what it leaves in the area.
+-- Writing a message: its outcome.
 use Prim.Native.Nat.{ℕ}
-use mathlib.Core.Path.{_≡_}
 use mathlib.Core.Bool.{Bool}
-use mathlib.Core.List.{List, []}
+use mathlib.Core.List.{List}
 use lib.ListN.{length}
 use Rattle.rules.specs.Choice.{firstOf}
 use Rattle.rules.specs.Numbers.{accepted}
-use Rattle.rules.specs.Calls.{areaAfter}
 use Rattle.rules.specs.Messages.Forms as forms
 use Rattle.rules.specs.Messages.Codec.{Outcome, refused, sound, message, read, writeRefusals, written}
 use Rattle.message.specs.declared.Message.{Message}
 use Rattle.message.specs.Found.{heldIn}
-use Rattle.writing.specs.declared.Written.{Written}
 use Rattle.writing.specs.Spans.{spansOf, spannedSize, inside}
 
 -- the number of the first refusal, or 0: by the area, the length, the type and one more test

@@ -4,7 +4,7 @@ use native.Mathlib.Omega.{arith}
 use borrow.Author.Needs.{needs}
 use Rattle.rules.specs.Messages.Codec.{allBytes}
 use Rattle.rules.proofs.Bounds.Bytes.{bytes-take}
-use Rattle.writing.proofs.Fitting.{bytes-all}
+use Rattle.rules.proofs.Bounds.Bytes.{bytes-all}
 use Rattle.replay.proofs.message.Statement.{statement}
 use Rattle.replay.proofs.message.Tie as tie
 

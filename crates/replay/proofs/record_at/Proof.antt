@@ -3,7 +3,8 @@ use mathlib.Core.Bool.{true}
 use native.Mathlib.Omega.{arith}
 use borrow.Author.Needs.{needs}
 use Rattle.rules.specs.Messages.Codec.{allBytes}
-use Rattle.writing.proofs.Fitting.{bytes-all, span-bytes}
+use Rattle.rules.proofs.Bounds.Bytes.{bytes-all}
+use Rattle.writing.proofs.Fitting.{span-bytes}
 use Rattle.replay.proofs.record_at.Statement.{statement}
 use Rattle.replay.proofs.record_at.Tie as tie
 

@@ -29,15 +29,9 @@ use Rattle.rules.proofs.Settings.Switches.{switches-size}
 use Rattle.rules.proofs.Settings.Set.{set-size}
 use Rattle.rules.proofs.Settings.{moved-written, record-back, every-meaning, says-sayable}
 
--- what a record that moves has, and where it moves
-pub record Movable (form area : ℕ) (bytes : List ℕ) : Type 0 where
-  pub room : movingArea ≤ area
-  pub sound : isSound bytes ≡ true
-  pub inForm : formIn bytes ≡ otherForm form
-  pub holds : largestReadOf bytes ≤ topLargestRead form
-
-module _ (form area : ℕ) (bytes : List ℕ) where
-  movable-parts : isMovable form bytes ≡ true → (isSound bytes ≡ true) × (formIn bytes ≡ otherForm form)
+-- What is moved to a form: a sound record of the other.
+module _ (form : ℕ) (bytes : List ℕ) where
+  pub movable-parts : isMovable form bytes ≡ true → (isSound bytes ≡ true) × (formIn bytes ≡ otherForm form)
   unfolding isMovable
   movable-parts e =
       let t = halves (isSound bytes) (eqb (formIn bytes) (otherForm form)) e in
@@ -47,26 +41,48 @@ module _ (form area : ℕ) (bytes : List ℕ) where
   unfolding isMovable
   is-movable s f = both s (eq-eqb (formIn bytes) (otherForm form) f)
 
-  pub movable : (after : List ℕ) → move form area bytes ≡ sound after → Movable form area bytes × (moved form bytes ≡ after)
+-- The rows, in their order.
+module _ (form area : ℕ) (bytes : List ℕ) where
+  pub in-small : area < movingArea → move form area bytes ≡ refused smallArea
   unfolding move moveRefusals firstOf
-  movable after e =
+  in-small h = pick-true _ _ (lt-ltb area movingArea h)
+
+  module _ (room : movingArea ≤ area) where
+    pub not-movable : isMovable form bytes ≡ false → move form area bytes ≡ refused unsoundRecord
+    unfolding move moveRefusals firstOf
+    not-movable e = pick-false _ _ (le-ltb area movingArea room) ∙ pick-true _ _ (ap not e)
+
+    module _ (e : isMovable form bytes ≡ true) where
+      pub over-top : topLargestRead form < largestReadOf bytes → move form area bytes ≡ refused tooLarge
+      unfolding move moveRefusals firstOf
+      over-top h =
+          pick-false _ _ (le-ltb area movingArea room) ∙ pick-false _ _ (ap not e) ∙ pick-true _ _ (lt-ltb (topLargestRead form) (largestReadOf bytes) h)
+
+      pub move-sound : largestReadOf bytes ≤ topLargestRead form → move form area bytes ≡ sound (moved form bytes)
+      unfolding move moveRefusals firstOf
+      move-sound h =
+          pick-false _ _ (le-ltb area movingArea room) ∙ pick-false _ _ (ap not e) ∙ pick-false _ _ (le-ltb (topLargestRead form) (largestReadOf bytes) h)
+
+  -- and what has passed them
+  record Moves (after : List ℕ) : Type 0 where
+    sound : isSound bytes ≡ true
+    inForm : formIn bytes ≡ otherForm form
+    holds : largestReadOf bytes ≤ topLargestRead form
+    written : moved form bytes ≡ after
+
+  moves : (after : List ℕ) → move form area bytes ≡ sound after → Moves after
+  unfolding move moveRefusals firstOf
+  moves after e =
       let small = pick-second _ refused-sound e in
       let unsound = pick-second _ refused-sound (small .1) in
       let large = pick-second _ refused-sound (unsound .1) in
-      let parts = movable-parts (not-false _ (unsound .0)) in
-      (record {
-        room = ltb-false area movingArea (small .0);
+      let parts = movable-parts form bytes (not-false _ (unsound .0)) in
+      record {
         sound = parts .0;
         inForm = parts .1;
         holds = ltb-false (topLargestRead form) (largestReadOf bytes) (large .0);
-      }, sound-same (large .1))
-
-  pub move-sound : Movable form area bytes → move form area bytes ≡ sound (moved form bytes)
-  unfolding move moveRefusals firstOf
-  move-sound m =
-      pick-false _ _ (le-ltb area movingArea (m .room)) ∙
-      pick-false _ _ (ap not (is-movable (m .sound) (m .inForm))) ∙
-      pick-false _ _ (le-ltb (topLargestRead form) (largestReadOf bytes) (m .holds))
+        written = sound-same (large .1);
+      }
 
 -- The form that holds its largest read can say what a sound record says.
 module _ (form : ℕ) (bytes : List ℕ) (areBytes : allBytes bytes ≡ true) (s : isSound bytes ≡ true) where
@@ -86,8 +102,8 @@ module _ (form : ℕ) (bytes : List ℕ) (areBytes : allBytes bytes ≡ true) (s
 
 pub keeps-meaning : KeepsMeaning
 keeps-meaning form area bytes after known areBytes e =
-    let m = movable form area bytes after e in
-    subst (IsRecordOf form (meaningOf bytes)) (m .1) (moved-means form bytes areBytes (m .0 .sound) known (m .0 .holds))
+    let m = moves form area bytes after e in
+    subst (IsRecordOf form (meaningOf bytes)) (m .written) (moved-means form bytes areBytes (m .sound) known (m .holds))
 
 -- Back again.
 other-back : (form : ℕ) → isForm form ≡ true → otherForm (otherForm form) ≡ form
@@ -110,21 +126,14 @@ largest-read-kept top bytes h = read-under top (sectionIn largestReadSection byt
 
 pub moves-back : MovesBack
 moves-back form area area′ bytes after known areBytes room e =
-    let m = movable form area bytes after e in
+    let m = moves form area bytes after e in
     let r = keeps-meaning form area bytes after known areBytes e in
-    let from = m .0 .inForm in
-    let said = says-sayable bytes areBytes (m .0 .sound) in
-    let back : Movable (otherForm form) area′ after =
-      record {
-        room = room;
-        sound = r .sound;
-        inForm = r .inForm ∙ sym (other-back form known);
-        holds = rw from at (largest-read-kept (topLargestRead (formIn bytes)) after (λ n is. said .largestRead n (ap (λ k. k .largestRead) (sym (r .means)) ∙ is)));
-      }
-    in
-    move-sound (otherForm form) area′ after back ∙
+    let said = says-sayable bytes areBytes (m .sound) in
+    let back = is-movable (otherForm form) after (r .sound) (r .inForm ∙ sym (other-back form known)) in
+    let holds = largest-read-kept (topLargestRead (formIn bytes)) after (λ n is. said .largestRead n (ap (λ k. k .largestRead) (sym (r .means)) ∙ is)) in
+    move-sound (otherForm form) area′ after room back (rw (m .inForm) at holds) ∙
     ap sound
-    (sym (moved-written after (r .areBytes) (r .sound) (otherForm form)) ∙ ap₂ recordOf (sym from) (r .means) ∙ record-back bytes areBytes (m .0 .sound))
+    (sym (moved-written after (r .areBytes) (r .sound) (otherForm form)) ∙ ap₂ recordOf (sym (m .inForm)) (r .means) ∙ record-back bytes areBytes (m .sound))
 
 -- Form 2 holds what form 1 does.
 wider : topLargestRead form1 ≤ topLargestRead form2
@@ -137,7 +146,7 @@ form1-moves area bytes room s f =
     let own = largest-read-sayable (formIn bytes) (sectionIn largestReadSection bytes) (sound-parts bytes s .largestRead) in
     let top : topLargestRead (formIn bytes) ≡ topLargestRead form1 = ap topLargestRead f in
     let more = wider in
-    move-sound form2 area bytes (record { room = room; sound = s; inForm = f; holds = omega arith })
+    move-sound form2 area bytes room (is-movable form2 bytes s f) (omega arith)
 
 -- 8 is given where it applies, and nowhere else.
 read-filled : {least : ℕ} (section : List ℕ) → least < largestReadIn section → isEmpty section ≡ false
@@ -154,7 +163,7 @@ module _ (area : ℕ) (bytes : List ℕ) where
       let small = pick-second _ (other-refusal not-small) e in
       let unsound = pick-second _ (other-refusal not-unsound) (small .1) in
       let large = pick-first _ (λ q. refused-sound (sym q)) (unsound .1) in
-      let parts = movable-parts form1 area bytes (not-false _ (unsound .0)) in
+      let parts = movable-parts form1 bytes (not-false _ (unsound .0)) in
       let over = ltb-true (topLargestRead form1) (largestReadOf bytes) (large .0) in
       record {
         room = ltb-false area movingArea (small .0);
@@ -166,14 +175,11 @@ module _ (area : ℕ) (bytes : List ℕ) where
       }
 
   refused-large : IsTooLarge area bytes → move form1 area bytes ≡ refused tooLarge
-  unfolding move moveRefusals firstOf otherForm pick meaningOf
+  unfolding otherForm pick meaningOf
   refused-large t =
-      pick-false _ _ (le-ltb area movingArea (t .room)) ∙
-      pick-false _ _ (ap not (is-movable form1 area bytes (t .sound) (t .inForm))) ∙
-      pick-true _ _
-      (lt-ltb (topLargestRead form1) (largestReadOf bytes)
-      (subst (λ n. topLargestRead form1 < n)
-      (part-holds largestReadIn (λ n. n ≡ largestReadOf bytes) (sectionIn largestReadSection bytes) (λ filled. refl) (t .most) (t .largestRead)) (t .over)))
+      let section = sectionIn largestReadSection bytes in
+      let most = part-holds largestReadIn (λ n. n ≡ largestReadIn section) section (λ filled. refl) (t .most) (t .largestRead) in
+      over-top form1 area bytes (t .room) (is-movable form1 bytes (t .sound) (t .inForm)) (subst (λ n. topLargestRead form1 < n) most (t .over))
 
 pub too-large-exactly : TooLargeExactly
 too-large-exactly area bytes = (too-large area bytes, refused-large area bytes)
@@ -211,13 +217,14 @@ moved-fits form bytes areBytes s =
     let set = sectionIn setSection bytes in
     let read = largestReadAs form (sectionIn largestReadSection bytes) in
     let four : length (joined (map framed (movedSections form bytes))) ≡ 4 * wordBytes + length switches + length pairs + length set + length read
-      = four-framed switches pairs set read
+    = four-framed switches pairs set read
     in
-    omega
-    (arith,
-    moving-room,
-    four,
-    switches-size switches (section-bytes characteristicsSection bytes areBytes) (parts .switches),
-    pairs-short 0 pairs (section-bytes attributesSection bytes areBytes) (parts .attributes),
-    set-size set (parts .set),
-    as-size form (sectionIn largestReadSection bytes))
+    omega (
+      arith,
+      moving-room,
+      four,
+      switches-size switches (section-bytes characteristicsSection bytes areBytes) (parts .switches),
+      pairs-short 0 pairs (section-bytes attributesSection bytes areBytes) (parts .attributes),
+      set-size set (parts .set),
+      as-size form (sectionIn largestReadSection bytes),
+    )

@@ -5,7 +5,7 @@ use native.Mathlib.Omega.{arith}
 use mathlib.Core.Bool.{true}
 use mathlib.Core.List.{List, [], _∷_, _++_, map, append-assoc}
 use lib.Dec.{leb}
-use lib.ListN.{length, getD, take, drop, length-append, length-drop, take-append-drop}
+use lib.ListN.{length, getD, take, drop, length-append, length-take, length-drop, take-append-drop}
 use lib.Seq.{length-take-le, take-append-seam, drop-drop, drop-at}
 use borrow.Author.Tests.{ltb-true, leb-true, le-leb}
 use Rattle.rules.specs.Choice.{isEmpty, allAre, joined}
@@ -15,7 +15,7 @@ use Rattle.rules.specs.Settings.{behindForm, sectionLength, frontSection
 use Rattle.rules.proofs.Choice.{both, halves, isEmpty-nil, all-cons}
 use Rattle.rules.proofs.Fields.{length-bytesOf, numberAt-bytesOf}
 use Rattle.rules.proofs.Bounds.Sent.{framed-length}
-use Rattle.rules.proofs.Bounds.Bytes.{no-bytes, bytes-append, bytes-take, bytes-drop, number-bytes, front-bytes}
+use Rattle.rules.proofs.Bounds.Bytes.{no-bytes, bytes-append, bytes-take, bytes-drop, number-bytes, front-bytes, word-small}
 use Rattle.rules.proofs.Settings.Parts.{isShort}
 
 -- A section behind its length, and what stands behind it: taken apart and written again.
@@ -68,6 +68,17 @@ one-bytes (suc n) rest e = one-bytes n (behindSection rest) (behind-bytes rest e
 pub section-bytes : (n : ℕ) (bytes : List ℕ) → allBytes bytes ≡ true → allBytes (sectionIn n bytes) ≡ true
 unfolding sectionIn
 section-bytes n bytes e = one-bytes (n - 1) (behindForm bytes) (bytes-drop 1 bytes e)
+
+-- a section is as long as two bytes can say
+one-short : (n : ℕ) (rest : List ℕ) → allBytes rest ≡ true → length (sectionBehind n rest) < wordValues
+unfolding sectionBehind frontSection
+one-short zero rest e =
+    let taken = length-take (sectionLength rest) (drop wordBytes rest) in omega (arith, word-small rest e)
+one-short (suc n) rest e = one-short n (behindSection rest) (behind-bytes rest e)
+
+pub section-short : (n : ℕ) (bytes : List ℕ) → allBytes bytes ≡ true → length (sectionIn n bytes) < wordValues
+unfolding sectionIn
+section-short n bytes e = one-short (n - 1) (behindForm bytes) (bytes-drop 1 bytes e)
 
 pub sections-bytes : (ss : List (List ℕ)) → allAre allBytes ss ≡ true → allBytes (joined (map framed ss)) ≡ true
 unfolding joined framed

@@ -1,8 +1,7 @@
-use mathlib.Core.Path.{ap, _∙_}
+use mathlib.Core.Path.{ap, ap₂, _∙_}
 use mathlib.Core.Bool.{_&&_}
 use native.Mathlib.Omega.{arith}
-use lib.Dec.{eqb}
-use Rattle.rules.specs.Settings.{areWhole, soundSwitches, soundPairs, soundSet, soundLargestRead, isSound}
+use Rattle.rules.specs.Settings.{isForm, areWhole, soundSwitches, soundPairs, soundSet, soundLargestRead, isSound}
 use Rattle.settings.proofs.is_sound.Statement.{statement}
 use Rattle.settings.proofs.is_sound.Tie as tie
 
@@ -40,17 +39,18 @@ largest-read-requires : tie.Need-largest-read-requires
 largest-read-requires c κs = tt
 
 returns : tie.Need-returns
-unfolding isSound
+unfolding isForm isSound
 returns c =
     let d = c .before .before .before .before in
     let b = d .before .before .before .before in
+    let form = b .before .before .byte-at .ensures in
     λ i.
-    eqb (b .before .before .byte-at .ensures i) 1 &&
+    isForm (form i) &&
     (b .are-whole .ensures ∙ ap (areWhole 4) (b .before .behind-form .ensures)) i &&
     (d .before .before .switches .ensures ∙ ap soundSwitches (d .before .before .before .section-in .ensures)) i &&
     (d .pairs .ensures ∙ ap (soundPairs 0) (d .before .section-in2 .ensures)) i &&
     (c .before .before .set .ensures ∙ ap soundSet (c .before .before .before .section-in3 .ensures)) i &&
-    (c .largest-read .ensures ∙ ap soundLargestRead (c .before .section-in4 .ensures)) i
+    (c .largest-read .ensures ∙ ap₂ soundLargestRead form (c .before .section-in4 .ensures)) i
 
 pub is-sound-spec : {M : Type 1} → statement M
 is-sound-spec =

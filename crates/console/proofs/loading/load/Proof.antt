@@ -7,7 +7,7 @@ use Rattle.rules.specs.Numbers.{unsoundRecord}
 use Rattle.rules.specs.Calls as rules
 use Rattle.rules.specs.Bounds.{isByteEvent}
 use Rattle.rules.proofs.Choice.{both}
-use Rattle.writing.proofs.Fitting.{bytes-all}
+use Rattle.rules.proofs.Bounds.Bytes.{bytes-all}
 use Rattle.line.proofs.Answers.{refused}
 use Rattle.console.proofs.LoadedLine.{both-sound, load-refused, loaded-answers}
 use Rattle.console.proofs.loading.load.Statement.{statement}

@@ -3,7 +3,7 @@ use native.Mathlib.Omega.{arith}
 use Rattle.rules.specs.Calls as rules
 use Rattle.rules.specs.Calls.{refuses}
 use Rattle.message.specs.Found.{foundIn, foundNumber}
-use Rattle.writing.proofs.Fitting.{bytes-all}
+use Rattle.rules.proofs.Bounds.Bytes.{bytes-all}
 use Rattle.line.specs.View.{view, readingOf}
 use Rattle.line.proofs.HostAccepted.{host-sends}
 use Rattle.line.proofs.Answers.{refused}

@@ -1,7 +1,8 @@
 use mathlib.Core.Path.{sym, ap, _∙_}
 use Rattle.rules.specs.Messages.Codec.{refused}
 use Rattle.message.specs.Found.{foundIn, foundNumber}
-use Rattle.writing.proofs.Writes.{refusal, copy-refused, answers-again}
+use Rattle.areas.proofs.InFront.{refusal}
+use Rattle.writing.proofs.Writes.{copy-refused, answers-again}
 use borrow.Author.Needs.{needs}
 use Rattle.writing.proofs.encoding.copy.Statement.{statement}
 use Rattle.writing.proofs.encoding.copy.Tie as tie

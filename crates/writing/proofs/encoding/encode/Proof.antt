@@ -4,8 +4,9 @@ use Rattle.fields.specs.Spans.{spanOf}
 use Rattle.parameters.specs.Lists.{soundFrom}
 use Rattle.writing.specs.Spans.{listBytes}
 use Rattle.areas.proofs.Putting.{equals, joins}
-use Rattle.writing.proofs.Fitting.{bytes-all}
-use Rattle.writing.proofs.Writes.{refusal, put-in-front, list-whole, whole-bytes, encode-refused, encode-sound, encode-fits, encode-room}
+use Rattle.areas.proofs.InFront.{refusal, put-in-front}
+use Rattle.rules.proofs.Bounds.Bytes.{bytes-all}
+use Rattle.writing.proofs.Writes.{list-whole, whole-bytes, encode-refused, encode-sound, encode-fits, encode-room}
 use Rattle.writing.proofs.encoding.encode.Statement.{statement}
 use Rattle.writing.proofs.encoding.encode.Tie as tie
 

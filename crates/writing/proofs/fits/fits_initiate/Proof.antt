@@ -3,7 +3,7 @@ use mathlib.Core.Path.{sym}
 use Rattle.message.specs.Found.{heldIn}
 use Rattle.writing.specs.Spans.{spansOf}
 use Rattle.writing.proofs.Lengths.{spans-length}
-use Rattle.writing.proofs.Fitting.{bytes-all}
+use Rattle.rules.proofs.Bounds.Bytes.{bytes-all}
 use Rattle.writing.proofs.WholeLists.{initiate-fits}
 use Rattle.writing.proofs.fits.fits_initiate.Statement.{statement}
 use Rattle.writing.proofs.fits.fits_initiate.Tie as tie

@@ -5,7 +5,8 @@ use Rattle.rules.specs.Messages.Layout.{widthsOf, fits}
 use Rattle.rules.specs.Messages.Forms.{forms, formOf}
 use Rattle.rules.specs.Messages.Codec.{definedFields, fitsTail, fitsAs, fitsHeld}
 use Rattle.message.specs.Found.{heldIn}
-use Rattle.writing.proofs.Fitting.{bytes-all, fits-as, held-fits, unread-fits, discard-fits, state-fits, band-fits, completion-fits, count-fits}
+use Rattle.rules.proofs.Bounds.Bytes.{bytes-all}
+use Rattle.writing.proofs.Fitting.{fits-as, held-fits, unread-fits, discard-fits, state-fits, band-fits, completion-fits, count-fits}
 use Rattle.writing.proofs.WholeLists.{question-fits, setting-fits}
 use borrow.Author.Needs.{needs}
 use Rattle.writing.proofs.fits.fits_message.Statement.{statement}
