@@ -68,7 +68,7 @@ fn largest_read_or(section: &[u8], kept: u16) -> u16
     if section.len() == 0 {
         return kept;
     }
-    fields::byte_at(section, 0) as u16
+    fields::word_at(section, 0)
 }
 
 // With what two sound records say.

@@ -1,3 +1,4 @@
 pub mod Digits
 pub mod Areas
 pub mod Played
+pub mod Moved

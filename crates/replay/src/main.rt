@@ -16,6 +16,7 @@ use line::Line;
 
 mod answers;
 mod hex;
+mod moving;
 mod number;
 mod output;
 mod records;
@@ -23,8 +24,8 @@ mod run;
 mod script;
 mod text;
 
-// Room for two settings records. A message that is longer is too long: the front of it is refused all the same.
-const KEPT: usize = 2 * records::ROOM as usize;
+// Room for a message that is one byte too long: of a longer one the front is refused all the same. Two settings records need less.
+const KEPT: usize = rules::MESSAGE_SIZE + 1;
 
 // The longest area.
 const AREA: usize = 65_535;

@@ -5,7 +5,7 @@ use crate::hex::value_of;
 use crate::number::Length;
 
 // Bytes for which there is room: no sound record has so many, so of a longer one it is enough to keep the front.
-pub(crate) const ROOM: u16 = 601;
+const ROOM: u16 = rules::MOVING_AREA as u16 + 1;
 
 const DIGITS_A_BYTE: u32 = 2;
 
@@ -18,7 +18,7 @@ pub struct Record {
     // of its digits
     count: u32,
     dash: bool,
-    // what the line asks: L, or the digit of a section
+    // what the line asks: L, or the digit of a section or form
     pub asked: u8,
 }
 

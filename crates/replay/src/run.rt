@@ -108,6 +108,16 @@ impl Run {
         self.telling(Told::Section(value_of(r.asked), own, site))
     }
 
+    // A settings record is to be moved.
+    fn moving(self, r: Record) -> Run
+        ensures { λ r. ⌜ r .turns ≡ self .turns ⌝ }
+    {
+        match r.length() {
+            Length::Of(count) => self.telling(Told::Moved(value_of(r.asked), count)),
+            Length::None => self.telling(Told::Unknown),
+        }
+    }
+
     // With what the script says next.
     fn ordered(mut self, script: Script) -> Run
         ensures { λ r. ⌜ r .turns ≡ self .turns ⌝ }
@@ -128,6 +138,7 @@ impl Run {
             }
             Order::Read(count) => self.telling(Told::Copy(count)),
             Order::Settings(own, r) => self.settings(own, r),
+            Order::Move(r) => self.moving(r),
             Order::Unknown => self.telling(Told::Unknown),
             Order::More => self.telling(Told::Nothing),
         }
