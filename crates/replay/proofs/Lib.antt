@@ -1,3 +1,3 @@
 -- Laws of what was played, and of what was moved.
 mod Playing
-mod Moving
+mod Moved

@@ -77,7 +77,10 @@ pub input-size : inputSize ≡ inputNumeral
 unfolding inputSize
 input-size = refl
 
-pub message-size : messageSize ≡ 2048
+abbrev pub messageNumeral : ℕ
+messageNumeral = 2048
+
+pub message-size : messageSize ≡ messageNumeral
 unfolding messageSize
 message-size = refl
 

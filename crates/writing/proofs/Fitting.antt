@@ -1,13 +1,13 @@
 -- Whether a message fits: from what the code tests to what the definition does.
 use mathlib.Core.Path.{_≡_, refl, sym, ap, ap₂, subst, _∙_}
-use Prim.Native.Nat.{ℕ, zero, suc, _<_}
+use Prim.Native.Nat.{ℕ, _<_}
 use mathlib.Core.Bool.{Bool, true, false, _&&_, and-assoc, and-true}
 use mathlib.Core.List.{List, [], _∷_}
 use lib.Dec.{leb, ltb}
 use lib.ListN.{length}
 use borrow.Author.Tests.{lt-ltb}
-use Rattle.rules.specs.Choice.{pick, isEmpty, allAre}
-use Rattle.rules.specs.Messages.Layout.{byteAt, widthsOf, fits}
+use Rattle.rules.specs.Choice.{pick, isEmpty}
+use Rattle.rules.specs.Messages.Layout.{widthsOf, fits}
 use Rattle.rules.specs.Messages.Forms.{forms, formOf}
 use Rattle.rules.specs.Messages.Codec.{allBytes, definedFields, fitsTail, fitsAs, fitsHeld}
 use Rattle.rules.specs.Numbers.{inputSize}

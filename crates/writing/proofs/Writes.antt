@@ -6,12 +6,10 @@ use native.Mathlib.Omega.{arith}
 use mathlib.Core.Bool.{Bool, true, false, not, _&&_, false≢true}
 use mathlib.Core.List.{List, [], _∷_, _++_, map, zipWith, append-nil}
 use lib.Dec.{leb, ltb, eqb}
-use lib.ListN.{length, take, drop, replicate}
-use lib.Seq.{take-append-seam}
+use lib.ListN.{length, take, replicate}
 use borrow.Author.Tests.{ltb-true, ltb-false, leb-true, eqb-true}
 use Rattle.rules.specs.Choice.{pick, Row, firstOf, isEmpty, allAre, joined}
 use Rattle.rules.specs.Numbers.{messageSize, messageArea, accepted, smallArea, wrongLength, wrongType, unsound}
-use Rattle.rules.specs.Calls.{areaAfter}
 use Rattle.rules.specs.Messages.Layout.{widthsOf, fits, writeGroups}
 use Rattle.rules.specs.Messages.Parameters.{Shape, initiation, question, questionLimits, limitsOf, cleaned, cut}
 use Rattle.rules.specs.Messages.Parameters as parameters
@@ -19,9 +17,8 @@ use Rattle.rules.specs.Messages.Forms as forms
 use Rattle.rules.specs.Messages.Forms.{formOf, text, setAndText, list}
 use Rattle.rules.specs.Messages.Codec.{Outcome, refused, sound, Held, message, other, allBytes, definedKind, definedFields, fitsTail, fitsAs, fitsHeld}
 use Rattle.rules.specs.Messages.Codec.{tailBytes, bytesAs, heldBytes, kindOf, read, writeRefusals, written}
-use Rattle.rules.proofs.Choice.{halves, thirds, quarters, pick-true, pick-false, pick-case, all-cons, all-joined}
+use Rattle.rules.proofs.Choice.{halves, thirds, quarters, pick-false, pick-case, all-cons, all-joined}
 use Rattle.rules.proofs.Numbers.{longest-room}
-use Rattle.rules.proofs.Area.{puts-front}
 use Rattle.rules.proofs.Outcomes.{refused-sound, sound-same}
 use Rattle.rules.proofs.RoundTrip.{round-trip}
 use Rattle.rules.proofs.Parameters.{joined-cut}

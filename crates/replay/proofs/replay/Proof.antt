@@ -1,10 +1,11 @@
-use Prim.Native.Nat.{ℕ, _-_, _<_}
+use Prim.Native.Nat.{ℕ, _+_, _-_, _<_}
 use mathlib.Core.Path.{_≡_, refl, _∙_}
 use mathlib.Core.List.{List}
 use lib.ListN.{length}
 use native.Mathlib.Omega.{arith}
 use borrow.Author.Needs.{needs}
 use borrow.Rule.Slice.PartMut.{midOf, putMid, same-len-mid}
+use Rattle.rules.proofs.Numbers.{messageNumeral}
 use Rattle.line.specs.declared.Line.{Line}
 use Rattle.line.specs.Bounded.{Bounded}
 use Rattle.replay.specs.Played.{Played}
@@ -12,9 +13,9 @@ use Rattle.replay.proofs.Playing.{played-fresh, played-bounded, played-
 use Rattle.replay.proofs.replay.Statement.{statement}
 use Rattle.replay.proofs.replay.Tie as tie
 
--- two records
+-- a message that is one byte too long
 abbrev keptSize : ℕ
-keptSize = 1202
+keptSize = messageNumeral + 1
 
 abbrev Inv-loop : tie.InvT-loop
 Inv-loop input₀ terminal₀ messages₀ buffer₀ kept₀ line₀ run₀ input terminal messages buffer kept line run =

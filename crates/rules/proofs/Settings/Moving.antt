@@ -9,10 +9,10 @@ use mathlib.Core.Option.{some}
 use lib.Dec.{leb, ltb, eqb}
 use lib.ListN.{length, length-append}
 use borrow.Author.Tests.{leb-true, ltb-true, ltb-false, lt-ltb, le-ltb, eqb-true, eq-eqb, not-false}
-use Rattle.rules.specs.Choice.{pick, Row, firstOf, isEmpty, joined}
+use Rattle.rules.specs.Choice.{pick, firstOf, isEmpty, joined}
 use Rattle.rules.specs.Numbers.{codeCount, movingArea, smallArea, unsoundRecord, tooLarge}
 use Rattle.rules.specs.Messages.Layout.{wordBytes, byteValues, numberOf, framed}
-use Rattle.rules.specs.Messages.Codec.{Outcome, refused, sound, allBytes}
+use Rattle.rules.specs.Messages.Codec.{refused, sound, allBytes}
 use Rattle.rules.specs.Settings.{formIn, form1, form2, isForm, characteristicsSection, attributesSection, setSection, largestReadSection, sectionIn, topLargestRead, largestReadIn, isSound}
 use Rattle.rules.specs.Settings.{soundPairs, isListed, meaningOf, unlessEmpty, recordOf, Sayable, IsRecordOf}
 use Rattle.rules.specs.Settings.Moving.{otherForm, isMovable, largestReadOf, largestReadAs, movedSections, moved, moveRefusals, move}

@@ -4,7 +4,6 @@ use native.Mathlib.Omega.{arith}
 use Rattle.rules.specs.Choice.{joined}
 use Rattle.rules.specs.Settings.Moving.{movedSections, moved}
 use Rattle.areas.proofs.Putting.{equals, joins}
-use borrow.Author.Needs.{needs}
 use Rattle.settings.proofs.moving.put_moved.Statement.{statement}
 use Rattle.settings.proofs.moving.put_moved.Tie as tie
 
