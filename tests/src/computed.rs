@@ -21,7 +21,7 @@ use Prim.Native.Nat.{ℕ}
 use mathlib.Core.Path.{_≡_, refl}
 use mathlib.Core.List.{List, [], _∷_}
 use Rattle.rules.specs.Calls.{key, step, tick, message, load}
-use Rattle.rules.specs.Bench.{Case, runs, copies, asks, failures, asked}
+use Rattle.rules.specs.Bench.{Case, runs, copies, asks, moves, failures, asked}
 use Rattle.rules.specs.Whole.{whole}
 
 ";
@@ -72,6 +72,11 @@ impl Rows {
                 let (own, site) = (list(&records.own), list(&records.site));
                 let section = list(&hex(&answer[0]));
                 self.case(&format!("asks {number} {own} {site} {section}"));
+            }
+            Order::Move(form, record) => {
+                let (form, number) = (form.byte(), &answer[0]);
+                let moved = list(&hex(answer.get(1).map_or("-", String::as_str)));
+                self.case(&format!("moves {form} {} {number} {moved}", list(record)));
             }
             Order::Load(_) => {
                 // A load is lent no areas, and writes nothing.

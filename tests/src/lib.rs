@@ -8,6 +8,7 @@ pub mod coverage;
 pub mod generator;
 pub mod line;
 pub mod message;
+pub mod moving;
 pub mod replay;
 pub mod screen;
 pub mod script;

@@ -3,7 +3,8 @@
 use crate::coverage::Coverage;
 use crate::line::{Answer, Areas, Line};
 use crate::message;
-use crate::settings;
+use crate::moving;
+use crate::settings::{self, Form};
 use std::fmt;
 
 /// A message kept by a runner is never longer: one byte over tells enough.
@@ -25,6 +26,8 @@ pub enum Order {
     Load(Records),
     /// A section's number, which is one digit.
     Ask(u8, Records),
+    /// To this form.
+    Move(Form, Vec<u8>),
 }
 
 /// The line's own settings record and the site's.
@@ -62,6 +65,10 @@ impl fmt::Display for Order {
             Order::Dropped => to.write_str("D"),
             Order::Load(records) => write!(to, "L {records}"),
             Order::Ask(number, records) => write!(to, "G {number} {records}"),
+            Order::Move(form, record) => {
+                write!(to, "V {} ", form.byte())?;
+                write_record(record, to)
+            }
         }
     }
 }
@@ -94,6 +101,9 @@ pub fn parse(text: &[u8]) -> Option<Order> {
         (b'L', Some(words)) => Some(Order::Load(records(words)?)),
         (b'G', Some([digit @ b'0'..=b'9', b' ', words @ ..])) => {
             Some(Order::Ask(digit - b'0', records(words)?))
+        }
+        (b'V', Some([digit @ b'0'..=b'9', b' ', word @ ..])) => {
+            Some(Order::Move(Form::of(digit - b'0')?, record(word)?))
         }
         _ => None,
     }
@@ -167,6 +177,8 @@ pub enum Reply {
     Loaded(u8),
     /// A section of a settings record.
     Section(Vec<u8>),
+    /// A record of the other form, or the refusal.
+    Moved(Result<Vec<u8>, u8>),
     Nothing,
 }
 
@@ -180,13 +192,13 @@ impl Reply {
                 to.push(b' ');
                 put_hex(&answer.message_area(), to);
             }
-            Reply::Copy(Ok(bytes)) => {
+            Reply::Copy(Ok(bytes)) | Reply::Moved(Ok(bytes)) => {
                 to.extend(b"0 ");
                 put_hex(bytes, to);
             }
             Reply::Copy(Err(number)) => to.extend([b'0' + number, b' ', b'-']),
             Reply::Dropped(count) => to.extend(count.to_string().bytes()),
-            Reply::Loaded(number) => to.push(b'0' + number),
+            Reply::Loaded(number) | Reply::Moved(Err(number)) => to.push(b'0' + number),
             Reply::Section(bytes) => put_hex(bytes, to),
             Reply::Nothing => return,
         }
@@ -231,7 +243,18 @@ impl Runner {
             Order::Dropped => Reply::Dropped(self.line.dropped()),
             Order::Load(records) => Reply::Loaded(self.line.load(&records.own, &records.site)),
             Order::Ask(number, records) => Reply::Section(self.ask(*number, records)),
+            Order::Move(form, record) => Reply::Moved(self.moved(*form, record)),
         }
+    }
+
+    fn moved(&mut self, form: Form, record: &[u8]) -> Result<Vec<u8>, u8> {
+        let moved = match form {
+            Form::One => moving::to_form_1(record, moving::AREA),
+            Form::Two => moving::to_form_2(record, moving::AREA),
+        };
+        let number = *moved.as_ref().err().unwrap_or(&0);
+        self.seen.settings.moved(form, record, number);
+        moved
     }
 
     fn ask(&mut self, number: u8, records: &Records) -> Vec<u8> {

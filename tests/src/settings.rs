@@ -1,14 +1,55 @@
-//! Settings records of form 1 (M-100): what makes one sound, and its sections.
+//! Settings records of forms 1 (M-100) and 2 (M-107): what makes one sound, and
+//! its sections.
 
-use crate::message::{AUTO_PROMPT, BUFFER, INPUT_ESCAPES, NORMAL_ECHO, RAISE_INPUT};
+use crate::message::{AUTO_PROMPT, INPUT_ESCAPES, NORMAL_ECHO, RAISE_INPUT};
 
 /// Given when a record is not sound.
 pub const UNSOUND: u8 = 7;
 /// No sound record is so long.
 pub const LONG: usize = 600;
 
-/// The first byte of the form.
-const FORM: u8 = 1;
+/// The form of a record is its first byte.
+#[derive(Clone, Copy, Debug, PartialEq, Eq)]
+pub enum Form {
+    One = 1,
+    Two = 2,
+}
+
+pub const FORMS: [Form; 2] = [Form::One, Form::Two];
+
+impl Form {
+    pub fn of(byte: u8) -> Option<Form> {
+        FORMS.into_iter().find(|form| form.byte() == byte)
+    }
+
+    pub fn byte(self) -> u8 {
+        self as u8
+    }
+
+    /// The top of a largest read. It is the form's own number and does not grow
+    /// with the input buffer: one meaning keeps its record.
+    pub const fn top(self) -> u16 {
+        match self {
+            Form::One => 132,
+            Form::Two => 1_024,
+        }
+    }
+
+    /// The section that says this largest read, low byte first. In form 1 only
+    /// the low byte is there, and it is all there is to a number up to its top.
+    pub fn largest_read(self, number: u16) -> Vec<u8> {
+        number.to_le_bytes()[..self.width()].to_vec()
+    }
+
+    /// How many bytes a largest read has.
+    fn width(self) -> usize {
+        match self {
+            Form::One => 1,
+            Form::Two => 2,
+        }
+    }
+}
+
 /// A termination set of all 256 codes.
 const LONGEST_SET: usize = 32;
 /// An attribute has seven used bits; the lowest two are the out-of-band field.
@@ -40,16 +81,19 @@ macro_rules! flaws {
 }
 
 flaws! {
-    Empty, Form, CutInLength, CutInSection, LeftOver,
+    // Before a form is known.
+    Empty, Form,
+    CutInLength, CutInSection, LeftOver,
     SwitchesNotFour, SelectorLow, SelectorHigh, SwitchValue,
     HalfAttribute, CodeAgain, CodeDescends, ValueZero, ValueHigh, DeferredClear,
     SetLong, SetEndsInZero,
-    LargestNotOneByte, LargestOver,
+    LargestWidth, LargestOver,
 }
 
-/// The sections of a sound record, as parts of it.
+/// A sound record: its form, and its sections as parts of it.
 #[derive(Clone, Copy, Debug, PartialEq, Eq)]
 pub struct Record<'a> {
+    pub form: Form,
     pub sections: [&'a [u8]; SECTIONS],
 }
 
@@ -60,21 +104,19 @@ pub enum Source {
     Site,
 }
 
-/// Reads a record, if it is sound.
+/// Reads a record of either form, if it is sound.
 pub fn read(bytes: &[u8]) -> Result<Record<'_>, Flaw> {
     let record = split(bytes)?;
     judge_switches(record.sections[CHARACTERISTICS])?;
     judge_attributes(record.sections[ATTRIBUTES])?;
     judge_set(record.sections[SET])?;
-    judge_largest(record.sections[LARGEST_READ])?;
+    judge_largest(record.form, record.sections[LARGEST_READ])?;
     Ok(record)
 }
 
 fn split(bytes: &[u8]) -> Result<Record<'_>, Flaw> {
     let (&form, mut rest) = bytes.split_first().ok_or(Flaw::Empty)?;
-    if form != FORM {
-        return Err(Flaw::Form);
-    }
+    let form = Form::of(form).ok_or(Flaw::Form)?;
     let mut sections = [&rest[..0]; SECTIONS];
     for section in &mut sections {
         // Low byte first.
@@ -83,7 +125,7 @@ fn split(bytes: &[u8]) -> Result<Record<'_>, Flaw> {
         (*section, rest) = behind.split_at_checked(length).ok_or(Flaw::CutInSection)?;
     }
     if rest.is_empty() {
-        Ok(Record { sections })
+        Ok(Record { form, sections })
     } else {
         Err(Flaw::LeftOver)
     }
@@ -150,12 +192,26 @@ fn judge_set(section: &[u8]) -> Result<(), Flaw> {
     Ok(())
 }
 
-fn judge_largest(section: &[u8]) -> Result<(), Flaw> {
-    match section {
-        [] => Ok(()),
-        [largest] if u16::from(*largest) > BUFFER => Err(Flaw::LargestOver),
-        [_] => Ok(()),
-        _ => Err(Flaw::LargestNotOneByte),
+fn judge_largest(form: Form, section: &[u8]) -> Result<(), Flaw> {
+    match largest_read(section) {
+        None if section.is_empty() => Ok(()),
+        Some(number) if section.len() == form.width() => {
+            if number > form.top() {
+                return Err(Flaw::LargestOver);
+            }
+            Ok(())
+        }
+        _ => Err(Flaw::LargestWidth),
+    }
+}
+
+/// The number that a section of one byte or two says, low byte first: how many
+/// there are tells the form of the record that it comes from.
+pub fn largest_read(section: &[u8]) -> Option<u16> {
+    match *section {
+        [low] => Some(u16::from(low)),
+        [low, high] => Some(u16::from_le_bytes([low, high])),
+        _ => None,
     }
 }
 
@@ -174,4 +230,14 @@ pub fn section<'a>(number: u8, own: &'a [u8], site: &'a [u8]) -> &'a [u8] {
         (Ok(own), Ok(site), 1..=4) => find(usize::from(number) - 1, &own, &site).0,
         _ => &[],
     }
+}
+
+/// The record of a form with these sections, each behind its length.
+pub fn laid_out<S: AsRef<[u8]>>(form: Form, sections: &[S; SECTIONS]) -> Vec<u8> {
+    let mut bytes = vec![form.byte()];
+    for section in sections {
+        bytes.extend((section.as_ref().len() as u16).to_le_bytes());
+        bytes.extend(section.as_ref());
+    }
+    bytes
 }

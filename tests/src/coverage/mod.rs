@@ -1,11 +1,13 @@
 //! What occurred while scripts ran: how often each completion code, refusal
 //! number, message type and rule of page 01 and the requests was met.
 
+pub mod settings;
 pub mod steps;
 pub mod tokens;
 pub mod writes;
 
-use crate::settings::{self, Flaw, Source, FLAWS, SECTIONS};
+use crate::settings::{find, read, Source, SECTIONS};
+use settings::Settings;
 use std::fmt;
 use steps::Steps;
 use tokens::Tokens;
@@ -82,19 +84,6 @@ rules! {
     SelectorOutside, DeferredClear, AnswerLong, LargestReadPassed, LargestReadBeforeNotCarried,
 }
 
-/// When a load came.
-#[derive(Clone, Copy, Debug, PartialEq, Eq)]
-pub enum Moment {
-    BeforeInitiate,
-    NoRead,
-    MidRead,
-}
-
-pub const MOMENTS: [Moment; 3] = [Moment::BeforeInitiate, Moment::NoRead, Moment::MidRead];
-const SOURCES: [Source; 2] = [Source::Own, Source::Site];
-/// Section numbers that a script can ask for: one digit.
-const DIGITS: usize = 10;
-
 /// The counts of one line, or of many runs added up.
 #[derive(Clone, Debug, PartialEq, Eq)]
 pub struct Coverage {
@@ -111,12 +100,7 @@ pub struct Coverage {
     /// Refusals of reading without a line.
     pub read_numbers: [u64; 7],
     pub rules: [u64; RULES.len()],
-    /// Sections that loads found, by place, moment and source.
-    loaded: [[[u64; 2]; 3]; SECTIONS],
-    /// First flaws of own records and of site records in refused loads.
-    flaws: [[u64; FLAWS.len()]; 2],
-    /// How often each section number was asked for.
-    pub asked: [u64; DIGITS],
+    pub settings: Settings,
     pub steps: Steps,
     pub tokens: Tokens,
     pub writes: Writes,
@@ -133,9 +117,7 @@ impl Default for Coverage {
             received_locked: [0; 15],
             read_numbers: [0; 7],
             rules: [0; RULES.len()],
-            loaded: Default::default(),
-            flaws: [[0; FLAWS.len()]; 2],
-            asked: [0; DIGITS],
+            settings: Settings::default(),
             steps: Steps::default(),
             tokens: Tokens::default(),
             writes: Writes::default(),
@@ -160,18 +142,10 @@ impl Coverage {
         self.steps.met_if(holds, rule);
     }
 
-    pub fn loaded(&mut self, place: usize, moment: Moment, source: Source) {
-        self.loaded[place][moment as usize][source as usize] += 1;
-    }
-
-    pub fn flaw(&mut self, source: Source, flaw: Flaw) {
-        self.flaws[source as usize][flaw as usize] += 1;
-    }
-
     /// A section is asked for.
     pub fn ask(&mut self, number: u8, own: &[u8], site: &[u8]) {
-        self.asked[usize::from(number)] += 1;
-        let (own, site) = match (settings::read(own), settings::read(site)) {
+        self.settings.asked(number);
+        let (own, site) = match (read(own), read(site)) {
             (Ok(own), Ok(site)) => (own, site),
             (own, site) => {
                 self.met_if(site.is_ok(), Rule::AskedOwnUnsound);
@@ -182,7 +156,8 @@ impl Coverage {
         else {
             return self.met(Rule::AskedOutside);
         };
-        self.met(match settings::find(place, &own, &site) {
+        self.settings.asked_pair(&own, &site);
+        self.met(match find(place, &own, &site) {
             ([], _) => Rule::AskedEmpty,
             (_, Source::Own) => Rule::AskedOwn,
             (_, Source::Site) => Rule::AskedSite,
@@ -199,23 +174,18 @@ impl Coverage {
         let pairs = pairs.chain(self.read.iter_mut().zip(&other.read));
         let pairs = pairs.chain(self.received_locked.iter_mut().zip(&other.received_locked));
         let pairs = pairs.chain(self.read_numbers.iter_mut().zip(&other.read_numbers));
-        let pairs = pairs.chain(self.asked.iter_mut().zip(&other.asked));
-        let flaws = other.flaws.as_flattened();
-        let pairs = pairs.chain(self.flaws.as_flattened_mut().iter_mut().zip(flaws));
-        let loaded = other.loaded.as_flattened().as_flattened();
-        let mine = self.loaded.as_flattened_mut().as_flattened_mut();
-        let pairs = pairs.chain(mine.iter_mut().zip(loaded));
         for (mine, more) in pairs.chain(self.rules.iter_mut().zip(&other.rules)) {
             *mine += more;
         }
+        self.settings.add(&other.settings);
         self.steps.add(&other.steps);
         self.tokens.add(&other.tokens);
         self.writes.add(&other.writes);
     }
 
-    /// Calls on a line, messages read and sections asked for without one.
+    /// Calls on a line, and what was read, asked for and moved without one.
     pub fn calls(&self) -> u64 {
-        self.numbers.iter().chain(&self.read_numbers).chain(&self.asked).sum()
+        self.numbers.iter().chain(&self.read_numbers).sum::<u64>() + self.settings.calls()
     }
 
     /// Each thing that can be reached, with its count. What occurred to tokens
@@ -231,24 +201,10 @@ impl Coverage {
         table.extend((1..15).map(|kind| (format!("read type {kind}"), self.read[kind])));
         table.extend([0, 2, 3, 5].map(|no| (format!("reading {no}"), self.read_numbers[no])));
         table.extend(RULES.iter().map(|rule| (format!("{rule:?}"), self.rules[*rule as usize])));
-        self.settings_table(&mut table);
+        table.extend(self.settings.table());
         table.extend(self.steps.table());
         table.extend(self.writes.table());
         table
-    }
-
-    fn settings_table(&self, table: &mut Vec<(String, u64)>) {
-        for source in SOURCES {
-            for moment in MOMENTS {
-                let counts = self.loaded.map(|counts| counts[moment as usize][source as usize]);
-                let name = |place| format!("loaded {} {source:?} {moment:?}", place + 1);
-                table.extend(counts.into_iter().enumerate().map(|(place, n)| (name(place), n)));
-            }
-            let count = |flaw: Flaw| self.flaws[source as usize][flaw as usize];
-            let name = |flaw: Flaw| format!("unsound {source:?} {flaw:?}");
-            table.extend(FLAWS.iter().map(|flaw| (name(*flaw), count(*flaw))));
-        }
-        table.extend((0..DIGITS).map(|no| (format!("asked {no}"), self.asked[no])));
     }
 
     /// The names of things in the table that were not reached.

@@ -14,7 +14,7 @@ mod writes;
 
 use crate::line::Line;
 use crate::message::{Message, StartRead};
-use crate::script::{Order, Runner};
+use crate::script::{Order, Reply, Runner};
 use random::Random;
 use std::fmt::Write as _;
 
@@ -51,11 +51,15 @@ impl Generator {
     }
 
     /// Writes an order down and lets the line follow it.
-    fn order(&mut self, order: Order) {
+    fn obeyed(&mut self, order: Order) -> Reply {
         let counts = !matches!(order, Order::Lengths(_) | Order::Fresh | Order::Dropped);
         self.calls += usize::from(counts);
-        self.runner.obey(&order);
         let _ = writeln!(self.text, "{order}");
+        self.runner.obey(&order)
+    }
+
+    fn order(&mut self, order: Order) {
+        self.obeyed(order);
     }
 
     fn line(&self) -> &Line {

@@ -2,39 +2,37 @@
 
 use super::random::Random;
 use super::{messages, typing};
+use crate::coverage::settings::WATCHED;
 use crate::settings::{
-    ATTRIBUTE, ATTRIBUTES, CHARACTERISTICS, LARGEST_READ, LONG, SECTIONS, SET, SWITCH, SWITCHES,
+    laid_out, Form, ATTRIBUTE, ATTRIBUTES, CHARACTERISTICS, FORMS, LARGEST_READ, LONG, SECTIONS,
+    SET, SWITCH, SWITCHES,
 };
 
 /// What stands in the sections of a record, sound or not.
 pub type Sections = [Vec<u8>; SECTIONS];
 
-/// The record with these sections, each behind its length.
-pub fn laid_out(sections: &Sections) -> Vec<u8> {
-    let mut bytes = vec![1];
-    for section in sections {
-        bytes.extend((section.len() as u16).to_le_bytes());
-        bytes.extend(section);
-    }
-    bytes
-}
+/// Of a hundred largest reads so many are all that the form has room for, so
+/// that reads go on.
+const ROOMY: usize = 60;
 
 /// A sound record with this section alone.
-pub fn only(place: usize, section: Vec<u8>) -> Vec<u8> {
+pub fn only(form: Form, place: usize, section: Vec<u8>) -> Vec<u8> {
     let mut sections = Sections::default();
     sections[place] = section;
-    laid_out(&sections)
+    laid_out(form, &sections)
 }
 
-/// A sound record with all, some or none of its sections.
+/// A sound record of either form with all, some or none of its sections.
 pub fn sound(random: &mut Random) -> Vec<u8> {
+    let form = random.pick(&FORMS);
     let often = random.pick(&[0, 30, 60, 60, 100]);
-    laid_out(&sections(often, random))
+    laid_out(form, &sections(form, often, random))
 }
 
 /// Sound sections; each is there this often in a hundred.
-fn sections(often: usize, random: &mut Random) -> Sections {
-    let all = [switches(random), attributes(random), set(random), vec![largest(random)]];
+fn sections(form: Form, often: usize, random: &mut Random) -> Sections {
+    let largest = form.largest_read(largest(form, random));
+    let all = [switches(random), attributes(random), set(random), largest];
     all.map(|section| if random.chance(often) { section } else { Vec::new() })
 }
 
@@ -73,24 +71,30 @@ pub fn set(random: &mut Random) -> Vec<u8> {
     set
 }
 
-/// Mostly all the room there is, so that reads go on.
-fn largest(random: &mut Random) -> u8 {
-    random.pick(&[0, 1, 2, 20, 80, 131, 132, 132, 132, 132, 132, 132, 132, 132])
+/// A number that the form has room for.
+pub fn largest(form: Form, random: &mut Random) -> u16 {
+    let number = if random.chance(50) { random.pick(&WATCHED) } else { random.pick(&[1, 20, 80]) };
+    if random.chance(ROOMY) {
+        form.top()
+    } else {
+        number.min(form.top())
+    }
 }
 
-/// A record with one thing wrong, beside sections that are sound.
+/// A record of either form with one thing wrong, beside sections that are sound.
 pub fn damaged(random: &mut Random) -> Vec<u8> {
-    let mut sections = sections(60, random);
+    let form = random.pick(&FORMS);
+    let mut sections = sections(form, 60, random);
     match random.below(8) {
         0 => sections[CHARACTERISTICS] = damaged_switches(random),
         1 | 2 => sections[ATTRIBUTES] = damaged_attributes(random),
         3 => sections[SET] = damaged_set(random),
-        4 => sections[LARGEST_READ] = damaged_largest(random),
+        4 => sections[LARGEST_READ] = damaged_largest(form, random),
         5 => sections.swap(random.below(SECTIONS), random.below(SECTIONS)),
-        6 => return damaged_frame(laid_out(&sections), random),
-        _ => return damaged_length(&sections, random),
+        6 => return damaged_frame(laid_out(form, &sections), random),
+        _ => return damaged_length(laid_out(form, &sections), &sections, random),
     }
-    laid_out(&sections)
+    laid_out(form, &sections)
 }
 
 fn damaged_switches(random: &mut Random) -> Vec<u8> {
@@ -148,18 +152,24 @@ fn damaged_set(random: &mut Random) -> Vec<u8> {
     section
 }
 
-fn damaged_largest(random: &mut Random) -> Vec<u8> {
-    match random.below(3) {
-        0 => vec![133],
-        1 => vec![random.between(133, 255) as u8],
-        // As a number of two bytes it would be sound.
-        _ => vec![largest(random), 0],
+fn damaged_largest(form: Form, random: &mut Random) -> Vec<u8> {
+    let number = largest(form, random);
+    let over = form.top() + 1;
+    match (random.below(4), form) {
+        (0, _) => form.largest_read(over),
+        (1, Form::One) => vec![random.between(usize::from(over), usize::from(u8::MAX)) as u8],
+        (1, Form::Two) => form.largest_read(random.next() as u16 | over),
+        // Sound in the other form, if it is not over there.
+        (2, Form::One) => Form::Two.largest_read(number),
+        (2, Form::Two) => Form::One.largest_read(number),
+        // High byte first, which makes another number of most.
+        (_, Form::Two) => number.to_be_bytes().to_vec(),
+        (_, Form::One) => vec![0; random.between(2, 4)],
     }
 }
 
 /// One bit of a length, or its two bytes changed about.
-fn damaged_length(sections: &Sections, random: &mut Random) -> Vec<u8> {
-    let mut bytes = laid_out(sections);
+fn damaged_length(mut bytes: Vec<u8>, sections: &Sections, random: &mut Random) -> Vec<u8> {
     let place = random.below(SECTIONS);
     let low = 1 + sections[..place].iter().map(|section| section.len() + 2).sum::<usize>();
     match random.below(4) {
@@ -174,7 +184,7 @@ fn damaged_length(sections: &Sections, random: &mut Random) -> Vec<u8> {
 fn damaged_frame(mut bytes: Vec<u8>, random: &mut Random) -> Vec<u8> {
     let place = random.below(bytes.len());
     match random.below(9) {
-        0 => bytes[0] = random.pick(&[0, 2, 3, 129, 255]),
+        0 => bytes[0] = random.pick(&[0, 1, 2, 3, 129, 255]),
         1 => bytes.push(random.pick(&[0, 1, 255])),
         2 => bytes.extend([0, 0]),
         3 => bytes.truncate(place),

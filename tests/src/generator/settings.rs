@@ -3,9 +3,9 @@
 
 use super::random::Random;
 use super::{messages, records, typing, Generator};
-use crate::message::Message;
-use crate::script::{Order, Records};
-use crate::settings::{ATTRIBUTES, CHARACTERISTICS, LARGEST_READ, SET};
+use crate::message::{Message, BUFFER};
+use crate::script::{Order, Records, Reply};
+use crate::settings::{Form, ATTRIBUTES, CHARACTERISTICS, FORMS, LARGEST_READ, SET};
 
 /// Two records of any kind.
 fn any_pair(random: &mut Random) -> Records {
@@ -25,7 +25,7 @@ fn sound_pair(random: &mut Random) -> Records {
     Records { own: records::sound(random), site: records::sound(random) }
 }
 
-/// A script of loads and asks alone, most of them of damaged records.
+/// A script of loads, asks and moves alone, most of them of damaged records.
 pub fn settings_script(seed: u64, calls: usize) -> String {
     let mut generator = Generator::new(seed);
     generator.beginning();
@@ -34,6 +34,7 @@ pub fn settings_script(seed: u64, calls: usize) -> String {
             0 => generator.fresh(),
             1 => generator.asks(),
             2 | 3 => generator.probe(),
+            4..=8 => generator.moves(),
             _ => generator.refused(),
         }
     }
@@ -42,7 +43,7 @@ pub fn settings_script(seed: u64, calls: usize) -> String {
 
 impl Generator {
     pub(super) fn settings(&mut self) {
-        match self.random.below(10) {
+        match self.random.below(12) {
             0 | 1 => self.loads(),
             2 => self.asks(),
             3 | 4 => self.largest_read(),
@@ -50,11 +51,12 @@ impl Generator {
             6 => self.loaded_attributes(),
             7 => self.loaded_switches(),
             8 => self.load_in_mid_read(),
+            9 | 10 => self.moves(),
             _ => self.refused_load(),
         }
         // A small largest read would leave little to see in what follows.
         if self.random.chance(70) {
-            self.load_section(LARGEST_READ, vec![132]);
+            self.load_section(Form::Two, LARGEST_READ, Form::Two.largest_read(BUFFER));
         }
     }
 
@@ -84,15 +86,36 @@ impl Generator {
     }
 
     /// Loads this section; the other record is empty, or has sections too.
-    fn load_section(&mut self, place: usize, section: Vec<u8>) {
-        let with = records::only(place, section);
-        let without = records::only(place, Vec::new());
+    fn load_section(&mut self, form: Form, place: usize, section: Vec<u8>) {
+        let with = records::only(form, place, section);
+        let without = records::only(self.random.pick(&FORMS), place, Vec::new());
         let records = match self.random.below(3) {
             0 => Records { own: without, site: with },
             1 => Records { own: with, site: records::sound(&mut self.random) },
             _ => Records { own: with, site: without },
         };
         self.order(Order::Load(records));
+    }
+
+    /// Both forms have this section alike.
+    fn load_in_either(&mut self, place: usize, section: Vec<u8>) {
+        let form = self.random.pick(&FORMS);
+        self.load_section(form, place, section);
+    }
+
+    /// A record of any kind is moved, and if that is done, mostly back again; at
+    /// times both are loaded.
+    fn moves(&mut self) {
+        let damaged = self.random.chance(50);
+        let make = if damaged { records::damaged } else { records::sound };
+        let record = make(&mut self.random);
+        let to = self.random.pick(&FORMS);
+        let Reply::Moved(Ok(moved)) = self.obeyed(Order::Move(to, record.clone())) else { return };
+        match self.random.below(4) {
+            0 => self.order(Order::Load(Records { own: moved, site: record })),
+            1 => self.order(Order::Load(Records { own: record, site: moved })),
+            _ => FORMS.iter().for_each(|form| self.order(Order::Move(*form, moved.clone()))),
+        }
     }
 
     /// One number, or all of them, for the same records.
@@ -113,9 +136,9 @@ impl Generator {
 
     /// Reads just at the loaded number and above it, some with a cause for 6.
     fn largest_read(&mut self) {
-        let largest: u8 = self.random.pick(&[0, 1, 5, 20, 79, 80, 130, 131, 132]);
-        self.load_section(LARGEST_READ, vec![largest]);
-        let largest = u16::from(largest);
+        let form = self.random.pick(&FORMS);
+        let largest = records::largest(form, &mut self.random);
+        self.load_section(form, LARGEST_READ, form.largest_read(largest));
         for _ in 0..self.random.between(1, 4) {
             self.make_way();
             let mut read = messages::start_read(&mut self.random);
@@ -139,7 +162,7 @@ impl Generator {
     /// A loaded set ends reads with ZZ 0, until one with ZZ 1 gives another.
     fn loaded_set(&mut self) {
         let set = records::set(&mut self.random);
-        self.load_section(SET, set.clone());
+        self.load_in_either(SET, set.clone());
         for _ in 0..self.random.between(1, 3) {
             let which = self.random.pick(&[0, 0, 0, 1, 2]);
             self.start(|_, read| read.which_set = which);
@@ -153,7 +176,7 @@ impl Generator {
     fn loaded_attributes(&mut self) {
         for _ in 0..self.random.between(1, 3) {
             let section = records::attributes(&mut self.random);
-            self.load_section(ATTRIBUTES, section);
+            self.load_in_either(ATTRIBUTES, section);
             if self.random.chance(60) {
                 self.start(|_, _| {});
             }
@@ -169,7 +192,7 @@ impl Generator {
 
     fn loaded_switches(&mut self) {
         let section = records::switches(&mut self.random);
-        self.load_section(CHARACTERISTICS, section);
+        self.load_in_either(CHARACTERISTICS, section);
         self.start(|random, read| {
             read.raise = random.pick(&[0, 0, 1]);
             read.escapes = random.pick(&[0, 0, 1]);

@@ -3,8 +3,8 @@
 use super::{Answer, Line, Loaded, MESSAGE_AREA};
 use crate::coverage::Rule;
 use crate::message::{
-    self, Fault, Initiate, Message, StartRead, Value, Wanted, AUTO_PROMPT, INPUT_ESCAPES, LONGEST,
-    NORMAL_ECHO, RAISE_INPUT,
+    self, Fault, Initiate, Message, StartRead, Value, Wanted, AUTO_PROMPT, BUFFER, INPUT_ESCAPES,
+    LONGEST, NORMAL_ECHO, RAISE_INPUT,
 };
 
 const INITIATE: u8 = 1;
@@ -13,6 +13,8 @@ const START_READ: u8 = 2;
 /// The used bits of an attribute, which our answer's MASK names.
 const USED_BITS: u8 = 127;
 const DEFERRED_CLEAR: u8 = 2;
+/// Messages 1 to 14, as bits.
+const CARRIED_MESSAGES: u16 = 0x7FFE;
 
 impl Line {
     /// Reads the message and finds the first refusal that applies.
@@ -47,7 +49,7 @@ impl Line {
         }
     }
 
-    /// The Start Read test has the line's largest read in the place of 132.
+    /// The Start Read test has the line's largest read in the place of the buffer.
     fn too_large(&self, message: &Message) -> bool {
         matches!(message, Message::StartRead(read) if read.max_length > self.largest_read)
     }
@@ -147,7 +149,11 @@ impl Line {
         let ours = Initiate {
             version: [1, 0, 0],
             revision: [b' '; 8],
-            parameters: vec![(1, vec![0, 1]), (2, vec![132, 0]), (3, vec![0xFE, 0x7F])],
+            parameters: vec![
+                (1, (LONGEST as u16).to_le_bytes().to_vec()),
+                (2, BUFFER.to_le_bytes().to_vec()),
+                (3, CARRIED_MESSAGES.to_le_bytes().to_vec()),
+            ],
         };
         self.send(Message::Initiate(ours), out);
     }

@@ -1,7 +1,8 @@
 //! Loading: what two settings records hold becomes the line's (M-100).
 
 use super::Line;
-use crate::coverage::{Moment, Rule};
+use crate::coverage::settings::Moment;
+use crate::coverage::Rule;
 use crate::message::{INPUT_ESCAPES, NORMAL_ECHO, RAISE_INPUT};
 use crate::settings::{
     self, Record, Source, ATTRIBUTE, ATTRIBUTES, CHARACTERISTICS, LARGEST_READ, SECTIONS, SET,
@@ -24,10 +25,11 @@ impl Line {
                 self.load_sound(&own, &site);
                 0
             }
-            (own, site) => {
-                for (source, flaw) in [(Source::Own, own.err()), (Source::Site, site.err())] {
-                    if let Some(flaw) = flaw {
-                        self.seen.flaw(source, flaw);
+            (judged, other) => {
+                let records = [(Source::Own, own, judged), (Source::Site, site, other)];
+                for (source, bytes, judged) in records {
+                    if let Err(flaw) = judged {
+                        self.seen.settings.flaw(source, bytes, flaw);
                     }
                 }
                 UNSOUND
@@ -42,9 +44,8 @@ impl Line {
         self.load_switches(settings::find(CHARACTERISTICS, own, site).0);
         self.load_attributes(settings::find(ATTRIBUTES, own, site).0);
         self.load_set(settings::find(SET, own, site).0);
-        if let [largest] = settings::find(LARGEST_READ, own, site).0 {
-            self.largest_read = u16::from(*largest);
-        }
+        let largest = settings::largest_read(settings::find(LARGEST_READ, own, site).0);
+        self.largest_read = largest.unwrap_or(self.largest_read);
     }
 
     fn load_switches(&mut self, section: &[u8]) {
@@ -89,11 +90,13 @@ impl Line {
             (true, false) => Moment::NoRead,
         };
         self.seen.met_if(self.locked, Rule::LockedLoad);
+        self.seen.settings.loaded_pair(own, site);
+        let form_of = |source| if source == Source::Own { own.form } else { site.form };
         let mut sources = Vec::new();
         for place in 0..SECTIONS {
             let (section, source) = settings::find(place, own, site);
             if !section.is_empty() {
-                self.seen.loaded(place, moment, source);
+                self.seen.settings.loaded(place, moment, source, form_of(source));
                 sources.push(source);
             }
             let both = !own.sections[place].is_empty() && !site.sections[place].is_empty();
@@ -102,7 +105,10 @@ impl Line {
         let mixed = sources.contains(&Source::Own) && sources.contains(&Source::Site);
         self.seen.met_if(mixed, Rule::LoadMixed);
         self.seen.met_if(sources.is_empty(), Rule::LoadNothing);
-        let largest_stays = settings::find(LARGEST_READ, own, site).0.is_empty();
-        self.seen.met_if(largest_stays && self.limited(), Rule::LoadKeepsLargest);
+        let (largest, source) = settings::find(LARGEST_READ, own, site);
+        match settings::largest_read(largest) {
+            Some(number) => self.seen.settings.loaded_largest(number, form_of(source)),
+            None => self.seen.met_if(self.limited(), Rule::LoadKeepsLargest),
+        }
     }
 }

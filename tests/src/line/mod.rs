@@ -17,8 +17,8 @@ use loading::Loaded;
 use std::collections::VecDeque;
 
 pub const TYPE_AHEAD: usize = 64;
-pub const TERMINAL_AREA: usize = 4096;
-pub const MESSAGE_AREA: usize = 256;
+pub const TERMINAL_AREA: usize = 32_768;
+pub const MESSAGE_AREA: usize = 2_048;
 
 /// The lengths of the two areas lent to a call.
 #[derive(Clone, Copy, Debug, PartialEq, Eq)]

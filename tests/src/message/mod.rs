@@ -7,9 +7,9 @@ pub use reading::{read, read_or_fault, Fault};
 pub use writing::write;
 
 /// No message is longer, read or written.
-pub const LONGEST: usize = 256;
-/// The input buffer of page 01.
-pub const BUFFER: u16 = 132;
+pub const LONGEST: usize = 2_048;
+/// The characters of the input buffer.
+pub const BUFFER: u16 = 1_024;
 
 pub const IGNORE_INPUT: u16 = 0x0201;
 pub const CHARACTER_ATTRIBUTES: u16 = 0x0202;
