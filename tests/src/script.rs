@@ -263,6 +263,7 @@ impl Runner {
     }
 
     fn copy(&mut self, bytes: &[u8]) -> Result<Vec<u8>, u8> {
+        self.seen.long.copied(bytes.len());
         let copy = message::read(bytes).and_then(|read| {
             self.seen.read[usize::from(read.kind())] += 1;
             message::write(&read, message::LONGEST)

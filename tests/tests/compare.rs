@@ -60,6 +60,17 @@ fn tokens_are_answered_alike() {
 }
 
 #[test]
+fn long_answers_are_answered_alike() {
+    let calls = wanted("CALLS", CALLS) / 40;
+    let seen = compared(calls.div_ceil(SCRIPT), |seed| {
+        generator::long_script(seed, SCRIPT as usize).into_bytes()
+    });
+    println!("{seen}");
+    assert!(seen.calls() >= calls);
+    assert_eq!(seen.long.missing(), Vec::<String>::new());
+}
+
+#[test]
 fn records_are_answered_alike() {
     let calls = wanted("CALLS", CALLS) / 10;
     let seen = compared(calls.div_ceil(SCRIPT), |seed| {

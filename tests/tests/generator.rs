@@ -29,6 +29,12 @@ fn each_thing_that_can_happen_to_a_token_occurs() {
 }
 
 #[test]
+fn each_thing_that_can_happen_to_a_long_answer_occurs() {
+    let all = seen(20, generator::long_script);
+    assert_eq!(all.long.missing(), Vec::<String>::new());
+}
+
+#[test]
 fn a_seed_gives_the_same_script_each_time() {
     assert_eq!(generator::script(7, 2_000), generator::script(7, 2_000));
     assert_ne!(generator::script(7, 2_000), generator::script(8, 2_000));

@@ -1,12 +1,14 @@
 //! What occurred while scripts ran: how often each completion code, refusal
 //! number, message type and rule of page 01 and the requests was met.
 
+pub mod long;
 pub mod settings;
 pub mod steps;
 pub mod tokens;
 pub mod writes;
 
 use crate::settings::{find, read, Source, SECTIONS};
+use long::Long;
 use settings::Settings;
 use std::fmt;
 use steps::Steps;
@@ -100,6 +102,7 @@ pub struct Coverage {
     /// Refusals of reading without a line.
     pub read_numbers: [u64; 7],
     pub rules: [u64; RULES.len()],
+    pub long: Long,
     pub settings: Settings,
     pub steps: Steps,
     pub tokens: Tokens,
@@ -117,6 +120,7 @@ impl Default for Coverage {
             received_locked: [0; 15],
             read_numbers: [0; 7],
             rules: [0; RULES.len()],
+            long: Long::default(),
             settings: Settings::default(),
             steps: Steps::default(),
             tokens: Tokens::default(),
@@ -177,6 +181,7 @@ impl Coverage {
         for (mine, more) in pairs.chain(self.rules.iter_mut().zip(&other.rules)) {
             *mine += more;
         }
+        self.long.add(&other.long);
         self.settings.add(&other.settings);
         self.steps.add(&other.steps);
         self.tokens.add(&other.tokens);
@@ -188,8 +193,8 @@ impl Coverage {
         self.numbers.iter().chain(&self.read_numbers).sum::<u64>() + self.settings.calls()
     }
 
-    /// Each thing that can be reached, with its count. What occurred to tokens
-    /// is asked of scripts of tokens alone, and has a table of its own.
+    /// Each thing that can be reached, with its count. What occurred to tokens and
+    /// to long answers is asked of scripts of them alone, and has tables of its own.
     pub fn table(&self) -> Vec<(String, u64)> {
         let mut table = Vec::new();
         table.extend(CODES.map(|code| (format!("completion code {code}"), self.codes[code])));
@@ -220,7 +225,7 @@ fn unmet(table: Vec<(String, u64)>) -> Vec<String> {
 impl fmt::Display for Coverage {
     fn fmt(&self, to: &mut fmt::Formatter) -> fmt::Result {
         writeln!(to, "{:45} {}", "calls", self.calls())?;
-        let table = self.table().into_iter().chain(self.tokens.table());
+        let table = [self.table(), self.tokens.table(), self.long.table()].concat();
         table.into_iter().try_for_each(|(name, count)| writeln!(to, "{name:45} {count}"))
     }
 }

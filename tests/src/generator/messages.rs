@@ -2,7 +2,8 @@
 
 use super::random::Random;
 use super::{typing, writes};
-use crate::message::{self, Initiate, Message, ReadData, StartRead, Value, Wanted};
+use crate::line::MESSAGE_AREA;
+use crate::message::{self, Initiate, Message, ReadData, StartRead, Value, Wanted, BUFFER, LONGEST};
 
 const BOOLEANS: [u16; 7] = [0x201, 0x203, 0x204, 0x205, 0x206, 0x207, 0x209];
 const CARRIED: [u16; 4] = [0x204, 0x205, 0x206, 0x209];
@@ -11,9 +12,21 @@ const PLAIN: [u16; 9] = [0x201, 0x203, 0x204, 0x205, 0x206, 0x207, 0x208, 0x209,
 /// EE: the read recognises escape sequences.
 pub const RECOGNISED: u8 = 2;
 
+/// What an answer to Read Characteristics takes of the message area: its length,
+/// type and flags, and then so much for each that was asked for.
+const ANSWER_HEADER: usize = 4;
+const PLAIN_ANSWER: usize = 3;
+const ATTRIBUTES_ANSWER: usize = 5;
+/// As many as can be answered: of the longer ones alone, and of the shorter.
+const FEWEST: usize = (MESSAGE_AREA - ANSWER_HEADER) / ATTRIBUTES_ANSWER;
+const MOST: usize = (MESSAGE_AREA - ANSWER_HEADER) / PLAIN_ANSWER;
+
+/// Header and DATA of a Read Data fill a message.
+const READ_DATA_HEADER: usize = 8;
+
 /// The bytes of a message that is sound.
 pub fn bytes_of(message: &Message) -> Vec<u8> {
-    message::write(message, message::LONGEST).unwrap_or_else(|_| vec![12, 0])
+    message::write(message, LONGEST).unwrap_or_else(|_| vec![12, 0])
 }
 
 pub fn initiate(random: &mut Random) -> Message {
@@ -30,13 +43,18 @@ pub fn initiate(random: &mut Random) -> Message {
     Message::Initiate(Initiate { version, revision, parameters })
 }
 
+/// Most texts of general scripts are no longer.
+const ORDINARY: usize = 120;
+
 /// MAX-LENGTH, END-OF-DATA and END-OF-PROMPT.
 fn lengths(random: &mut Random) -> (usize, usize, usize) {
-    let max = random.pick(&[0, 1, 2, 3, 5, 10, 16, 20, 40, 60, 80, 80, 131, 132, 132, 132, 132]);
+    let whole = usize::from(BUFFER);
+    let max = random.pick(&[0, 1, 2, 3, 5, 10, 16, 20, 40, 60, 80, 80, ORDINARY, ORDINARY, whole, whole, whole]);
     let end = match random.below(16) {
         0 => max,
         1..=10 => random.below(max.min(6) + 1),
-        11 => random.below(max + 1),
+        // Long texts have scripts of their own.
+        11 => random.below(max.min(ORDINARY) + 1),
         _ => 0,
     };
     let prompt = match random.below(6) {
@@ -158,8 +176,8 @@ fn any_value(random: &mut Random) -> Value {
 pub fn wanted(random: &mut Random, outside: bool) -> Vec<Wanted> {
     let count = match random.below(14) {
         0 => 0,
-        1 => random.between(44, 84),
-        2 => random.between(48, 53),
+        1 => random.between(FEWEST - 6, MOST),
+        2 => random.between(FEWEST - 2, FEWEST + 3),
         _ => random.between(1, 6),
     };
     let attributes = random.pick(&[20, 90, 100]);
@@ -175,8 +193,23 @@ pub fn wanted(random: &mut Random, outside: bool) -> Vec<Wanted> {
     (0..count).map(|_| one(random)).collect()
 }
 
+/// What to ask for so that the answer takes so much of the message area.
+pub fn wanted_for(length: usize, random: &mut Random) -> Vec<Wanted> {
+    let rest = length - ANSWER_HEADER;
+    let mut attributes = random.below(FEWEST - PLAIN_ANSWER);
+    while !(rest - attributes * ATTRIBUTES_ANSWER).is_multiple_of(PLAIN_ANSWER) {
+        attributes += 1;
+    }
+    let plain = (rest - attributes * ATTRIBUTES_ANSWER) / PLAIN_ANSWER;
+    let mut wanted = Vec::new();
+    wanted.extend((0..attributes).map(|_| Wanted::Attributes(random.byte())));
+    wanted.extend((0..plain).map(|_| Wanted::Plain(random.pick(&CARRIED))));
+    wanted.rotate_left(random.below(attributes + plain));
+    wanted
+}
+
 fn read_data(random: &mut Random) -> ReadData {
-    let length = random.pick(&[0, 1, 5, 132, 248]);
+    let length = random.pick(&[0, 1, 5, usize::from(BUFFER), LONGEST - READ_DATA_HEADER]);
     ReadData {
         code: random.below(14) as u8,
         more: random.chance(50),

@@ -1,6 +1,7 @@
 //! Makes random scripts that reach deep states, from a seed.
 
 mod damage;
+mod long;
 mod messages;
 mod random;
 mod records;
@@ -19,6 +20,7 @@ use random::Random;
 use std::fmt::Write as _;
 
 pub use damage::damaged;
+pub use long::long_script;
 pub use settings::settings_script;
 pub use tokens::token_script;
 

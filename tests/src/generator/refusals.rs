@@ -1,14 +1,16 @@
 //! Scenes that end in refusals, and reading without a line.
 
 use super::{messages, typing, Generator};
-use crate::line::Areas;
-use crate::message::{Message, Value};
+use crate::line::{Areas, MESSAGE_AREA, TERMINAL_AREA};
+use crate::message::{Message, Value, LONGEST};
 use crate::script::Order;
 
 impl Generator {
     pub(super) fn small_areas(&mut self) {
-        let terminal = self.random.pick(&[4096, 4096, 4095, 0, 5000, 65_535]);
-        let message = self.random.pick(&[256, 256, 255, 0, 300, 65_535]);
+        let [terminal, message] = [TERMINAL_AREA, MESSAGE_AREA].map(|least| {
+            let more = least + self.random.between(1, least);
+            self.random.pick(&[least, least, least - 1, 0, more, usize::from(u16::MAX)])
+        });
         self.order(Order::Lengths(Areas { terminal, message }));
         match self.random.below(4) {
             0 => self.read(),
@@ -27,7 +29,7 @@ impl Generator {
         match self.random.below(6) {
             0..=2 => bytes = messages::damaged(bytes, &mut self.random),
             3 if self.random.chance(10) => {
-                let length = self.random.between(1, 260);
+                let length = self.random.between(1, LONGEST + 4);
                 bytes = self.random.bytes(length);
             }
             _ => {}
@@ -56,7 +58,7 @@ impl Generator {
     }
 
     pub(super) fn wrong_length(&mut self) {
-        let length = self.random.pick(&[0, 255, 256, 257, 258, 300]);
+        let length = self.random.pick(&[0, LONGEST - 1, LONGEST, LONGEST + 1, LONGEST + 2, LONGEST + 50]);
         let mut bytes = vec![b'a'; length];
         let front = [7, 32, 0, 0, 0];
         for (place, byte) in bytes.iter_mut().zip(front) {
@@ -71,15 +73,17 @@ impl Generator {
 
     /// A line of no known form.
     pub(super) fn stray_line(&mut self) {
-        let stray = ["", "K", "K 1", "K 123", "k 41", "S ", "M 0", "M 0G", "A 1", "A 65536 256"];
+        let stray = ["", "K", "K 1", "K 123", "k 41", "S ", "M 0", "M 0G", "A 1", "A 65536 0"];
         let more =
-            ["A 1 2 3", "A -1 256", "A 100000 1", "Q", " S", "M  0500", "T 1", "R 012", "K  41"];
+            ["A 1 2 3", "A -1 0", "A 100000 1", "Q", " S", "M  0500", "T 1", "R 012", "K  41"];
         let loads = ["L", "L ", "L -", "L - ", "L  -", "L - - -", "L 0 -", "L 01 0G", "L -- -"];
         let asks = ["G", "G 1", "G - -", "G 1 -", "G 12 - -", "G x - -", "G 1 - - -", "G1 - -"];
-        let line = match self.random.below(4) {
+        let moves = ["V", "V ", "V 1", "V 1 ", "V -", "V 0 -", "V 3 -", "V 9 -", "V 12 -", "V 1 0"];
+        let line = match self.random.below(5) {
             0 => self.random.pick(&stray),
             1 => self.random.pick(&more),
             2 => self.random.pick(&loads),
+            3 => self.random.pick(&moves),
             _ => self.random.pick(&asks),
         };
         self.text.push_str(line);

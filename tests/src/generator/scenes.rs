@@ -2,7 +2,8 @@
 
 use super::{typing, Generator};
 use crate::line::arrival::CLEAR_KEY;
-use crate::message::{Message, Value, Write};
+use crate::message::{Message, Value, Write, BUFFER};
+use crate::screen::TOP;
 
 impl Generator {
     pub(super) fn read(&mut self) {
@@ -94,14 +95,13 @@ impl Generator {
 
     /// Drives the column to its top, then types and rubs out there.
     pub(super) fn far_right(&mut self) {
-        for _ in 0..self.random.between(3, 5) {
-            let data = (0..251).map(|_| self.random.between(32, 126) as u8).collect();
-            let write = Write { status: true, data, ..Default::default() };
-            self.host(&Message::Write(write));
-        }
+        let top = usize::from(TOP);
+        let length = self.random.between(top - top / 4, top + top / 4);
+        let data = (0..length).map(|_| self.random.between(32, 126) as u8).collect();
+        self.host(&Message::Write(Write { status: true, data, ..Write::default() }));
         self.start(|random, read| {
             read.no_echo = false;
-            read.max_length = random.pick(&[40, 80, 132]).max(read.max_length);
+            read.max_length = random.pick(&[40, 80, BUFFER]).max(read.max_length);
         });
         for _ in 0..self.random.between(4, 40) {
             let code = typing::key(&mut self.random);
@@ -117,7 +117,7 @@ impl Generator {
             read.formatting = true;
             read.disable = 0;
             read.end_of_data = read.end_of_data.max(1).min(read.max_length.max(1));
-            read.max_length = read.max_length.max(read.end_of_data + 3).min(132);
+            read.max_length = read.max_length.max(read.end_of_data + 3).min(BUFFER);
             read.end_of_data = read.end_of_data.min(read.max_length - 1);
             read.data.resize(usize::from(read.end_of_data), b'd');
             read.data[0] = 10;

@@ -3,6 +3,7 @@
 
 use super::random::Random;
 use super::{messages, records, typing, Generator};
+use crate::coverage::long::WATCHED;
 use crate::message::{Message, BUFFER};
 use crate::script::{Order, Records, Reply};
 use crate::settings::{Form, ATTRIBUTES, CHARACTERISTICS, FORMS, LARGEST_READ, SET};
@@ -34,7 +35,7 @@ pub fn settings_script(seed: u64, calls: usize) -> String {
             0 => generator.fresh(),
             1 => generator.asks(),
             2 | 3 => generator.probe(),
-            4..=8 => generator.moves(),
+            4..=8 => generator.moved(),
             _ => generator.refused(),
         }
     }
@@ -54,10 +55,14 @@ impl Generator {
             9 | 10 => self.moves(),
             _ => self.refused_load(),
         }
-        // A small largest read would leave little to see in what follows.
         if self.random.chance(70) {
-            self.load_section(Form::Two, LARGEST_READ, Form::Two.largest_read(BUFFER));
+            self.load_room();
         }
+    }
+
+    /// A small largest read would leave little to see in what follows.
+    pub(super) fn load_room(&mut self) {
+        self.load_section(Form::Two, LARGEST_READ, Form::Two.largest_read(BUFFER));
     }
 
     /// Loads before Initiate, which has to keep what they left.
@@ -103,9 +108,15 @@ impl Generator {
         self.load_section(form, place, section);
     }
 
+    fn moves(&mut self) {
+        for _ in 0..self.random.between(1, 20) {
+            self.moved();
+        }
+    }
+
     /// A record of any kind is moved, and if that is done, mostly back again; at
     /// times both are loaded.
-    fn moves(&mut self) {
+    fn moved(&mut self) {
         let damaged = self.random.chance(50);
         let make = if damaged { records::damaged } else { records::sound };
         let record = make(&mut self.random);
@@ -135,7 +146,7 @@ impl Generator {
     }
 
     /// Reads just at the loaded number and above it, some with a cause for 6.
-    fn largest_read(&mut self) {
+    pub(super) fn largest_read(&mut self) {
         let form = self.random.pick(&FORMS);
         let largest = records::largest(form, &mut self.random);
         self.load_section(form, LARGEST_READ, form.largest_read(largest));
@@ -152,7 +163,9 @@ impl Generator {
             read.data.truncate(usize::from(read.end_of_data - read.start_of_display));
             let mut bytes = messages::bytes_of(&Message::StartRead(read));
             // MAX-LENGTH may be more than any message could be written with.
-            let asked = largest + self.random.pick(&[0, 0, 1, 1, 2, 256]);
+            let above = largest + self.random.pick(&[0, 0, 1, 1, 2, 256]);
+            let watched = self.random.pick(&WATCHED);
+            let asked = self.random.pick(&[above, watched]);
             bytes[4..6].copy_from_slice(&asked.to_le_bytes());
             self.send(&bytes);
             self.type_keys(4);

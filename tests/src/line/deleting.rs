@@ -1,14 +1,26 @@
 //! Taking characters from the end of the input, and showing it again.
 
 use super::{Answer, Line, Read};
+use crate::coverage::long::{high, Thing};
 use crate::coverage::Rule;
+use crate::message::BUFFER;
 use crate::screen::{self, CR, HT, LF, TOP};
+
+/// What a redisplay of a long read is counted as.
+type Redisplays = [Thing; 3];
+pub(super) const BY_KEY: Redisplays =
+    [Thing::RedisplayLongPrompt, Thing::RedisplayFull, Thing::RedisplayPassesTop];
+pub(super) const BY_WRITE: Redisplays = [
+    Thing::WriteRedisplaysLongPrompt,
+    Thing::WriteRedisplaysFull,
+    Thing::WriteRedisplaysPastTop,
+];
 
 impl Read {
     /// Marks and spaces in the echo of what stands from `end` on: the echo is
     /// replayed from the column where the display began, since a tab's width
-    /// hangs on what is before it.
-    fn marks_after(&self, end: usize) -> usize {
+    /// hangs on what is before it. Each is told with the column where it begins.
+    fn marks_after(&self, end: usize, mut each: impl FnMut(u8, u16)) -> usize {
         let mut column = self.display_column;
         let mut marks = 0;
         for place in self.end_of_prompt..self.buffer.len() {
@@ -16,10 +28,11 @@ impl Read {
                 continue;
             }
             let width = screen::width(self.buffer[place], column);
-            column = (column + width).min(TOP);
             if place >= end {
                 marks += usize::from(width);
+                each(self.buffer[place], column);
             }
+            column = (column + width).min(TOP);
         }
         marks
     }
@@ -55,9 +68,9 @@ impl Line {
         }
         let (stays, removed) = read.buffer[read.end_of_prompt..].split_at(end - read.end_of_prompt);
         if rub_out && read.echo {
-            let marks = read.marks_after(end);
+            let marks = read.marks_after(end, |code, column| self.seen.long.rubbed(code, column));
             let tab = removed.contains(&HT);
-            let behind_text = tab && read.marks_after(read.end_of_prompt) > marks;
+            let behind_text = tab && read.marks_after(read.end_of_prompt, |_, _| {}) > marks;
             self.seen.met_if(tab, Rule::RubTab);
             self.seen.met_if(behind_text, Rule::RubTabBehindText);
             self.seen.met_if(tab && read.hides(read.end_of_prompt), Rule::RubTabBehindHiddenLf);
@@ -66,10 +79,15 @@ impl Line {
             self.seen.met_if(removed.iter().any(control), Rule::RubControl);
             self.seen.met_if(marks == 0, Rule::RubNothing);
             self.seen.met_if(marks > usize::from(self.screen.column), Rule::BackspaceAtEdge);
+            self.seen.long.met_if(marks > usize::from(TOP), Thing::RubMoreThanColumns);
             self.screen.rub_out(marks, &mut out.terminal);
         }
         self.seen.met_if(rub_out && !read.echo, Rule::RubNoEcho);
+        self.seen.long.met_if(high(stays.len()), Thing::DeletedOfLong);
+        self.seen.long.met_if(high(removed.len()), Thing::LongDeleted);
         let falls = end < read.low_water;
+        self.seen.long.met_if(falls && high(end), Thing::LowWaterFallsToHigh);
+        self.seen.long.met_if(falls && high(read.low_water), Thing::LowWaterFallsFromHigh);
         self.seen.met(if falls { Rule::LowWaterFalls } else { Rule::LowWaterStays });
         read.low_water = read.low_water.min(end);
         read.buffer.truncate(end);
@@ -85,6 +103,17 @@ impl Line {
         self.screen.send_all(&[CR, LF], &mut out.terminal);
         self.show_prompt(out);
         self.show_input(out);
+    }
+
+    /// Counts a redisplay of a long read.
+    pub(super) fn note_long_redisplay(&mut self, things: Redisplays) {
+        let Some(read) = &self.read else { return };
+        let [prompt, full, past] = things;
+        let length = read.buffer.len();
+        self.seen.long.met_if(high(read.end_of_prompt), prompt);
+        // A pending read has room for one character at least.
+        self.seen.long.met_if(read.echo && length + 1 == usize::from(BUFFER), full);
+        self.seen.long.met_if(high(length) && self.screen.column == TOP, past);
     }
 
     /// Sends the prompt as it is and notes where the data's display begins.

@@ -8,7 +8,7 @@ use crate::message::{
 };
 
 const INITIATE: u8 = 1;
-const START_READ: u8 = 2;
+pub(super) const START_READ: u8 = 2;
 
 /// The used bits of an attribute, which our answer's MASK names.
 const USED_BITS: u8 = 127;
@@ -38,6 +38,9 @@ impl Line {
             Ok(message) => message,
             Err(fault) => return self.refuse(fault.number(), rule_of(fault)),
         };
+        if let Message::ReadCharacteristics(wanted) = &message {
+            self.seen.long.answer(self.answer_length(wanted));
+        }
         let not_carried = self.not_carried(&message);
         if self.too_large(&message) {
             self.seen.met_if(not_carried.is_some(), Rule::LargestReadBeforeNotCarried);
@@ -68,7 +71,7 @@ impl Line {
                 if wanted.iter().any(|one| matches!(one, Wanted::Plain(s) if !carried(*s))) {
                     return Some(Rule::SelectorOutside);
                 }
-                let length = self.characteristics_answer(wanted).len() + 2;
+                let length = self.answer_length(wanted);
                 (length > MESSAGE_AREA).then_some(Rule::AnswerLong)
             }
             Message::Characteristics(values) => {
@@ -91,6 +94,11 @@ impl Line {
         let mut table = self.attributes;
         set_attributes(&mut table, values);
         table.iter().any(|attribute| attribute & 3 == DEFERRED_CLEAR)
+    }
+
+    /// How much of the message area the answer takes, with its length.
+    fn answer_length(&self, wanted: &[Wanted]) -> usize {
+        self.characteristics_answer(wanted).len() + 2
     }
 
     /// The length matters before the answer is known to fit, so the answer is

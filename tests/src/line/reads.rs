@@ -2,9 +2,10 @@
 
 use super::tokens::End;
 use super::{Answer, Line, Read};
+use crate::coverage::long::{high, Thing};
 use crate::coverage::Rule;
 use crate::message::{Message, ReadData, StartRead};
-use crate::screen::{CR, LF};
+use crate::screen::{CR, LF, TOP};
 
 /// Completion codes of 000, 4.16.4.
 pub const TERMINATOR: u8 = 0;
@@ -58,6 +59,7 @@ impl Line {
         self.read = Some(read);
         self.show_prompt(out);
         self.show_input(out);
+        self.note_long();
         if full {
             self.seen.met(Rule::ReadFullAtOnce);
             self.seen.met_if(self.locked, Rule::LockedReadFullAtOnce);
@@ -100,6 +102,20 @@ impl Line {
         }
     }
 
+    /// Counts what a long read that has been displayed shows.
+    fn note_long(&mut self) {
+        let Some(read) = &self.read else { return };
+        let prompt = high(read.end_of_prompt);
+        let text = high(read.buffer.len() - read.end_of_prompt);
+        let [before, behind, now] = [read.note_column, read.display_column, self.screen.column];
+        let passes = |from, to| from < TOP && to == TOP;
+        self.seen.long.met_if(prompt, Thing::LongPrompt);
+        self.seen.long.met_if(text && read.echo, Thing::LongText);
+        self.seen.long.met_if((prompt || text) && read.hidden_lf, Thing::LongHiddenLf);
+        self.seen.long.met_if(prompt && passes(before, behind), Thing::PromptPassesTop);
+        self.seen.long.met_if(text && passes(behind, now), Thing::TextPassesTop);
+    }
+
     fn chosen_set(&mut self, asked: &StartRead) -> [u8; 32] {
         match asked.which_set {
             1 => {
@@ -140,6 +156,7 @@ impl Line {
             terminator: (data.len() - tail) as u16,
             data,
         };
+        self.seen.long.returned(&data);
         self.send(Message::ReadData(data), out);
     }
 }

@@ -2,6 +2,7 @@
 
 use super::reads::{BUFFER_FULL, TERMINATOR, TIMEOUT, UNDERFLOW};
 use super::tokens::{CSI, ESC};
+use super::deleting::BY_KEY;
 use super::{Answer, Key, Line};
 use crate::coverage::Rule;
 use crate::screen::{BEL, CR, HT, LF};
@@ -157,7 +158,8 @@ impl Line {
             REDISPLAY => {
                 self.seen.met(if read.echo { Rule::Redisplay } else { Rule::RedisplayNoEcho });
                 self.seen.met_if(read.hidden_lf, Rule::HiddenLfRedisplayed);
-                return self.redisplay(out);
+                self.redisplay(out);
+                return self.note_long_redisplay(BY_KEY);
             }
             DELETE_LINE => read.end_of_prompt,
             DELETE_WORD => read.word_start(),
@@ -211,6 +213,7 @@ impl Line {
                 160..=254 => Rule::EchoHigh,
                 _ => Rule::EchoNothing,
             });
+            self.seen.long.echoed(code, self.screen.column);
             self.screen.echo(code, &mut out.terminal);
         } else {
             self.seen.met(Rule::DataSilent);

@@ -1,5 +1,6 @@
 //! A Write: its output, what it tells of that, its lock, its redisplay (M-103).
 
+use super::deleting::BY_WRITE;
 use super::{Answer, Line};
 use crate::coverage::writes::Found;
 use crate::coverage::Rule;
@@ -75,6 +76,7 @@ impl Line {
         self.seen.met_if(!self.partial.is_empty(), Rule::WriteRedisplaysPartial);
         let column = read.display_column;
         self.redisplay(out);
+        self.note_long_redisplay(BY_WRITE);
         let moved = self.read.as_ref().is_some_and(|read| read.display_column != column);
         self.seen.met_if(moved, Rule::WriteRedisplaysElsewhere);
     }

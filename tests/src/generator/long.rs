@@ -1,0 +1,177 @@
+//! Scenes with long answers (M-107): texts up to a whole buffer, positions about
+//! the top column, messages about the longest.
+
+use super::messages::{self, RECOGNISED};
+use super::random::Random;
+use super::{typing, Generator};
+use crate::coverage::long::WATCHED;
+use crate::line::arrival::CLEAR_KEY;
+use crate::line::tokens::{CSI, ESC};
+use crate::line::MESSAGE_AREA;
+use crate::message::{Message, StartRead, Write, BUFFER, REDISPLAY_AFTER};
+use crate::screen::{BEL, CR, HT, LF, TOP};
+
+const DELETE: u8 = 127;
+const DELETE_WORD: u8 = 23;
+const DELETE_LINE: u8 = 21;
+const REDISPLAY: u8 = 18;
+
+/// Of a hundred long reads so many have all the room that there is.
+const ROOMY: usize = 70;
+/// One scene in so many has its whole text typed: it takes as long as many others.
+const TYPED_OUT: usize = 80;
+
+/// What ends a read, and may just fill it.
+const ENDINGS: [&[u8]; 6] = [
+    b"x",
+    &[CR],
+    &[ESC, b'[', b'A'],
+    &[ESC, b'[', BEL],
+    &[CSI, b'1', b'2', b'~'],
+    &[DELETE_LINE, DELETE],
+];
+
+/// A script of little else than long answers.
+pub fn long_script(seed: u64, calls: usize) -> String {
+    let mut generator = Generator::new(seed);
+    generator.beginning();
+    while generator.calls < calls {
+        generator.long_scene();
+    }
+    generator.text
+}
+
+impl Generator {
+    fn long_scene(&mut self) {
+        self.lift_mostly();
+        match self.random.below(20) {
+            0 => self.fresh(),
+            1 => self.wrong_length(),
+            2 => self.longest_answer(),
+            3 => self.largest_read(),
+            4..=8 => self.long_ending(),
+            9 if self.random.below(TYPED_OUT) == 0 => self.typed_out(),
+            _ => self.long_read(),
+        }
+    }
+
+    /// A line with all the room there is, most of the time at column 0.
+    fn make_room(&mut self) {
+        self.make_way();
+        if self.line().largest_read() < BUFFER && self.random.chance(90) {
+            self.load_room();
+        }
+        if self.random.chance(80) {
+            self.host(&Message::Write(Write { data: vec![CR, LF], ..Write::default() }));
+        }
+    }
+
+    /// A long text is edited and ended in some way.
+    fn long_read(&mut self) {
+        self.make_room();
+        self.begin(|random, read| {
+            let room = random.pick(&[0, 1, 2, 3, 5, 16, 16, 40, 40]);
+            lengthen(random, read, room);
+        });
+        for _ in 0..self.random.between(1, 12) {
+            self.key_in_long();
+        }
+        match self.random.below(8) {
+            0 | 1 => self.unread(),
+            2 => self.ticks(),
+            3 => self.out_of_band_key(),
+            4 => self.host(&Message::ClearInput),
+            _ => self.settle(),
+        }
+    }
+
+    fn key_in_long(&mut self) {
+        match self.random.below(30) {
+            0..=6 => self.key(HT),
+            7..=12 => self.key(DELETE),
+            13..=18 => self.key(b'a'),
+            19 | 20 => self.key(DELETE_WORD),
+            21 => self.key(REDISPLAY),
+            22 => {
+                let lock = REDISPLAY_AFTER;
+                self.host(&Message::Write(Write { lock, status: true, ..Write::default() }));
+            }
+            23 => {
+                let code = self.random.pick(&[DELETE_LINE, CLEAR_KEY, CR]);
+                self.key(code);
+            }
+            24..=26 => self.key(1),
+            _ => self.typed_key(),
+        }
+    }
+
+    /// A read with just the room that what ends it needs, or one less or more.
+    fn long_ending(&mut self) {
+        self.make_room();
+        let ending = self.random.pick(&ENDINGS);
+        let just = ending.len();
+        let room = self.random.pick(&[just - 1, just, just, just + 1]) as u16;
+        self.begin(|random, read| {
+            lengthen(random, read, room);
+            read.escapes = RECOGNISED;
+            read.which_set = random.pick(&[0, 2]);
+            read.underflow = random.pick(&[1, 2]);
+            read.disable = 0;
+        });
+        ending.iter().for_each(|code| self.key(*code));
+    }
+
+    /// A whole buffer is typed, key by key.
+    fn typed_out(&mut self) {
+        self.make_room();
+        self.begin(|random, read| {
+            *read = StartRead { which_set: 2, max_length: BUFFER, ..StartRead::default() };
+            read.raise = random.pick(&[1, 2]);
+        });
+        for _ in 0..BUFFER {
+            let code = if self.random.chance(97) { b'a' } else { self.random.pick(&[HT, 1, 200]) };
+            self.key(code);
+        }
+    }
+
+    /// Asks for so much that the answer about fills the message area.
+    fn longest_answer(&mut self) {
+        let length = self.random.between(MESSAGE_AREA - 2, MESSAGE_AREA + 2);
+        let wanted = messages::wanted_for(length, &mut self.random);
+        self.host(&Message::ReadCharacteristics(wanted));
+    }
+}
+
+/// Makes it a long read with room for so many more characters.
+fn lengthen(random: &mut Random, read: &mut StartRead, room: u16) {
+    let watched = random.pick(&WATCHED).min(BUFFER);
+    read.max_length = if random.chance(ROOMY) { BUFFER } else { watched };
+    read.end_of_data = read.max_length.saturating_sub(room);
+    let end = usize::from(read.end_of_data);
+    read.data = text(random, end);
+    if read.formatting && random.chance(60) {
+        read.data.iter_mut().take(1).for_each(|first| *first = LF);
+    }
+    let before_top = end.min(usize::from(TOP) - random.below(20));
+    let anywhere = random.below(end + 1);
+    read.end_of_prompt = random.pick(&[0, 0, 2.min(end), anywhere, before_top, end]) as u16;
+    read.low_water = if random.chance(60) { read.end_of_data } else { random.below(end + 1) as u16 };
+    read.clear = random.chance(3);
+    read.timeout = random.pick(&[0, 1, 1, 2]);
+}
+
+/// A text of so many characters: little else than marks before its end, or of
+/// every kind.
+fn text(random: &mut Random, length: usize) -> Vec<u8> {
+    let mut text: Vec<u8> = match random.below(8) {
+        0 => (0..length).map(|_| typing::shown(random)).collect(),
+        1 => vec![HT; length],
+        2 => vec![1; length],
+        _ => (0..length).map(|_| random.pick(b"abcxyzABCZ019. ")).collect(),
+    };
+    let tail = random.below(40).min(length);
+    for byte in &mut text[length - tail..] {
+        *byte = random.pick(&[HT, HT, HT, b'a', b'b', 1, *byte]);
+    }
+    text
+}
