@@ -43,11 +43,12 @@ fn case_c_a_byte_short() {
 #[test]
 fn case_d_a_full_buffer_at_once() {
     let mut bench = Bench::initiated();
-    let data = [b'x'; 132];
-    let (terminal, messages) = start(ZZ2, b"", &data).max(132).on(&mut bench);
+    // The top column is E7 modulo 256.
+    let data = [b'x'; WHOLE];
+    let (terminal, messages) = start(ZZ2, b"", &data).max(BUFFER).on(&mut bench);
     assert_eq!(terminal, hex(&data));
-    assert_eq!(messages, format!("03 04 84 00 00 84 84 00 {}", hex(&data)));
-    bench.refused(5, &start(ZZ2, b"", &data).max(133).bytes());
+    assert_eq!(messages, format!("03 04 {0} 00 E7 {0} {1}", word(WHOLE), hex(&data)));
+    bench.refused(5, &start(ZZ2, b"", &data).max(BUFFER + 1).bytes());
 }
 
 #[test]
@@ -104,7 +105,7 @@ fn case_k_a_word_and_a_small_area() {
     assert_eq!(terminal, "08 20 08 08 20 08 08 20 08");
     let (_, _, messages) = bench.host("05 00");
     assert!(messages.ends_with(&hex(b"gate ")));
-    bench.areas.terminal = 4095;
+    bench.areas.terminal = TERMINAL_AREA - 1;
     assert_eq!(bench.key(b'a').0, 1);
     bench.refused(1, &[12, 0]);
 }

@@ -79,7 +79,7 @@ fn records_are_answered_alike() {
     println!("{seen}");
     assert!(seen.calls() >= calls);
     // Most loads are refused: it is the damaged records that this is about.
-    assert!(seen.numbers[7] > calls / 4, "{:?}", seen.numbers);
+    assert!(seen.numbers[7] > calls / 5, "{:?}", seen.numbers);
 }
 
 #[test]

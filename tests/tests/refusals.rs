@@ -7,9 +7,14 @@ const INITIATE: &str = "01 00 01 00 00 20 20 20 20 20 20 20 20";
 
 #[test]
 fn row_1_areas() {
-    for (terminal, message, number) in
-        [(4096, 256, 0), (4095, 256, 1), (4096, 255, 1), (0, 0, 1), (65_535, 65_535, 0)]
-    {
+    let (terminal, message) = (TERMINAL_AREA, MESSAGE_AREA);
+    for (terminal, message, number) in [
+        (terminal, message, 0),
+        (terminal - 1, message, 1),
+        (terminal, message - 1, 1),
+        (0, 0, 1),
+        (65_535, 65_535, 0),
+    ] {
         let mut bench = Bench::initiated();
         bench.areas.terminal = terminal;
         bench.areas.message = message;
@@ -30,7 +35,7 @@ fn row_1_areas() {
 fn row_1_leaves_the_line_as_it_was() {
     let mut bench = Bench::initiated();
     start(ZZ2 | Q, b"", b"").timeout(1).on(&mut bench);
-    bench.areas.message = 255;
+    bench.areas.message = MESSAGE_AREA - 1;
     bench.unchanged(|bench| {
         assert_eq!((bench.key(7).0, bench.step().0, bench.tick().0), (1, 1, 1));
     });
@@ -40,12 +45,12 @@ fn row_1_leaves_the_line_as_it_was() {
 fn row_2_lengths() {
     let mut bench = Bench::initiated();
     bench.refused(2, &[]);
-    let mut write = vec![b'w'; 257];
+    let mut write = vec![b'w'; LONGEST + 1];
     write[..5].copy_from_slice(&[7, 0, 0, 0, 0]);
     bench.refused(2, &write);
-    assert_eq!(bench.host_bytes(&write[..256]).0, 0);
+    assert_eq!(bench.host_bytes(&write[..LONGEST]).0, 0);
     // 2 comes before 3: the type is not looked at.
-    bench.refused(2, &[0; 257]);
+    bench.refused(2, &[0; LONGEST + 1]);
     let mut fresh = Bench::default();
     fresh.refused(2, &[]);
 }
@@ -139,10 +144,10 @@ fn row_5_the_start_read_test() {
     display[12] = 3;
     bench.refused(5, &display);
     bench.refused(5, &start(ZZ2, b"", b"ab").max(1).bytes());
-    bench.refused(5, &start(ZZ2, b"", b"ab").max(133).bytes());
-    bench.refused(5, &start(ZZ2, b"", b"ab").max(132 + 256).bytes());
+    bench.refused(5, &start(ZZ2, b"", b"ab").max(BUFFER + 1).bytes());
+    bench.refused(5, &start(ZZ2, b"", b"ab").max(BUFFER + 256).bytes());
     // The edges that pass.
-    let mut edge = start(3 << 8 | ZZ1 | 2 | II2 | EE2, b"ab", b"").max(132);
+    let mut edge = start(3 << 8 | ZZ1 | 2 | II2 | EE2, b"ab", b"").max(BUFFER);
     edge.set = vec![0; 32];
     assert_eq!(bench.host_bytes(&edge.bytes()).0, 0);
 }
@@ -187,15 +192,20 @@ fn row_6_characteristics_not_carried() {
 #[test]
 fn row_6_the_longest_answer() {
     let mut bench = Bench::initiated();
-    // 84 short ones answer with 2 + 252 = 254 bytes, with the length 256.
-    let asked = [bytes("0A 00"), [4, 2].repeat(84)].concat();
-    let (number, _, messages) = bench.host_bytes(&asked);
-    assert_eq!((number, bytes(&messages.replace(' ', "")).len()), (0, 254));
-    bench.refused(6, &[asked, vec![5, 2]].concat());
-    // 50 attributes and one short one answer with 255 bytes.
-    let asked = [bytes("0A 00"), [2, 2, 65].repeat(50)].concat();
-    assert_eq!(bench.host_bytes(&asked).0, 0);
-    bench.refused(6, &[asked, vec![5, 2]].concat());
+    for more in 0..8 {
+        let (number, _, answer) = bench.host_bytes(&asked_for(MESSAGE_AREA - more));
+        assert_eq!((number, bytes(&answer).len() + 2), (0, MESSAGE_AREA - more));
+        bench.refused(6, &asked_for(MESSAGE_AREA + 1 + more));
+    }
+}
+
+/// Asks for an answer that takes so much of the message area: its length, type and
+/// flags are four bytes, attributes five each, the others three.
+fn asked_for(length: usize) -> Vec<u8> {
+    let plain = |attributes: usize| length - 4 - 5 * attributes;
+    let attributes = (0..3).find(|count| plain(*count).is_multiple_of(3)).expect("one of three");
+    let plain = plain(attributes) / 3;
+    [vec![10, 0], [2, 2, 65].repeat(attributes), [4, 2].repeat(plain)].concat()
 }
 
 #[test]

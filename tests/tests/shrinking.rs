@@ -70,7 +70,7 @@ fn a_program_that_stops_is_shown_at_its_last_order() {
         let end = whole.iter().position(|byte| *byte == b'?').unwrap_or(whole.len());
         whole[..end].to_vec()
     };
-    let script = b"A 4096 256\nS\nF\nX\nS";
+    let script = b"A 0 0\nS\nF\nX\nS";
     let found = difference(script, &right, &halting).unwrap();
     assert_eq!((found.script, found.order), (b"X".to_vec(), (1, "X".into())));
     assert_eq!((&found.expected[..], &found.answered[..]), ("?", ""));

@@ -35,7 +35,7 @@ pub fn settings_script(seed: u64, calls: usize) -> String {
             0 => generator.fresh(),
             1 => generator.asks(),
             2 | 3 => generator.probe(),
-            4..=8 => generator.moved(),
+            4..=6 => generator.moved(),
             _ => generator.refused(),
         }
     }

@@ -36,9 +36,10 @@ fn affix(random: &mut Random) -> (u8, u8) {
 
 /// A Write that is carried, of every kind.
 fn write(random: &mut Random) -> Write {
-    let length = match random.below(10) {
-        0 | 1 => 0,
-        2 => random.below(LONGEST_DATA + 1),
+    let length = match random.below(40) {
+        0..=7 => 0,
+        8 => random.below(LONGEST_DATA + 1),
+        9..=11 => random.below(200),
         _ => random.below(20),
     };
     let mut data: Vec<u8> = (0..length).map(|_| typing::written(random)).collect();

@@ -1,11 +1,18 @@
 //! A bench: a line with what it wrote, in hexadecimal. What a test does on it
 //! is done again by the proved program, which must answer the same.
-#![allow(dead_code)]
+#![allow(dead_code, unused_imports)]
 
 use second::compare;
 use second::line::{Answer, Areas, Line};
 use second::script::{self, Order, Records, Reply, Runner};
+use second::settings::Form;
 use std::io::Write;
+
+pub use second::line::{MESSAGE_AREA, TERMINAL_AREA};
+pub use second::message::{BUFFER, LONGEST};
+
+/// The input buffer, as a count of characters.
+pub const WHOLE: usize = BUFFER as usize;
 
 pub fn bytes(hex: &str) -> Vec<u8> {
     let digits: Vec<u8> = hex.bytes().filter(|digit| *digit != b' ').collect();
@@ -109,6 +116,14 @@ impl Bench {
         hex(&section)
     }
 
+    /// A record of the other form, or the refusal.
+    pub fn moved(&mut self, to: Form, record: &[u8]) -> Result<String, u8> {
+        let Reply::Moved(moved) = self.obey(Order::Move(to, record.to_vec())) else {
+            panic!("not a move");
+        };
+        moved.map(|bytes| hex(&bytes))
+    }
+
     pub fn host(&mut self, message: &str) -> (u8, String, String) {
         self.host_bytes(&bytes(message))
     }
@@ -168,6 +183,10 @@ impl Bench {
         });
     }
 }
+
+/// What a line answers to an Initiate: 2,048 and 1,024 stand in it.
+pub const OUR_INITIATE: &str =
+    "01 00 01 00 00 20 20 20 20 20 20 20 20 01 02 00 08 02 02 00 04 03 02 FE 7F";
 
 /// Writes without output that lock and unlock.
 pub const LOCKING: &str = "07 01 00 00 00";
@@ -263,6 +282,23 @@ pub fn pair(terminal: &str, messages: &str) -> (String, String) {
 
 pub fn done(terminal: &str, messages: &str) -> (u8, String, String) {
     (0, terminal.to_string(), messages.to_string())
+}
+
+/// The answers of both programs to a script.
+pub fn run(text: &str) -> String {
+    compare::check(text.as_bytes());
+    String::from_utf8(script::run(text.as_bytes()).0).unwrap()
+}
+
+/// A number in two bytes, low byte first.
+pub fn word(number: usize) -> String {
+    hex(&(number as u16).to_le_bytes())
+}
+
+/// How many spaces the echo of so many tabs has from column 0: 125 tabs of eight
+/// go to the top column, and there each has one.
+pub fn spaces(tabs: usize) -> usize {
+    tabs.min(125) * 8 + tabs.saturating_sub(125)
 }
 
 /// What rubbing out so many marks writes.

@@ -204,21 +204,22 @@ fn an_immediate_clear_without_a_read() {
 
 #[test]
 fn the_longest_answers() {
-    // Tabs: 125 of eight spaces each to the top column, then six of one.
-    let tabs = [HT; 131];
-    let rub_outs = rubbed(125 * 8 + 6);
+    let tabs = [HT; WHOLE - 1];
+    let rub_outs = rubbed(spaces(tabs.len()));
     let mut bench = full(&[DELETE_LINE_KEY]);
-    start(ZZ1, b"", &tabs).max(132).on(&mut bench);
+    start(ZZ1, b"", &tabs).max(BUFFER).on(&mut bench);
     assert_eq!(bench.key(b'z'), done(&format!("07 {rub_outs}"), ""));
     // A clear rubs all out too, and its step completes an empty read.
     let mut bench = Bench::initiated();
-    start(ZZ1 | Q, b"", &tabs).max(132).timeout(0).on(&mut bench);
+    start(ZZ1 | Q, b"", &tabs).max(BUFFER).timeout(0).on(&mut bench);
     assert_eq!(bench.key(CLEAR_KEY), done(&rub_outs, "03 05 00 00 00 00 00 00"));
     // The longest Read Data behind an Out-of-Band.
     let mut bench = waiting(b"a");
     assert_eq!(bench.number(MAKE_HELLO), 0);
-    let text = [b'x'; 131];
-    start(ZZ1, b"", &text).max(132).on(&mut bench);
-    let answer = format!("{TOLD} | 03 04 83 00 00 84 84 00 {} 61", hex(&text));
+    let text = [b'x'; WHOLE - 1];
+    start(ZZ1, b"", &text).max(BUFFER).on(&mut bench);
+    // The top column is E7 modulo 256.
+    let (low_water, end) = (word(WHOLE - 1), word(WHOLE));
+    let answer = format!("{TOLD} | 03 04 {low_water} 00 E7 {end} {} 61", hex(&text));
     assert_eq!(bench.key(BAND_KEY), done("61", &answer));
 }

@@ -1,7 +1,6 @@
 //! Points 43 to 46: found on the way.
 
 use crate::common::*;
-use second::{compare, script};
 
 #[test]
 fn point_43_low_water_below_the_prompt_stays() {
@@ -32,12 +31,6 @@ fn point_45_a_parameter_is_its_bytes() {
     for short in ["0B 00 04 02 01 02 02 41 FF", "0B 00 04", "0A 00 04 02 02 02", "0A 00 04 02 05"] {
         assert_eq!(bench.copied(&bytes(short)), Err(5), "{short}");
     }
-}
-
-/// The answers of both programs.
-fn run(text: &str) -> String {
-    compare::check(text.as_bytes());
-    String::from_utf8(script::run(text.as_bytes()).0).unwrap()
 }
 
 #[test]

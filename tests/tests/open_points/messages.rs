@@ -85,7 +85,7 @@ fn point_08_five_before_six() {
     let mut bench = Bench::initiated();
     bench.refused(5, &bytes("0A 00 01 02 0B 02"));
     bench.refused(5, &bytes("07 00 0B 00 00"));
-    bench.refused(5, &start(K | ZZ2, b"", b"").max(133).bytes());
+    bench.refused(5, &start(K | ZZ2, b"", b"").max(BUFFER + 1).bytes());
 }
 
 #[test]
@@ -100,9 +100,8 @@ fn point_09_no_parameters_and_repeated_ones() {
 
 #[test]
 fn point_10_our_initiate() {
-    let ours = "01 00 01 00 00 20 20 20 20 20 20 20 20 01 02 00 01 02 02 84 00 03 02 FE 7F";
     let mut bench = Bench::default();
-    assert_eq!(bench.host("01 00 00 00 00 00 00 00 00 00 00 00 00"), done("", ours));
+    assert_eq!(bench.host("01 00 00 00 00 00 00 00 00 00 00 00 00"), done("", OUR_INITIATE));
 }
 
 #[test]
@@ -167,10 +166,11 @@ fn point_16_fields_are_kept() {
 #[test]
 fn point_17_writing_without_a_line() {
     let other = |kind, length| Message::Other { kind, body: vec![0; length] };
-    assert_eq!(write(&other(15, 255), 255), Err(1));
-    assert_eq!(write(&other(15, 256), 256), Err(2));
-    assert_eq!(write(&other(15, 255), 256), Err(3));
-    assert_eq!(write(&other(1, 255), 256), Err(5));
+    assert_eq!(write(&other(15, LONGEST - 1), LONGEST - 1), Err(1));
+    assert_eq!(write(&other(15, LONGEST), LONGEST - 1), Err(1));
+    assert_eq!(write(&other(15, LONGEST), LONGEST), Err(2));
+    assert_eq!(write(&other(15, LONGEST - 1), LONGEST), Err(3));
+    assert_eq!(write(&other(1, LONGEST - 1), LONGEST), Err(5));
     let unsound = [
         Message::Write(Write { lock: 4, ..Write::default() }),
         Message::Write(Write { prefix: 3, ..Write::default() }),
@@ -189,21 +189,28 @@ fn point_17_writing_without_a_line() {
         Message::ReadCharacteristics(vec![Wanted::Plain(0x20B)]),
     ];
     for message in unsound {
-        assert_eq!(write(&message, 256), Err(5), "{message:?}");
+        assert_eq!(write(&message, LONGEST), Err(5), "{message:?}");
     }
     // The length comes before the values.
-    let long = Write { lock: 4, data: vec![0; 252], ..Write::default() };
-    assert_eq!(write(&Message::Write(long), 256), Err(2));
-    let parameters = vec![(1, vec![0; 256])];
-    let long = Initiate { version: [0; 3], revision: [0; 8], parameters };
-    assert_eq!(write(&Message::Initiate(long), 256), Err(2));
+    let long = |data| Message::Write(Write { lock: 4, data: vec![0; data], ..Write::default() });
+    assert_eq!(write(&long(LONGEST - 4), LONGEST), Err(2));
+    assert_eq!(write(&long(LONGEST - 5), LONGEST), Err(5));
+    // A parameter whose count needs a second byte: 13 bytes and two stand before.
+    let long = |length| {
+        let parameters = vec![(1, vec![0; length])];
+        Message::Initiate(Initiate { version: [0; 3], revision: [0; 8], parameters })
+    };
+    assert_eq!(write(&long(LONGEST - 14), LONGEST), Err(2));
+    assert_eq!(write(&long(LONGEST - 15), LONGEST), Err(5));
+    assert_eq!(write(&long(256), LONGEST), Err(5));
+    assert_eq!(write(&long(255), LONGEST).map(|bytes| bytes.len()), Ok(15 + 255));
 }
 
 #[test]
 fn point_18_the_buffer_limit_without_a_line() {
     let mut bench = Bench::default();
-    assert!(bench.copied(&start(ZZ2, b"", b"").max(132).bytes()).is_ok());
-    assert_eq!(bench.copied(&start(ZZ2, b"", b"").max(133).bytes()), Err(5));
+    assert!(bench.copied(&start(ZZ2, b"", b"").max(BUFFER).bytes()).is_ok());
+    assert_eq!(bench.copied(&start(ZZ2, b"", b"").max(BUFFER + 1).bytes()), Err(5));
 }
 
 #[test]

@@ -1,7 +1,7 @@
 //! Asking for a section, and the script lines.
 
 use super::*;
-use second::{compare, script, settings};
+use second::settings;
 
 #[test]
 fn the_own_section_comes_before_the_sites() {
@@ -69,13 +69,7 @@ fn asking_leaves_the_line() {
     bench.unchanged(|bench| {
         assert_eq!(bench.section(4, &full(), &full()), "50");
     });
-    assert_eq!(bench.host_bytes(&start(ZZ2, b"", b"").max(132).bytes()).0, 0);
-}
-
-/// The answers of both programs.
-fn run(text: &str) -> String {
-    compare::check(text.as_bytes());
-    String::from_utf8(script::run(text.as_bytes()).0).unwrap()
+    assert_eq!(bench.host_bytes(&start(ZZ2, b"", b"").max(BUFFER).bytes()).0, 0);
 }
 
 const NONE: &str = "010000000000000000";

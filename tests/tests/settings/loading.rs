@@ -4,7 +4,6 @@ use super::*;
 use second::{compare, script};
 
 const INITIATE: &str = "01 00 01 00 00 20 20 20 20 20 20 20 20";
-const OURS: &str = "01 00 01 00 00 20 20 20 20 20 20 20 20 01 02 00 01 02 02 84 00 03 02 FE 7F";
 const UNREAD: &str = "05 00";
 
 /// The four switches as Read Characteristics tells them.
@@ -42,8 +41,8 @@ fn loading_works_before_initiate_and_initiate_keeps_what_was_loaded() {
     let mut bench = Bench::default();
     let own = record([&switches(&[RAISE, PROMPT]), &[3, 3], &set(b"q"), &[80]]);
     assert_eq!(bench.load(&own, &nothing()), 0);
-    // Our Initiate offers 132 as ever.
-    assert_eq!(bench.host(INITIATE), done("", OURS));
+    // Our Initiate offers the whole buffer as ever.
+    assert_eq!(bench.host(INITIATE), done("", OUR_INITIATE));
     assert_eq!(told_switches(&mut bench), [RAISE, PROMPT]);
     assert_eq!(bench.key(3), done("", "04 00 03"));
     assert_eq!((number_at(&mut bench, 81), number_at(&mut bench, 80)), (5, 0));
@@ -164,15 +163,25 @@ fn a_pending_read_keeps_its_set() {
 }
 
 #[test]
-fn the_largest_read_replaces_132() {
-    for largest in 0..=132 {
-        let mut bench = Bench::initiated();
-        assert_eq!(bench.load(&only(4, &[largest]), &nothing()), 0);
-        let largest = u16::from(largest);
-        assert_eq!(number_at(&mut bench, largest), 0);
-        for over in [1, 2, 133 - largest, 256] {
-            bench.refused(5, &start(ZZ2, b"", b"").max(largest + over).bytes());
-        }
+fn the_largest_read_replaces_the_buffer() {
+    for largest in 0..=TOP_1 {
+        replaced(&only(4, &[largest as u8]), largest);
+    }
+    let edges = [TOP_1, u16::from(u8::MAX), 512, TOP_2];
+    let about = edges.into_iter().flat_map(|edge| edge - 2..=edge + 2);
+    for largest in about.filter(|number| *number <= TOP_2).chain([0, 1, 2, 80]) {
+        replaced(&largest_2(largest), largest);
+    }
+}
+
+/// No read is larger than the one in this record.
+fn replaced(record: &[u8], largest: u16) {
+    let mut bench = Bench::initiated();
+    assert_eq!(number_at(&mut bench, BUFFER), 0);
+    assert_eq!(bench.load(record, &nothing()), 0);
+    assert_eq!(number_at(&mut bench, largest), 0);
+    for over in [1, 2, BUFFER + 1 - largest, 256] {
+        bench.refused(5, &start(ZZ2, b"", b"").max(largest + over).bytes());
     }
 }
 
@@ -205,12 +214,12 @@ fn the_largest_read_is_a_5_before_any_6_and_behind_4() {
 }
 
 #[test]
-fn without_a_line_the_test_keeps_132() {
+fn without_a_line_the_test_keeps_the_buffer() {
     let mut bench = Bench::initiated();
     assert_eq!(bench.load(&only(4, &[10]), &nothing()), 0);
-    let read = start(ZZ2, b"", b"").max(132).bytes();
+    let read = start(ZZ2, b"", b"").max(BUFFER).bytes();
     assert_eq!(bench.copied(&read), Ok(hex(&read)));
-    assert_eq!(bench.copied(&start(ZZ2, b"", b"").max(133).bytes()), Err(5));
+    assert_eq!(bench.copied(&start(ZZ2, b"", b"").max(BUFFER + 1).bytes()), Err(5));
     bench.refused(5, &read);
 }
 
@@ -233,8 +242,8 @@ fn what_is_not_found_stays() {
     bench.unchanged(|bench| assert_eq!(bench.load(&nothing(), &nothing()), 0));
     assert_eq!(bench.load(&nothing(), &only(3, &set(b"z"))), 0);
     assert_eq!((number_at(&mut bench, 81), number_at(&mut bench, 80)), (5, 0));
-    assert_eq!(bench.load(&only(4, &[132]), &nothing()), 0);
-    assert_eq!((number_at(&mut bench, 132), number_at(&mut bench, 133)), (0, 5));
+    assert_eq!(bench.load(&only(4, &[TOP_1 as u8]), &nothing()), 0);
+    assert_eq!((number_at(&mut bench, TOP_1), number_at(&mut bench, TOP_1 + 1)), (0, 5));
     assert_eq!(bench.load(&only(1, &switches(&[ESCAPES])), &nothing()), 0);
     assert_eq!(told_switches(&mut bench), [ESCAPES]);
     assert_eq!(attribute(&mut bench, 65), 4);
@@ -277,7 +286,7 @@ fn an_unsound_record_leaves_the_line_as_it_was() {
     unsound(&mut bench, &spoiled);
     unsound(&mut bench, &full()[..28]);
     assert_eq!(bench.load(&full(), &nothing()), 0);
-    unsound(&mut bench, &only(4, &[133]));
+    unsound(&mut bench, &only(4, &[TOP_1 as u8 + 1]));
     assert_eq!((attribute(&mut bench, 3), attribute(&mut bench, 65)), (1, 4));
 }
 
@@ -286,7 +295,7 @@ fn a_load_changes_nothing_else() {
     let mut bench = Bench::initiated();
     start(ZZ2 | Q | EE2, b"? ", b"ab").timeout(2).on(&mut bench);
     bench.tick();
-    let quiet = record([&switches(&[ECHO]), &[200, 4], &set(b"q"), &[132]]);
+    let quiet = record([&switches(&[ECHO]), &[200, 4], &set(b"q"), &[TOP_1 as u8]]);
     assert_eq!(bench.load(&quiet, &nothing()), 0);
     // The idle second before it counts.
     assert_eq!(bench.tick(), done("", "03 05 04 00 00 04 02 00 61 62"));
@@ -311,16 +320,16 @@ fn a_load_changes_nothing_else() {
 #[test]
 fn a_line_may_be_loaded_any_number_of_times() {
     let mut bench = Bench::initiated();
-    for largest in (0..=132).chain((0..=132).rev()) {
-        assert_eq!(bench.load(&nothing(), &only(4, &[largest])), 0);
-        assert_eq!(number_at(&mut bench, u16::from(largest)), 0);
-        assert_eq!(number_at(&mut bench, u16::from(largest) + 1), 5);
+    for largest in (0..=TOP_2).chain((0..=TOP_2).rev()) {
+        assert_eq!(bench.load(&nothing(), &largest_2(largest)), 0);
+        assert_eq!(number_at(&mut bench, largest), 0);
+        assert_eq!(number_at(&mut bench, largest + 1), 5);
     }
 }
 
 #[test]
 fn a_fresh_line_has_nothing_loaded() {
-    let read = hex(&start(ZZ2, b"", b"").max(132).bytes()).replace(' ', "");
+    let read = hex(&start(ZZ2, b"", b"").max(BUFFER).bytes()).replace(' ', "");
     let (record, none) = (hex(&full()).replace(' ', ""), hex(&nothing()).replace(' ', ""));
     let initiate = INITIATE.replace(' ', "");
     let start = format!("M {initiate}\nM {read}\n");

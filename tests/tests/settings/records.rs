@@ -1,4 +1,4 @@
-//! What makes a record of form 1 sound.
+//! What makes a record of form 1 sound, and the form byte.
 
 use super::*;
 
@@ -30,12 +30,12 @@ fn a_length_may_need_its_high_byte() {
 }
 
 #[test]
-fn the_form_byte_is_1() {
+fn the_form_byte_is_1_or_2() {
     let mut bench = Bench::default();
-    for form in (0..=255).filter(|form| *form != 1) {
-        let mut record = nothing();
-        record[0] = form;
-        unsound(&mut bench, &record);
+    for form in 0..=255 {
+        let judge = if form == 1 || form == 2 { sound } else { unsound };
+        judge(&mut bench, &record_of(form, [&[]; 4]));
+        judge(&mut bench, &only_of(form, 2, &[65, 4]));
     }
 }
 
@@ -168,9 +168,10 @@ fn a_set_has_at_most_32_bytes() {
 
 #[test]
 fn the_largest_read_is_none_or_one_byte_to_132() {
+    assert_eq!(TOP_1, 132);
     let mut bench = Bench::default();
     for largest in 0..=255 {
-        let judge = if largest <= 132 { sound } else { unsound };
+        let judge = if u16::from(largest) <= TOP_1 { sound } else { unsound };
         judge(&mut bench, &only(4, &[largest]));
         unsound(&mut bench, &only(4, &[largest, 0]));
     }
@@ -185,7 +186,7 @@ fn a_record_over_600_bytes_is_unsound() {
         unsound(&mut bench, &record);
     }
     let attributes: Vec<u8> = (0..=255).flat_map(|code| [code, 127]).collect();
-    let longest = record([&switches(&[]), &attributes, &[255; 32], &[132]]);
+    let longest = record([&switches(&[]), &attributes, &[255; 32], &[TOP_1 as u8]]);
     assert_eq!(longest.len(), 566);
     sound(&mut bench, &longest);
 }
@@ -213,7 +214,7 @@ fn only_a_few_changes_of_one_byte_leave_a_record_sound() {
             18 | 20 => (0..128).filter(attribute).collect(),
             23 | 24 => (0..=255).collect(),
             25 => (1..=255).collect(),
-            28 => (0..=132).collect(),
+            28 => (0..=TOP_1 as u8).collect(),
             _ => vec![whole[place]],
         };
         assert_eq!(taken, expected, "byte {place}");

@@ -108,15 +108,15 @@ fn point_104_an_alarm_in_mid_line() {
 
 #[test]
 fn point_109_the_longest_write_and_a_redisplay_of_tabs() {
-    // Tabs: 125 of eight spaces each to the top column, then six of one.
-    let tabs = [b'\t'; 131];
+    let tabs = [HT; WHOLE - 1];
     let mut bench = Bench::initiated();
-    let spaces = " 20".repeat(125 * 8 + 6);
-    let shown = start(ZZ1, b"", &tabs).max(132).on(&mut bench).0;
+    let spaces = " 20".repeat(spaces(tabs.len()));
+    let shown = start(ZZ1, b"", &tabs).max(BUFFER).on(&mut bench).0;
     assert_eq!(format!(" {shown}"), spaces);
     let all = REDISPLAY_AFTER | L | PP1 | QQ1;
-    let longest = write(all, &[b'A'; 251]).prefix(u8::MAX).postfix(u8::MAX);
+    let text = [b'A'; LONGEST - 5];
+    let longest = write(all, &text).prefix(u8::MAX).postfix(u8::MAX);
     let lines = format!("0D{}", " 0A".repeat(255));
-    let data = " 41".repeat(251);
+    let data = " 41".repeat(text.len());
     assert_eq!(longest.shown(&mut bench), format!("{lines}{data} {lines} 0A 0D 0A{spaces}"));
 }
