@@ -1,11 +1,13 @@
 //! What the programs that measure share: the lengths that they measure at, the
 //! mean of several runs, and processor time.
 
+use crate::message::BUFFER;
 use std::io;
 
 /// How many characters are in the buffer when the key of a cycle arrives; its
-/// rub-out finds one more. At 131 a key would end the read.
-pub const LENGTHS: [usize; 9] = [0, 16, 32, 48, 64, 80, 96, 112, 130];
+/// rub-out finds one more, in the last the most that a pending read can have: one
+/// more key would end it.
+pub const LENGTHS: [usize; 8] = [0, 16, 64, 130, 256, 512, 768, BUFFER as usize - 2];
 
 /// The mean of all but the fastest and the slowest ninth.
 pub fn middle(seconds: &[f64]) -> f64 {

@@ -6,7 +6,7 @@
 //! same script with the last byte of each line spoiled is subtracted: as many
 //! bytes, read and taken apart up to the last, and no call.
 
-use second::message::{self, Message, StartRead};
+use second::message::{self, Message, StartRead, BUFFER};
 use second::script::{lines, Order};
 use second::timing::{middle, processor_time, Whose, LENGTHS};
 use second::{compare, generator, replay};
@@ -17,8 +17,8 @@ use std::path::Path;
 use std::process::{Command, Stdio};
 
 const RUNS: usize = 45;
-/// The keystroke scripts, all but the first, run in one turn of so many: nine of
-/// them would take most of the time.
+/// The keystroke scripts, all but the first, run in one turn of so many: they
+/// would take most of the time.
 const SELDOM: usize = 3;
 const CALLS: usize = 1_000_000;
 const CYCLES: usize = 100_000;
@@ -117,7 +117,7 @@ fn spoil(script: &[u8]) -> Vec<u8> {
 fn typing(length: usize) -> String {
     let start = StartRead {
         which_set: 2,
-        max_length: 132,
+        max_length: BUFFER,
         end_of_data: length as u16,
         low_water: length as u16,
         data: vec![b'g'; length],

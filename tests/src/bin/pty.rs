@@ -25,7 +25,7 @@
 //! in elapsed time is nearly the line discipline alone.
 
 use second::timing::{middle, processor_time, Whose, LENGTHS};
-use std::ffi::{c_char, c_int, CStr, OsStr};
+use std::ffi::{c_char, c_int, c_uint, CStr, OsStr};
 use std::fs::{File, OpenOptions};
 use std::io::{self, Read, Write};
 use std::os::fd::{AsRawFd, FromRawFd};
@@ -36,6 +36,10 @@ use std::time::Instant;
 /// All tables, lengths and modes take turns. With the rounds of a run this keeps
 /// the program under 15 seconds where waking is slow.
 const RUNS: usize = 27;
+
+/// A run takes less than a second. One that waits for an echo that never comes is
+/// ended by the kernel after so many.
+const PATIENCE: c_uint = 20;
 
 const KEY: &[u8] = b"g";
 const RUB_OUT: &[u8] = b"\x7F";
@@ -96,6 +100,8 @@ fn together() -> Pace {
 /// Seconds a cycle of one run, elapsed and of the processor, with so many
 /// characters typed into the line before. Raw mode keeps none of them.
 fn run(pace: &Pace, mode: Mode, length: usize) -> io::Result<[f64; 2]> {
+    // Safe: it is handed a number. It counts anew in each run.
+    unsafe { alarm(PATIENCE) };
     let mut pty = Pty::open(mode)?;
     let before = KEY.repeat(length);
     pty.exchange(&before, &before)?;
@@ -236,6 +242,7 @@ const TCSANOW: c_int = 0;
 const LONGEST_NAME: usize = 64;
 
 extern "C" {
+    fn alarm(seconds: c_uint) -> c_uint;
     fn posix_openpt(flags: c_int) -> c_int;
     fn grantpt(master: c_int) -> c_int;
     fn unlockpt(master: c_int) -> c_int;

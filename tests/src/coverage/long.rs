@@ -71,11 +71,7 @@ pub struct Long {
 
 impl Default for Long {
     fn default() -> Self {
-        Long {
-            things: [0; THINGS.len()],
-            returned: Default::default(),
-            reads: Default::default(),
-        }
+        Long { things: [0; THINGS.len()], returned: Default::default(), reads: Default::default() }
     }
 }
 

@@ -155,7 +155,8 @@ fn lengthen(random: &mut Random, read: &mut StartRead, room: u16) {
     let before_top = end.min(usize::from(TOP) - random.below(20));
     let anywhere = random.below(end + 1);
     read.end_of_prompt = random.pick(&[0, 0, 2.min(end), anywhere, before_top, end]) as u16;
-    read.low_water = if random.chance(60) { read.end_of_data } else { random.below(end + 1) as u16 };
+    read.low_water =
+        if random.chance(60) { read.end_of_data } else { random.below(end + 1) as u16 };
     read.clear = random.chance(3);
     read.timeout = random.pick(&[0, 1, 1, 2]);
 }

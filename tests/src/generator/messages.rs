@@ -3,7 +3,9 @@
 use super::random::Random;
 use super::{typing, writes};
 use crate::line::MESSAGE_AREA;
-use crate::message::{self, Initiate, Message, ReadData, StartRead, Value, Wanted, BUFFER, LONGEST};
+use crate::message::{
+    self, Initiate, Message, ReadData, StartRead, Value, Wanted, BUFFER, LONGEST,
+};
 
 const BOOLEANS: [u16; 7] = [0x201, 0x203, 0x204, 0x205, 0x206, 0x207, 0x209];
 const CARRIED: [u16; 4] = [0x204, 0x205, 0x206, 0x209];
@@ -49,7 +51,9 @@ const ORDINARY: usize = 120;
 /// MAX-LENGTH, END-OF-DATA and END-OF-PROMPT.
 fn lengths(random: &mut Random) -> (usize, usize, usize) {
     let whole = usize::from(BUFFER);
-    let max = random.pick(&[0, 1, 2, 3, 5, 10, 16, 20, 40, 60, 80, 80, ORDINARY, ORDINARY, whole, whole, whole]);
+    let max = random.pick(&[
+        0, 1, 2, 3, 5, 10, 16, 20, 40, 60, 80, 80, ORDINARY, ORDINARY, whole, whole, whole,
+    ]);
     let end = match random.below(16) {
         0 => max,
         1..=10 => random.below(max.min(6) + 1),

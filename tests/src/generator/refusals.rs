@@ -58,7 +58,8 @@ impl Generator {
     }
 
     pub(super) fn wrong_length(&mut self) {
-        let length = self.random.pick(&[0, LONGEST - 1, LONGEST, LONGEST + 1, LONGEST + 2, LONGEST + 50]);
+        let length =
+            self.random.pick(&[0, LONGEST - 1, LONGEST, LONGEST + 1, LONGEST + 2, LONGEST + 50]);
         let mut bytes = vec![b'a'; length];
         let front = [7, 32, 0, 0, 0];
         for (place, byte) in bytes.iter_mut().zip(front) {

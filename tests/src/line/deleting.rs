@@ -10,11 +10,8 @@ use crate::screen::{self, CR, HT, LF, TOP};
 type Redisplays = [Thing; 3];
 pub(super) const BY_KEY: Redisplays =
     [Thing::RedisplayLongPrompt, Thing::RedisplayFull, Thing::RedisplayPassesTop];
-pub(super) const BY_WRITE: Redisplays = [
-    Thing::WriteRedisplaysLongPrompt,
-    Thing::WriteRedisplaysFull,
-    Thing::WriteRedisplaysPastTop,
-];
+pub(super) const BY_WRITE: Redisplays =
+    [Thing::WriteRedisplaysLongPrompt, Thing::WriteRedisplaysFull, Thing::WriteRedisplaysPastTop];
 
 impl Read {
     /// Marks and spaces in the echo of what stands from `end` on: the echo is

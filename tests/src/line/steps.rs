@@ -1,8 +1,8 @@
 //! One step and one tick.
 
+use super::deleting::BY_KEY;
 use super::reads::{BUFFER_FULL, TERMINATOR, TIMEOUT, UNDERFLOW};
 use super::tokens::{CSI, ESC};
-use super::deleting::BY_KEY;
 use super::{Answer, Key, Line};
 use crate::coverage::Rule;
 use crate::screen::{BEL, CR, HT, LF};

@@ -134,11 +134,9 @@ fn before_initiate_rule_4_alone_acts() {
 
 #[test]
 fn in_a_small_area_the_key_does_not_arrive() {
-    for (terminal, message) in [
-        (TERMINAL_AREA - 1, MESSAGE_AREA),
-        (TERMINAL_AREA, MESSAGE_AREA - 1),
-        (0, 0),
-    ] {
+    for (terminal, message) in
+        [(TERMINAL_AREA - 1, MESSAGE_AREA), (TERMINAL_AREA, MESSAGE_AREA - 1), (0, 0)]
+    {
         let mut bench = full(b"ab");
         plain().on(&mut bench);
         let lent = bench.areas;

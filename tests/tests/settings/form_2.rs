@@ -64,13 +64,9 @@ fn the_form_byte_alone_decides_how_section_4_is_read() {
 fn the_rest_is_as_in_form_1() {
     let mut bench = Bench::default();
     let switches = switches(&[RAISE, PROMPT]);
-    for (number, section) in [
-        (1, &switches[..]),
-        (2, &[65, 1]),
-        (2, &[0, 127, 255, 4]),
-        (3, &[128]),
-        (3, &[255; 32]),
-    ] {
+    for (number, section) in
+        [(1, &switches[..]), (2, &[65, 1]), (2, &[0, 127, 255, 4]), (3, &[128]), (3, &[255; 32])]
+    {
         sound(&mut bench, &only_of(2, number, section));
     }
     for (number, section) in [

@@ -111,7 +111,10 @@ fn form_2_loads_what_form_1_does() {
         bench
     });
     let [one, two] = &mut lines;
-    assert_eq!(one.host("0A 00 04 02 05 02 06 02 09 02"), two.host("0A 00 04 02 05 02 06 02 09 02"));
+    assert_eq!(
+        one.host("0A 00 04 02 05 02 06 02 09 02"),
+        two.host("0A 00 04 02 05 02 06 02 09 02")
+    );
     for code in 0..=255 {
         assert_eq!(one.host_bytes(&[10, 0, 2, 2, code]), two.host_bytes(&[10, 0, 2, 2, code]));
     }
