@@ -31,7 +31,7 @@ fn moved(bytes: &[u8], from: Form, to: Form, area: usize) -> Result<Vec<u8>, u8>
         if number > to.top() {
             return Err(TOO_LARGE);
         }
-        largest = to.largest_read(number);
+        largest = to.largest_section(number);
     }
     let mut sections = record.sections;
     sections[LARGEST_READ] = &largest;

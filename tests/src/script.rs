@@ -263,13 +263,13 @@ impl Runner {
     }
 
     fn copy(&mut self, bytes: &[u8]) -> Result<Vec<u8>, u8> {
-        self.seen.long.copied(bytes.len());
         let copy = message::read(bytes).and_then(|read| {
             self.seen.read[usize::from(read.kind())] += 1;
             message::write(&read, message::LONGEST)
         });
         let number = *copy.as_ref().err().unwrap_or(&0);
         self.seen.read_numbers[usize::from(number)] += 1;
+        self.seen.long.copied(bytes, number);
         copy
     }
 

@@ -37,7 +37,7 @@ impl Form {
 
     /// The section that says this largest read, low byte first. In form 1 only
     /// the low byte is there, and it is all there is to a number up to its top.
-    pub fn largest_read(self, number: u16) -> Vec<u8> {
+    pub fn largest_section(self, number: u16) -> Vec<u8> {
         number.to_le_bytes()[..self.width()].to_vec()
     }
 

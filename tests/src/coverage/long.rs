@@ -28,7 +28,8 @@ things! {
     RedisplayLongPrompt, RedisplayFull, RedisplayPassesTop,
     WriteRedisplaysLongPrompt, WriteRedisplaysFull, WriteRedisplaysPastTop,
     // Messages, on a line and without one.
-    MessageOneLess, MessageLongest, MessageOneMore, ReadLongest, ReadOneMore,
+    MessageOneLess, MessageLongest, MessageOneMore, MessageOneMoreOfNoType, MessageOneMoreUnsound,
+    ReadLongest, ReadOneMore, ReadOneMoreOfNoType, ReadOneMoreUnsound,
     AnswerOneLess, AnswerFills, AnswerOneMore,
 }
 
@@ -60,13 +61,20 @@ pub const WATCHED: [u16; 8] = [
     BUFFER + 1,
 ];
 
+const PLACES: [&str; 2] = ["read of", "read without a line of"];
+const ON_A_LINE: usize = 0;
+const WITHOUT: usize = 1;
+const START_READ: u8 = 2;
+const UNREAD: u8 = 5;
+
 #[derive(Clone, Debug, PartialEq, Eq)]
 pub struct Long {
     things: [u64; THINGS.len()],
     /// By completion code.
     returned: [[u64; RETURNED.len()]; CODES],
-    /// Start Reads of a watched MAX-LENGTH, accepted and refused with 5.
-    reads: [[u64; 2]; WATCHED.len()],
+    /// Start Reads of a watched MAX-LENGTH, on a line and without one, accepted and
+    /// refused with 5.
+    reads: [[[u64; 2]; WATCHED.len()]; PLACES.len()],
 }
 
 impl Default for Long {
@@ -85,15 +93,15 @@ impl Long {
         self.things[thing as usize] += u64::from(holds);
     }
 
-    /// A Start Read has been judged.
-    pub fn read(&mut self, max_length: u16, number: u8) {
-        let side = match number {
-            0 => 0,
-            5 => 1,
-            _ => return,
-        };
-        if let Some(place) = WATCHED.iter().position(|length| *length == max_length) {
-            self.reads[place][side] += 1;
+    /// If it is a Start Read, it has been judged so.
+    fn read(&mut self, place: usize, bytes: &[u8], number: u8) {
+        let [START_READ, _, _, _, low, high, ..] = *bytes else { return };
+        let max_length = u16::from_le_bytes([low, high]);
+        let Some(watched) = WATCHED.iter().position(|length| *length == max_length) else { return };
+        match number {
+            0 => self.reads[place][watched][0] += 1,
+            5 => self.reads[place][watched][1] += 1,
+            _ => {}
         }
     }
 
@@ -145,17 +153,34 @@ impl Long {
         }
     }
 
-    /// A message of this length arrives at a line.
-    pub fn message(&mut self, length: usize) {
-        self.met_if(length == LONGEST - 1, Thing::MessageOneLess);
-        self.met_if(length == LONGEST, Thing::MessageLongest);
-        self.met_if(length == LONGEST + 1, Thing::MessageOneMore);
+    /// A message has arrived at a line, which answers this number.
+    pub fn message(&mut self, bytes: &[u8], number: u8) {
+        self.met_if(bytes.len() == LONGEST - 1, Thing::MessageOneLess);
+        self.met_if(bytes.len() == LONGEST, Thing::MessageLongest);
+        let things =
+            [Thing::MessageOneMore, Thing::MessageOneMoreOfNoType, Thing::MessageOneMoreUnsound];
+        self.one_more(bytes, things);
+        self.read(ON_A_LINE, bytes, number);
     }
 
-    /// A message of this length is read without a line.
-    pub fn copied(&mut self, length: usize) {
-        self.met_if(length == LONGEST, Thing::ReadLongest);
-        self.met_if(length == LONGEST + 1, Thing::ReadOneMore);
+    /// A message has been read without a line.
+    pub fn copied(&mut self, bytes: &[u8], number: u8) {
+        self.met_if(bytes.len() == LONGEST, Thing::ReadLongest);
+        self.one_more(
+            bytes,
+            [Thing::ReadOneMore, Thing::ReadOneMoreOfNoType, Thing::ReadOneMoreUnsound],
+        );
+        self.read(WITHOUT, bytes, number);
+    }
+
+    /// Too long by one byte, and what would be the next reasons to refuse it.
+    fn one_more(&mut self, bytes: &[u8], [any, of_no_type, unsound]: [Thing; 3]) {
+        if bytes.len() == LONGEST + 1 {
+            self.met_if(true, any);
+            self.met_if(!(1..=14).contains(&bytes[0]), of_no_type);
+            // A short message, with bytes left over.
+            self.met_if(bytes[0] == UNREAD, unsound);
+        }
     }
 
     /// An answer would take so much of the message area.
@@ -167,9 +192,9 @@ impl Long {
 
     pub fn add(&mut self, other: &Long) {
         let mine = self.things.iter_mut().chain(self.returned.as_flattened_mut());
-        let mine = mine.chain(self.reads.as_flattened_mut());
+        let mine = mine.chain(self.reads.as_flattened_mut().as_flattened_mut());
         let more = other.things.iter().chain(other.returned.as_flattened());
-        let more = more.chain(other.reads.as_flattened());
+        let more = more.chain(other.reads.as_flattened().as_flattened());
         mine.zip(more).for_each(|(mine, more)| *mine += more);
     }
 
@@ -182,11 +207,17 @@ impl Long {
             let counts = counts.filter(|(returned, _)| can_return(code, *returned));
             table.extend(counts.map(|(returned, n)| (format!("code {code}: {returned:?}"), n)));
         }
-        for (length, [accepted, refused]) in WATCHED.into_iter().zip(self.reads) {
-            if length <= BUFFER {
-                table.push((format!("read of {length}: 0"), accepted));
+        for (place, reads) in self.reads.iter().enumerate() {
+            for (length, [accepted, refused]) in WATCHED.into_iter().zip(*reads) {
+                let name = format!("{} {length}", PLACES[place]);
+                if length <= BUFFER {
+                    table.push((format!("{name}: 0"), accepted));
+                }
+                // On a line a loaded largest read refuses any.
+                if length > BUFFER || place == ON_A_LINE {
+                    table.push((format!("{name}: 5"), refused));
+                }
             }
-            table.push((format!("read of {length}: 5"), refused));
         }
         table
     }
@@ -228,6 +259,7 @@ mod tests {
         let asked = |name: &str| table.iter().any(|row| row.0 == name);
         assert!(asked("code 0: Whole") && !asked("code 5: Whole"));
         assert!(asked("code 7: HighLowWater") && !asked("code 7: Long"));
-        assert!(asked("read of 1024: 0") && !asked("read of 1025: 0"));
+        let named = |number: u8, length: u16| format!("read of {length}: {number}");
+        assert!(asked(&named(0, BUFFER)) && !asked(&named(0, BUFFER + 1)));
     }
 }

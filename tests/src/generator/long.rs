@@ -10,6 +10,7 @@ use crate::line::tokens::{CSI, ESC};
 use crate::line::MESSAGE_AREA;
 use crate::message::{Message, StartRead, Write, BUFFER, REDISPLAY_AFTER};
 use crate::screen::{BEL, CR, HT, LF, TOP};
+use crate::script::Order;
 
 const DELETE: u8 = 127;
 const DELETE_WORD: u8 = 23;
@@ -49,7 +50,8 @@ impl Generator {
             1 => self.wrong_length(),
             2 => self.longest_answer(),
             3 => self.largest_read(),
-            4..=8 => self.long_ending(),
+            4 => self.read_without_a_line(),
+            5..=8 => self.long_ending(),
             9 if self.random.below(TYPED_OUT) == 0 => self.typed_out(),
             _ => self.long_read(),
         }
@@ -132,6 +134,13 @@ impl Generator {
             let code = if self.random.chance(97) { b'a' } else { self.random.pick(&[HT, 1, 200]) };
             self.key(code);
         }
+    }
+
+    fn read_without_a_line(&mut self) {
+        let max_length = self.random.pick(&WATCHED);
+        let mut read = messages::start_read(&mut self.random);
+        messages::fit(&mut read, max_length.min(BUFFER));
+        self.order(Order::Read(messages::asking_for(max_length, read)));
     }
 
     /// Asks for so much that the answer about fills the message area.

@@ -110,6 +110,14 @@ pub fn fit(read: &mut StartRead, largest: u16) {
     read.data.truncate(usize::from(read.end_of_data));
 }
 
+/// The bytes of a read, with a MAX-LENGTH that may be more than any message could
+/// be written with.
+pub fn asking_for(max_length: u16, read: StartRead) -> Vec<u8> {
+    let mut bytes = bytes_of(&Message::StartRead(read));
+    bytes[4..6].copy_from_slice(&max_length.to_le_bytes());
+    bytes
+}
+
 /// Termination sets that end a read now and then, and some that end it often.
 pub fn set(random: &mut Random) -> Vec<u8> {
     let length = random.pick(&[0, 1, 2, 4, 9, 16, 32]);

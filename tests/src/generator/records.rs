@@ -31,7 +31,7 @@ pub fn sound(random: &mut Random) -> Vec<u8> {
 
 /// Sound sections; each is there this often in a hundred.
 fn sections(form: Form, often: usize, random: &mut Random) -> Sections {
-    let largest = form.largest_read(largest(form, random));
+    let largest = form.largest_section(largest(form, random));
     let all = [switches(random), attributes(random), set(random), largest];
     all.map(|section| if random.chance(often) { section } else { Vec::new() })
 }
@@ -156,12 +156,12 @@ fn damaged_largest(form: Form, random: &mut Random) -> Vec<u8> {
     let number = largest(form, random);
     let over = form.top() + 1;
     match (random.below(4), form) {
-        (0, _) => form.largest_read(over),
+        (0, _) => form.largest_section(over),
         (1, Form::One) => vec![random.between(usize::from(over), usize::from(u8::MAX)) as u8],
-        (1, Form::Two) => form.largest_read(random.next() as u16 | over),
+        (1, Form::Two) => form.largest_section(random.next() as u16 | over),
         // Sound in the other form, if it is not over there.
-        (2, Form::One) => Form::Two.largest_read(number),
-        (2, Form::Two) => Form::One.largest_read(number),
+        (2, Form::One) => Form::Two.largest_section(number),
+        (2, Form::Two) => Form::One.largest_section(number),
         // High byte first, which makes another number of most.
         (_, Form::Two) => number.to_be_bytes().to_vec(),
         (_, Form::One) => vec![0; random.between(2, 4)],

@@ -5,6 +5,9 @@ use crate::line::{Areas, MESSAGE_AREA, TERMINAL_AREA};
 use crate::message::{Message, Value, LONGEST};
 use crate::script::Order;
 
+/// A short message: bytes are left over.
+const UNREAD: u8 = 5;
+
 impl Generator {
     pub(super) fn small_areas(&mut self) {
         let [terminal, message] = [TERMINAL_AREA, MESSAGE_AREA].map(|least| {
@@ -61,7 +64,10 @@ impl Generator {
         let length =
             self.random.pick(&[0, LONGEST - 1, LONGEST, LONGEST + 1, LONGEST + 2, LONGEST + 50]);
         let mut bytes = vec![b'a'; length];
-        let front = [7, 32, 0, 0, 0];
+        // Sound Writes, and what would be refused with 3 or 5 too.
+        let write = [7, 32, 0, 0, 0];
+        let kind = self.random.byte();
+        let front = self.random.pick(&[write, write, [UNREAD; 5], [kind; 5], [0; 5]]);
         for (place, byte) in bytes.iter_mut().zip(front) {
             *place = byte;
         }

@@ -62,7 +62,7 @@ impl Generator {
 
     /// A small largest read would leave little to see in what follows.
     pub(super) fn load_room(&mut self) {
-        self.load_section(Form::Two, LARGEST_READ, Form::Two.largest_read(BUFFER));
+        self.load_section(Form::Two, LARGEST_READ, Form::Two.largest_section(BUFFER));
     }
 
     /// Loads before Initiate, which has to keep what they left.
@@ -149,7 +149,7 @@ impl Generator {
     pub(super) fn largest_read(&mut self) {
         let form = self.random.pick(&FORMS);
         let largest = records::largest(form, &mut self.random);
-        self.load_section(form, LARGEST_READ, form.largest_read(largest));
+        self.load_section(form, LARGEST_READ, form.largest_section(largest));
         for _ in 0..self.random.between(1, 4) {
             self.make_way();
             let mut read = messages::start_read(&mut self.random);
@@ -161,13 +161,10 @@ impl Generator {
                 _ => {}
             }
             read.data.truncate(usize::from(read.end_of_data - read.start_of_display));
-            let mut bytes = messages::bytes_of(&Message::StartRead(read));
-            // MAX-LENGTH may be more than any message could be written with.
             let above = largest + self.random.pick(&[0, 0, 1, 1, 2, 256]);
             let watched = self.random.pick(&WATCHED);
             let asked = self.random.pick(&[above, watched]);
-            bytes[4..6].copy_from_slice(&asked.to_le_bytes());
-            self.send(&bytes);
+            self.send(&messages::asking_for(asked, read));
             self.type_keys(4);
         }
     }

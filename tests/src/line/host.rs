@@ -8,7 +8,7 @@ use crate::message::{
 };
 
 const INITIATE: u8 = 1;
-pub(super) const START_READ: u8 = 2;
+const START_READ: u8 = 2;
 
 /// The used bits of an attribute, which our answer's MASK names.
 const USED_BITS: u8 = 127;

@@ -13,7 +13,6 @@ use crate::coverage::steps::StepKind;
 use crate::coverage::{Coverage, Rule};
 use crate::message::{self, Message, BUFFER};
 use crate::screen::{Screen, TOP};
-use host::START_READ;
 use loading::Loaded;
 use std::collections::VecDeque;
 
@@ -223,12 +222,8 @@ impl Line {
             return answer;
         }
         let mut out = Answer::default();
-        self.seen.long.message(bytes.len());
         let judged = self.judge(bytes);
-        if let [START_READ, _, _, _, low, high, ..] = *bytes {
-            let number = *judged.as_ref().err().unwrap_or(&0);
-            self.seen.long.read(u16::from_le_bytes([low, high]), number);
-        }
+        self.seen.long.message(bytes, *judged.as_ref().err().unwrap_or(&0));
         match judged {
             Ok(message) => {
                 self.seen.received[usize::from(message.kind())] += 1;

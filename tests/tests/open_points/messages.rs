@@ -191,7 +191,10 @@ fn point_17_writing_without_a_line() {
     for message in unsound {
         assert_eq!(write(&message, LONGEST), Err(5), "{message:?}");
     }
-    // The length comes before the values.
+}
+
+#[test]
+fn point_17_the_length_comes_before_the_values() {
     let long = |data| Message::Write(Write { lock: 4, data: vec![0; data], ..Write::default() });
     assert_eq!(write(&long(LONGEST - 4), LONGEST), Err(2));
     assert_eq!(write(&long(LONGEST - 5), LONGEST), Err(5));
