@@ -1,6 +1,6 @@
 //! A host message arrives: the refusals in their order, then what it does.
 
-use super::{Answer, Line, Loaded, MESSAGE_AREA};
+use super::{Answer, Line, Loaded, LENGTH, MESSAGE_AREA};
 use crate::coverage::Rule;
 use crate::message::{
     self, Fault, Initiate, Message, StartRead, Value, Wanted, AUTO_PROMPT, BUFFER, INPUT_ESCAPES,
@@ -98,7 +98,7 @@ impl Line {
 
     /// How much of the message area the answer takes, with its length.
     fn answer_length(&self, wanted: &[Wanted]) -> usize {
-        self.characteristics_answer(wanted).len() + 2
+        self.characteristics_answer(wanted).len() + LENGTH
     }
 
     /// The length matters before the answer is known to fit, so the answer is

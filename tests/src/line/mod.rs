@@ -19,6 +19,8 @@ use std::collections::VecDeque;
 pub const TYPE_AHEAD: usize = 64;
 pub const TERMINAL_AREA: usize = 32_768;
 pub const MESSAGE_AREA: usize = 2_048;
+/// In the message area each message stands behind its length.
+pub const LENGTH: usize = 2;
 
 /// The lengths of the two areas lent to a call.
 #[derive(Clone, Copy, Debug, PartialEq, Eq)]
@@ -260,8 +262,9 @@ impl Line {
     }
 
     fn close(&mut self, out: Answer) -> Answer {
-        debug_assert!(out.terminal.len() <= TERMINAL_AREA);
-        debug_assert!(out.message_area().len() <= MESSAGE_AREA);
+        assert!(out.terminal.len() <= TERMINAL_AREA);
+        let message = |message: &Vec<u8>| LENGTH + message.len();
+        assert!(out.messages.iter().map(message).sum::<usize>() <= MESSAGE_AREA);
         self.seen.numbers[0] += 1;
         let wrote = !out.terminal.is_empty();
         self.seen.met_if(wrote && self.screen.column == TOP, Rule::ColumnTop);
