@@ -13,7 +13,7 @@ pub type Sections = [Vec<u8>; SECTIONS];
 
 /// Of a hundred largest reads so many are all that the form has room for, so
 /// that reads go on.
-const ROOMY: usize = 60;
+const ROOMY: usize = 40;
 
 /// A sound record with this section alone.
 pub fn only(form: Form, place: usize, section: Vec<u8>) -> Vec<u8> {

@@ -231,7 +231,9 @@ impl Generator {
     }
 
     fn refused_load(&mut self) {
-        self.refused();
+        for _ in 0..self.random.between(1, 6) {
+            self.refused();
+        }
         self.probe();
         self.type_keys(6);
     }
