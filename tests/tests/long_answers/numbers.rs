@@ -162,6 +162,22 @@ fn an_underflow_behind_a_long_prompt() {
 }
 
 #[test]
+fn positions_are_modulo_256_however_long_the_text() {
+    let mut bench = Bench::initiated();
+    // A Write: 1,000 marks are 999 columns, E7; 2,000 lines are D0.
+    let write = |byte: u8, count| [bytes("07 00 04 00 00"), vec![byte; count]].concat();
+    let shown = |byte: &str, count| byte.repeat(count).trim_end().to_owned();
+    let answer = done(&shown("78 ", 1_000), "08 00 E7 00 00 00");
+    assert_eq!(bench.host_bytes(&write(b'x', 1_000)), answer);
+    let answer = done(&shown("0A ", 2_000), "08 00 00 00 D0 00");
+    assert_eq!(bench.host_bytes(&write(b'\n', 2_000)), answer);
+    // A read whose prompt goes back to column 0, 999 back, and 1,000 lines down.
+    let prompt = [&[CR][..], &[b'\n'; 1_000]].concat();
+    roomy(&prompt, b"").on(&mut bench);
+    assert_eq!(bench.host(UNREAD), done("", "03 06 E9 03 E8 19 00 00"));
+}
+
+#[test]
 fn messages_without_a_line_keep_both_bytes() {
     let mut bench = Bench::default();
     let read_data = [bytes("03 04 34 12 00 E7 78 56"), vec![b'x'; LONGEST - 8]].concat();

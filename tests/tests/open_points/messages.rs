@@ -177,6 +177,8 @@ fn point_17_writing_without_a_line() {
         Message::ReadData(ReadData { code: 14, ..ReadData::default() }),
         Message::StartRead(StartRead { underflow: 3, ..StartRead::default() }),
         Message::StartRead(StartRead { set: vec![0; 33], ..StartRead::default() }),
+        // One byte would count 0 of them.
+        Message::StartRead(StartRead { set: vec![0; 256], ..StartRead::default() }),
         Message::Characteristics(vec![Value::CountState(0)]),
         Message::Characteristics(vec![Value::ErrorProcessing(16)]),
         Message::Characteristics(vec![Value::Boolean { selector: 0x20A, on: true }]),
