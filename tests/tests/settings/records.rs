@@ -1,6 +1,7 @@
 //! What makes a record of form 1 sound, and the form byte.
 
 use super::*;
+use second::settings::LONG;
 
 #[test]
 fn a_byte_1_then_four_sections_each_behind_its_length_low_byte_first() {
@@ -54,7 +55,7 @@ fn a_record_ends_behind_its_last_section() {
         for end in 0..record.len() {
             unsound(&mut bench, &record[..end]);
         }
-        for tail in [&[0][..], &[1], &[0, 0], &[0; 600]] {
+        for tail in [&[0][..], &[1], &[0, 0], &[0; LONG]] {
             unsound(&mut bench, &[&record[..], tail].concat());
         }
     }
@@ -178,17 +179,30 @@ fn the_largest_read_is_none_or_one_byte_to_132() {
 }
 
 #[test]
-fn a_record_over_600_bytes_is_unsound() {
+fn a_long_record_is_unsound() {
     let mut bench = Bench::default();
-    for length in [566, 600, 601, 602, 1000, 70_000] {
+    for length in [566, 567, LONG, LONG + 1, LONG + 2, 1_000, 70_000] {
         let mut record = full();
         record.resize(length, 0);
         unsound(&mut bench, &record);
     }
+}
+
+/// Behind the longest of each form, too, any byte is left over.
+#[test]
+fn the_longest_records() {
+    let mut bench = Bench::default();
     let attributes: Vec<u8> = (0..=255).flat_map(|code| [code, 127]).collect();
-    let longest = record([&switches(&[]), &attributes, &[255; 32], &[TOP_1 as u8]]);
-    assert_eq!(longest.len(), 566);
-    sound(&mut bench, &longest);
+    let (switches, set) = (switches(&[]), [255; 32]);
+    let one = record([&switches, &attributes, &set, &[TOP_1 as u8]]);
+    let two = record_of(2, [&switches, &attributes, &set, &[0, 4]]);
+    assert_eq!((one.len(), two.len()), (566, 567));
+    for longest in [one, two] {
+        sound(&mut bench, &longest);
+        for length in longest.len() + 1..=LONG + 3 {
+            unsound(&mut bench, &[&longest[..], &vec![0; length - longest.len()]].concat());
+        }
+    }
 }
 
 /// Each byte of a full record is changed to every other value.
