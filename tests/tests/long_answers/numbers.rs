@@ -177,6 +177,27 @@ fn positions_are_modulo_256_however_long_the_text() {
     assert_eq!(bench.host(UNREAD), done("", "03 06 E9 03 E8 19 00 00"));
 }
 
+/// As a script shows the message area.
+#[test]
+fn a_message_stands_behind_its_length_low_byte_first() {
+    let digits = |bytes: &[u8]| hex(bytes).replace(' ', "");
+    let text = [b'x'; 300];
+    let read = start(ZZ2, b"", &text).max(300).bytes();
+    let initiate = "01000100002020202020202020";
+    let ours = format!("0 - 1900{}\n", OUR_INITIATE.replace(' ', ""));
+    // Eight bytes and 300 are 34 01.
+    let answer = format!("0 {0} 340103042C01002C2C01{0}\n", digits(&text));
+    let script = format!("M {initiate}\nM {}\n", digits(&read));
+    assert_eq!(run(&script), ours.clone() + &answer);
+    // Two messages, the second behind a short one.
+    let hello = MAKE_HELLO.replace(' ', "");
+    let read = start(ZZ1, b"", &text).max(301).bytes();
+    let script = format!("M {initiate}\nK 61\nM {hello}\nM {}\nK 03\n", digits(&read));
+    let shown = format!("0 {} -\n", digits(&text));
+    let told = format!("0 61 0300040003350103042C01002D2D01{}61\n", digits(&text));
+    assert_eq!(run(&script), ours + "0 - -\n0 - -\n" + &shown + &told);
+}
+
 #[test]
 fn messages_without_a_line_keep_both_bytes() {
     let mut bench = Bench::default();

@@ -109,6 +109,24 @@ fn a_prompt_is_written_raw_at_the_top_too() {
 }
 
 #[test]
+fn a_redisplay_begins_anew_however_far_the_first_one_began() {
+    for by_write in [false, true] {
+        let mut bench = Bench::initiated();
+        bench.host_bytes(&[&[7, 0, 0, 0, 0][..], &[b'A'; 950]].concat());
+        // The data begins at 952, and the tab goes from 953 to 960.
+        roomy(b"? ", b"a").on(&mut bench);
+        assert_eq!(bench.typed(&[HT]).0, blanks(7));
+        let shown = match by_write {
+            false => bench.typed(&[REDISPLAY_KEY]).0,
+            true => bench.host("07 03 00 00 00").1,
+        };
+        // Now from 3 to 8.
+        assert_eq!(shown, format!("0D 0A 3F 20 61 {}", blanks(5)));
+        assert_eq!(bench.typed(&[DELETE_KEY]).0, rubbed(5));
+    }
+}
+
+#[test]
 fn a_full_buffer_is_redisplayed() {
     let tail = [&[HT; 5][..], b"z"].concat();
     let text = [&[b'x'; WHOLE - 1 - 2 - 6][..], &tail].concat();
