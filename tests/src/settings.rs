@@ -51,7 +51,7 @@ impl Form {
 }
 
 /// A termination set of all 256 codes.
-const LONGEST_SET: usize = 32;
+pub const LONGEST_SET: usize = 32;
 /// An attribute has seven used bits; the lowest two are the out-of-band field.
 const HIGHEST_VALUE: u8 = 127;
 const OUT_OF_BAND: u8 = 3;
@@ -95,6 +95,14 @@ flaws! {
 pub struct Record<'a> {
     pub form: Form,
     pub sections: [&'a [u8]; SECTIONS],
+}
+
+impl Record<'_> {
+    /// No section could be longer.
+    pub fn is_longest(&self) -> bool {
+        let longest = [SWITCHES.len() * SWITCH, 256 * ATTRIBUTE, LONGEST_SET, self.form.width()];
+        self.sections.map(<[u8]>::len) == longest
+    }
 }
 
 /// Where a section was found.

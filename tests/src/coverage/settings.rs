@@ -64,6 +64,8 @@ pub struct Settings {
     move_flaws: [[[u64; FLAWS.len()]; FORMS.len() + 1]; FORMS.len()],
     /// Sound records of the form that they should be moved to.
     same_form: [u64; FORMS.len()],
+    /// Records of a form that are as long as they can be: loaded, and moved.
+    longest: [[u64; 2]; FORMS.len()],
     /// Watched largest reads of records that were to be moved, and none.
     moved_largest: [[u64; WATCHED.len() + 1]; FORMS.len()],
 }
@@ -79,6 +81,7 @@ impl Default for Settings {
             moves: Default::default(),
             move_flaws: [[[0; FLAWS.len()]; FORMS.len() + 1]; FORMS.len()],
             same_form: Default::default(),
+            longest: Default::default(),
             moved_largest: Default::default(),
         }
     }
@@ -103,6 +106,9 @@ impl Settings {
 
     pub fn loaded_pair(&mut self, own: &Record, site: &Record) {
         self.pairs[LOADED][index(own.form)][index(site.form)] += 1;
+        for record in [own, site] {
+            self.longest[index(record.form)][0] += u64::from(record.is_longest());
+        }
     }
 
     pub fn asked_pair(&mut self, own: &Record, site: &Record) {
@@ -127,6 +133,7 @@ impl Settings {
                 return self.move_flaws[index(to)][form_of(bytes)][flaw as usize] += 1;
             }
         };
+        self.longest[index(record.form)][1] += u64::from(record.is_longest());
         let largest = settings::largest_read(record.sections[LARGEST_READ]);
         if let Some(place) = largest.map_or(Some(WATCHED.len()), watched) {
             self.moved_largest[index(to)][place] += 1;
@@ -146,7 +153,8 @@ impl Settings {
         let counts = counts.chain(self.largest.as_flattened_mut());
         let counts = counts.chain(self.moves.as_flattened_mut());
         let counts = counts.chain(self.move_flaws.as_flattened_mut().as_flattened_mut());
-        counts.chain(&mut self.same_form).chain(self.moved_largest.as_flattened_mut())
+        let counts = counts.chain(&mut self.same_form).chain(self.longest.as_flattened_mut());
+        counts.chain(self.moved_largest.as_flattened_mut())
     }
 
     /// Sections asked for and records moved: these need no line.
@@ -174,6 +182,9 @@ impl Settings {
             let counts = counts.filter(|(number, _)| *number <= form.top());
             let row = |(number, n)| (format!("loaded form {form:?} largest read {number}"), n);
             table.extend(counts.map(row));
+            let [loaded, moved] = self.longest[index(form)];
+            table.push((format!("loaded form {form:?} longest record"), loaded));
+            table.push((format!("moved form {form:?} longest record"), moved));
             self.move_rows(form, &mut table);
         }
         table

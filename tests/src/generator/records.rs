@@ -4,8 +4,8 @@ use super::random::Random;
 use super::{messages, typing};
 use crate::coverage::settings::WATCHED;
 use crate::settings::{
-    laid_out, Form, ATTRIBUTE, ATTRIBUTES, CHARACTERISTICS, FORMS, LARGEST_READ, LONG, SECTIONS,
-    SET, SWITCH, SWITCHES,
+    laid_out, Form, ATTRIBUTE, ATTRIBUTES, CHARACTERISTICS, FORMS, LARGEST_READ, LONG, LONGEST_SET,
+    SECTIONS, SET, SWITCH, SWITCHES,
 };
 
 /// What stands in the sections of a record, sound or not.
@@ -29,9 +29,13 @@ pub fn sound(random: &mut Random) -> Vec<u8> {
     laid_out(form, &sections(form, often, random))
 }
 
-/// Sound sections; each is there this often in a hundred.
+/// Sound sections; each is there this often in a hundred. A few are as long as
+/// they can be.
 fn sections(form: Form, often: usize, random: &mut Random) -> Sections {
     let largest = form.largest_section(largest(form, random));
+    if random.chance(1) {
+        return [switches(random), attributes_of_all(random), set_of_all(random), largest];
+    }
     let all = [switches(random), attributes(random), set(random), largest];
     all.map(|section| if random.chance(often) { section } else { Vec::new() })
 }
@@ -49,9 +53,6 @@ pub fn switches(random: &mut Random) -> Vec<u8> {
 /// A few codes, or many; those that are out-of-band are the usual ones.
 pub fn attributes(random: &mut Random) -> Vec<u8> {
     let mut table = [0; 256];
-    if random.chance(3) {
-        table.fill_with(|| random.byte() & 120 | 4);
-    }
     for _ in 0..random.pick(&[1, 1, 2, 3, 8, 40]) {
         table[random.below(256)] = random.byte() & 124;
     }
@@ -61,6 +62,19 @@ pub fn attributes(random: &mut Random) -> Vec<u8> {
     }
     let codes = (0..=255).filter(|code| table[usize::from(*code)] != 0);
     codes.flat_map(|code| [code, table[usize::from(code)]]).collect()
+}
+
+/// Every code has a value that is not 0; none is out-of-band.
+fn attributes_of_all(random: &mut Random) -> Vec<u8> {
+    (0..=255).flat_map(|code| [code, random.byte() & 120 | 4]).collect()
+}
+
+/// A set of all its bytes, few codes in it.
+fn set_of_all(random: &mut Random) -> Vec<u8> {
+    let mut set = vec![0; LONGEST_SET];
+    set[random.below(LONGEST_SET)] = 1 << random.below(8);
+    set[LONGEST_SET - 1] = 128;
+    set
 }
 
 pub fn set(random: &mut Random) -> Vec<u8> {
@@ -145,9 +159,9 @@ fn damaged_set(random: &mut Random) -> Vec<u8> {
     let mut section = set(random);
     match random.below(4) {
         0 => section.push(0),
-        1 => section.resize(33, 0),
-        2 => section.resize(random.between(33, 40), 1),
-        _ => section = vec![0; random.between(1, 32)],
+        1 => section.resize(LONGEST_SET + 1, 0),
+        2 => section.resize(random.between(LONGEST_SET + 1, LONGEST_SET + 8), 1),
+        _ => section = vec![0; random.between(1, LONGEST_SET)],
     }
     section
 }

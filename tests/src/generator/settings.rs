@@ -231,7 +231,7 @@ impl Generator {
     }
 
     fn refused_load(&mut self) {
-        for _ in 0..self.random.between(1, 6) {
+        for _ in 0..self.random.between(2, 14) {
             self.refused();
         }
         self.probe();
