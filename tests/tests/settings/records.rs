@@ -202,6 +202,12 @@ fn the_longest_records() {
         for length in longest.len() + 1..=LONG + 3 {
             unsound(&mut bench, &[&longest[..], &vec![0; length - longest.len()]].concat());
         }
+        // Each value of the attributes is judged: they begin behind 17 bytes.
+        for place in (18..17 + attributes.len()).step_by(2) {
+            let mut spoiled = longest.clone();
+            spoiled[place] = 126;
+            unsound(&mut bench, &spoiled);
+        }
     }
 }
 
