@@ -2,7 +2,7 @@
 //! whole buffer, positions about the top column, messages about the longest.
 
 use crate::line::MESSAGE_AREA;
-use crate::message::{ReadData, BUFFER, LONGEST};
+use crate::message::{ReadData, BUFFER, LONGEST, START_READ, UNREAD};
 use crate::screen::{self, HT, TOP};
 use crate::settings::Form;
 
@@ -24,6 +24,8 @@ things! {
     RubMoreThanColumns,
     // Deleting one, many or all of a long text.
     DeletedOfLong, LongDeleted, LowWaterFallsToHigh, LowWaterFallsFromHigh,
+    // A whole buffer that was empty when its read began.
+    WholeTyped,
     // 18, and a Write that redisplays.
     RedisplayLongPrompt, RedisplayFull, RedisplayPassesTop,
     WriteRedisplaysLongPrompt, WriteRedisplaysFull, WriteRedisplaysPastTop,
@@ -64,8 +66,6 @@ pub const WATCHED: [u16; 8] = [
 const PLACES: [&str; 2] = ["read of", "read without a line of"];
 const ON_A_LINE: usize = 0;
 const WITHOUT: usize = 1;
-const START_READ: u8 = 2;
-const UNREAD: u8 = 5;
 
 #[derive(Clone, Debug, PartialEq, Eq)]
 pub struct Long {
@@ -142,12 +142,14 @@ impl Long {
 
     /// A Read Data is sent.
     pub fn returned(&mut self, read: &ReadData) {
+        let whole = read.data.len() == usize::from(BUFFER);
         let met = [
             high(read.data.len()),
-            read.data.len() == usize::from(BUFFER),
+            whole,
             high(usize::from(read.low_water)),
             high(usize::from(read.terminator)),
         ];
+        self.met_if(whole && read.low_water == 0, Thing::WholeTyped);
         for (count, met) in self.returned[usize::from(read.code)].iter_mut().zip(met) {
             *count += u64::from(met);
         }

@@ -6,21 +6,17 @@ use super::random::Random;
 use super::{typing, Generator};
 use crate::coverage::long::WATCHED;
 use crate::line::arrival::CLEAR_KEY;
+use crate::line::steps::{DELETE, DELETE_LINE, DELETE_WORD, REDISPLAY};
 use crate::line::tokens::{CSI, ESC};
 use crate::line::MESSAGE_AREA;
 use crate::message::{Message, StartRead, Write, BUFFER, REDISPLAY_AFTER};
 use crate::screen::{BEL, CR, HT, LF, TOP};
 use crate::script::Order;
 
-const DELETE: u8 = 127;
-const DELETE_WORD: u8 = 23;
-const DELETE_LINE: u8 = 21;
-const REDISPLAY: u8 = 18;
-
 /// Of a hundred long reads so many have all the room that there is.
 const ROOMY: usize = 70;
 /// One scene in so many has its whole text typed: it takes as long as many others.
-const TYPED_OUT: usize = 80;
+const TYPED_OUT: usize = 300;
 
 /// What ends a read, and may just fill it.
 const ENDINGS: [&[u8]; 6] = [
@@ -46,13 +42,13 @@ impl Generator {
     fn long_scene(&mut self) {
         self.lift_mostly();
         match self.random.below(20) {
+            _ if self.random.below(TYPED_OUT) == 0 => self.typed_out(),
             0 => self.fresh(),
             1 => self.wrong_length(),
             2 => self.longest_answer(),
             3 => self.largest_read(),
             4 => self.read_without_a_line(),
             5..=8 => self.long_ending(),
-            9 if self.random.below(TYPED_OUT) == 0 => self.typed_out(),
             _ => self.long_read(),
         }
     }

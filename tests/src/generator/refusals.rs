@@ -2,11 +2,8 @@
 
 use super::{messages, typing, Generator};
 use crate::line::{Areas, MESSAGE_AREA, TERMINAL_AREA};
-use crate::message::{Message, Value, LONGEST};
+use crate::message::{Message, Value, LONGEST, UNREAD};
 use crate::script::Order;
-
-/// A short message: bytes are left over.
-const UNREAD: u8 = 5;
 
 impl Generator {
     pub(super) fn small_areas(&mut self) {
@@ -64,7 +61,8 @@ impl Generator {
         let length =
             self.random.pick(&[0, LONGEST - 1, LONGEST, LONGEST + 1, LONGEST + 2, LONGEST + 50]);
         let mut bytes = vec![b'a'; length];
-        // Sound Writes, and what would be refused with 3 or 5 too.
+        // Sound Writes, and what would be refused with 5 or 3 too: an Unread has two
+        // bytes.
         let write = [7, 32, 0, 0, 0];
         let kind = self.random.byte();
         let front = self.random.pick(&[write, write, [UNREAD; 5], [kind; 5], [0; 5]]);

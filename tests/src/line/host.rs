@@ -3,12 +3,9 @@
 use super::{Answer, Line, Loaded, LENGTH, MESSAGE_AREA};
 use crate::coverage::Rule;
 use crate::message::{
-    self, Fault, Initiate, Message, StartRead, Value, Wanted, AUTO_PROMPT, BUFFER, INPUT_ESCAPES,
-    LONGEST, NORMAL_ECHO, RAISE_INPUT,
+    self, Fault, Initiate, Message, StartRead, Value, Wanted, AUTO_PROMPT, BUFFER, INITIATE,
+    INPUT_ESCAPES, LONGEST, NORMAL_ECHO, RAISE_INPUT, START_READ,
 };
-
-const INITIATE: u8 = 1;
-const START_READ: u8 = 2;
 
 /// The used bits of an attribute, which our answer's MASK names.
 const USED_BITS: u8 = 127;

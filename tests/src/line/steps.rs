@@ -7,10 +7,10 @@ use super::{Answer, Key, Line};
 use crate::coverage::Rule;
 use crate::screen::{BEL, CR, HT, LF};
 
-const DELETE: u8 = 127;
-const DELETE_WORD: u8 = 23;
-const DELETE_LINE: u8 = 21;
-const REDISPLAY: u8 = 18;
+pub const DELETE: u8 = 127;
+pub const DELETE_WORD: u8 = 23;
+pub const DELETE_LINE: u8 = 21;
+pub const REDISPLAY: u8 = 18;
 
 /// What a step did, or why there was none.
 #[derive(Clone, Copy, Debug, PartialEq, Eq)]

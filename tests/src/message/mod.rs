@@ -11,6 +11,11 @@ pub const LONGEST: usize = 2_048;
 /// The characters of the input buffer.
 pub const BUFFER: u16 = 1_024;
 
+/// Types that are asked for by name.
+pub const INITIATE: u8 = 1;
+pub const START_READ: u8 = 2;
+pub const UNREAD: u8 = 5;
+
 pub const IGNORE_INPUT: u16 = 0x0201;
 pub const CHARACTER_ATTRIBUTES: u16 = 0x0202;
 pub const CONTROL_O_PASS_THROUGH: u16 = 0x0203;
