@@ -127,7 +127,8 @@ impl Generator {
             read.raise = random.pick(&[1, 2]);
         });
         for _ in 0..BUFFER {
-            let code = if self.random.chance(97) { b'a' } else { self.random.pick(&[HT, 1, 200]) };
+            let code =
+                if self.random.chance(97) { b'a' } else { self.random.pick(&[HT, 150, 201]) };
             self.key(code);
         }
     }
