@@ -3,6 +3,7 @@
 //! rows of the bench table's form, and that all of them hold.
 
 use crate::line::Areas;
+use crate::moving::AREA;
 use crate::script::{lines, parse, Order, Runner};
 use std::fmt::Write as _;
 use std::fs;
@@ -76,7 +77,8 @@ impl Rows {
             Order::Move(form, record) => {
                 let (form, number) = (form.byte(), &answer[0]);
                 let moved = list(&hex(answer.get(1).map_or("-", String::as_str)));
-                self.case(&format!("moves {form} {} {number} {moved}", list(record)));
+                let row = format!("moves {form} {AREA} {} {number} {moved}", list(record));
+                self.case(&row);
             }
             Order::Load(_) => {
                 // A load is lent no areas, and writes nothing.

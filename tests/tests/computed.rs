@@ -10,8 +10,14 @@ const SEEDS: std::ops::Range<u64> = 9000..9004;
 const CALLS: usize = 400;
 
 fn generated() -> impl Iterator<Item = Script> {
-    let scripts = SEEDS.map(|seed| generator::script(seed, CALLS));
-    scripts.chain(SEEDS.map(|seed| generator::token_script(seed, CALLS))).map(|script| {
+    let makers = [
+        generator::script,
+        generator::token_script,
+        generator::long_script,
+        generator::settings_script,
+    ];
+    let scripts = makers.into_iter().flat_map(|make| SEEDS.map(move |seed| make(seed, CALLS)));
+    scripts.map(|script| {
         let orders = script.into_bytes();
         let answers = script::run(&orders).0;
         Script { orders, answers }
