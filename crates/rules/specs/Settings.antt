@@ -300,11 +300,15 @@ pub record SayableSet (test : ℕ → Bool) : Type 0 where
   pub codes : (c : ℕ) → test c ≡ true → c < codeCount
   pub member : (c : ℕ) × (test c ≡ true)
 
+-- a largest read, where there is one, that the form holds
+abbrev pub HeldBy : ℕ → Meaning → Type 0
+HeldBy form m = (n : ℕ) → m .largestRead ≡ some n → n ≤ topLargestRead form
+
 -- each part, where there is one
 pub record Sayable (form : ℕ) (m : Meaning) : Type 0 where
   pub attributes : (table : List ℕ) → m .attributes ≡ some table → SayableTable table
   pub set : (test : ℕ → Bool) → m .set ≡ some test → SayableSet test
-  pub largestRead : (n : ℕ) → m .largestRead ≡ some n → n ≤ topLargestRead form
+  pub largestRead : HeldBy form m
 
 -- Every such meaning has a record: the one that is written.
 pub record IsRecordOf (form : ℕ) (m : Meaning) (bytes : List ℕ) : Type 0 where

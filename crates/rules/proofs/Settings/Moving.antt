@@ -14,9 +14,9 @@ use Rattle.rules.specs.Numbers.{codeCount, movingArea, smallArea, unsoun
 use Rattle.rules.specs.Messages.Layout.{wordBytes, byteValues, numberOf, framed}
 use Rattle.rules.specs.Messages.Codec.{refused, sound, allBytes}
 use Rattle.rules.specs.Settings.{formIn, form1, form2, isForm, characteristicsSection, attributesSection, setSection, largestReadSection, sectionIn, topLargestRead, largestReadIn, isSound}
-use Rattle.rules.specs.Settings.{soundPairs, isListed, meaningOf, unlessEmpty, recordOf, Sayable, IsRecordOf}
+use Rattle.rules.specs.Settings.{soundPairs, isListed, meaningOf, unlessEmpty, recordOf, HeldBy, Sayable, IsRecordOf}
 use Rattle.rules.specs.Settings.Moving.{otherForm, isMovable, largestReadOf, largestReadAs, movedSections, moved, moveRefusals, move}
-use Rattle.rules.specs.Settings.Moving.{KeepsMeaning, MovesBack, Form1Moves, IsTooLarge, TooLargeExactly}
+use Rattle.rules.specs.Settings.Moving.{KeepsMeaning, MovesBack, HeldMoves, Form1Moves, IsTooLarge, TooLargeExactly}
 use Rattle.rules.proofs.Choice.{both, halves, thirds, all-cons, or-case, pick-true, pick-false, pick-first, pick-second}
 use Rattle.rules.proofs.Numbers.{moving-room}
 use Rattle.rules.proofs.Bounds.Sent.{framed-length}
@@ -114,24 +114,26 @@ other-back form e =
     (λ t. subst (λ f. otherForm (otherForm f) ≡ f) (sym (eqb-true form form2 t)) refl)
     e
 
--- a largest read is what the meaning says of it, or 0
+-- A largest read is what the meaning says of it, or 0.
 read-under : (top : ℕ) (section : List ℕ) → ((n : ℕ) → unlessEmpty largestReadIn section ≡ some n → n ≤ top) → largestReadIn section ≤ top
 unfolding unlessEmpty numberOf
 read-under top [] h = omega arith
 read-under top (b ∷ section) h = h (largestReadIn (b ∷ section)) refl
 
-largest-read-kept : (top : ℕ) (bytes : List ℕ) → ((n : ℕ) → meaningOf bytes .largestRead ≡ some n → n ≤ top) → largestReadOf bytes ≤ top
+held-under : (form : ℕ) (bytes : List ℕ) → HeldBy form (meaningOf bytes) → largestReadOf bytes ≤ topLargestRead form
 unfolding meaningOf
-largest-read-kept top bytes h = read-under top (sectionIn largestReadSection bytes) h
+held-under form bytes h = read-under (topLargestRead form) (sectionIn largestReadSection bytes) h
+
+pub held-moves : HeldMoves
+held-moves form area bytes room s f h = move-sound form area bytes room (is-movable form bytes s f) (held-under form bytes h)
 
 pub moves-back : MovesBack
 moves-back form area area′ bytes after known areBytes room e =
     let m = moves form area bytes after e in
     let r = keeps-meaning form area bytes after known areBytes e in
     let said = says-sayable bytes areBytes (m .sound) in
-    let back = is-movable (otherForm form) after (r .sound) (r .inForm ∙ sym (other-back form known)) in
-    let holds = largest-read-kept (topLargestRead (formIn bytes)) after (λ n is. said .largestRead n (ap (λ k. k .largestRead) (sym (r .means)) ∙ is)) in
-    move-sound (otherForm form) area′ after room back (rw (m .inForm) at holds) ∙
+    let held : HeldBy (otherForm form) (meaningOf after) = λ n is. rw (m .inForm) at (said .largestRead n (ap (λ k. k .largestRead) (sym (r .means)) ∙ is)) in
+    held-moves (otherForm form) area′ after room (r .sound) (r .inForm ∙ sym (other-back form known)) held ∙
     ap sound
     (sym (moved-written after (r .areBytes) (r .sound) (otherForm form)) ∙ ap₂ recordOf (sym (m .inForm)) (r .means) ∙ record-back bytes areBytes (m .sound))
 
@@ -145,8 +147,7 @@ unfolding otherForm pick
 form1-moves area bytes room s f =
     let own = largest-read-sayable (formIn bytes) (sectionIn largestReadSection bytes) (sound-parts bytes s .largestRead) in
     let top : topLargestRead (formIn bytes) ≡ topLargestRead form1 = ap topLargestRead f in
-    let more = wider in
-    move-sound form2 area bytes room (is-movable form2 bytes s f) (omega arith)
+    move-sound form2 area bytes room (is-movable form2 bytes s f) (omega (arith, wider))
 
 -- 8 is given where it applies, and nowhere else.
 read-filled : {least : ℕ} (section : List ℕ) → least < largestReadIn section → isEmpty section ≡ false

@@ -10,7 +10,7 @@ use Rattle.rules.specs.Numbers.{movingArea, smallArea, unsoundRecord, to
 use Rattle.rules.specs.Messages.Layout.{bytesOf, framed}
 use Rattle.rules.specs.Messages.Codec.{Outcome, refused, sound, allBytes}
 use Rattle.rules.specs.Settings.{formIn, form1, form2, characteristicsSection, attributesSection, setSection, largestReadSection}
-use Rattle.rules.specs.Settings.{isForm, sectionIn, largestReadBytes, topLargestRead, largestReadIn, isSound, meaningOf, IsRecordOf}
+use Rattle.rules.specs.Settings.{isForm, sectionIn, largestReadBytes, topLargestRead, largestReadIn, isSound, meaningOf, HeldBy, IsRecordOf}
 
 -- what is moved to a form is a sound record of the other
 unfoldable pub otherForm : ℕ → ℕ
@@ -69,11 +69,20 @@ MovesBack =
     move form area bytes ≡ sound after →
     move (otherForm form) area′ after ≡ sound bytes
 
--- Every sound record of form 1 moves to form 2.
+-- A sound record moves where its largest read is none, or one that the other form holds; so every one of form 1 moves to form 2.
+abbrev pub HeldMoves : Type 0
+HeldMoves =
+    (form area : ℕ) (bytes : List ℕ) →
+    movingArea ≤ area →
+    isSound bytes ≡ true →
+    formIn bytes ≡ otherForm form →
+    HeldBy form (meaningOf bytes) →
+    move form area bytes ≡ sound (moved form bytes)
+
 abbrev pub Form1Moves : Type 0
 Form1Moves = (area : ℕ) (bytes : List ℕ) → movingArea ≤ area → isSound bytes ≡ true → formIn bytes ≡ form1 → move form2 area bytes ≡ sound (moved form2 bytes)
 
--- One of form 2 moves to form 1 unless its largest read is over what form 1 holds: then, and only then, it is refused with 8.
+-- 8 is for a sound record of form 2 whose largest read is over what form 1 holds, and for nothing else.
 pub record IsTooLarge (area : ℕ) (bytes : List ℕ) : Type 0 where
   pub room : movingArea ≤ area
   pub sound : isSound bytes ≡ true
