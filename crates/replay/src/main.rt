@@ -24,7 +24,7 @@ mod run;
 mod script;
 mod text;
 
-// Room for a message that is one byte too long: of a longer one the front is refused all the same. Two settings records need less.
+// Room for a message that is one byte too long: of a longer one the front is refused all the same. Two settings records, of 601 bytes at most each, need less.
 const KEPT: usize = rules::MESSAGE_SIZE + 1;
 
 // The longest area.

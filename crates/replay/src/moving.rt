@@ -2,13 +2,11 @@
 ghost use Rattle.replay.specs.Moved.{SaysTheSame};
 use areas::Written;
 
-const FORM_1: u8 = 1;
-
 // What is written says what the record says.
 pub(crate) fn moved(form: u8, record: &[u8], area: &mut [u8]) -> Written
     ensures { λ r. ⌜ SaysTheSame (now («record» .entry)) r (now (area .exit)) ⌝ }
 {
-    if form == FORM_1 {
+    if form == settings::FORM_1 {
         return settings::to_form_1(record, area);
     }
     settings::to_form_2(record, area)

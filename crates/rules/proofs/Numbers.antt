@@ -3,10 +3,11 @@ use mathlib.Core.Path.{_≡_, refl}
 use lib.Dec.{eqb}
 use Prim.Native.Nat.{ℕ, _+_, _*_, _≤_, _<_}
 use native.Mathlib.Omega.{arith}
+use Rattle.rules.specs.Choice.{pick}
 use Rattle.rules.specs.Numbers.{inputSize, typeAheadSize, tokenSize, messageSize, terminalArea, messageArea, movingArea, codeCount, topColumn, topDropped}
 use Rattle.rules.specs.Messages.Layout.{wordBytes, byteValues}
 use Rattle.rules.specs.Messages.Codec.{setSize}
-use Rattle.rules.specs.Settings.{form1, switchAt, switchCount, topLargestRead}
+use Rattle.rules.specs.Settings.{form1, form2, sectionCount, switchAt, switchCount, topLargestRead}
 use Rattle.rules.proofs.Choice.{pick-case}
 
 -- behind a BEL: rubbing out a whole buffer, three bytes for each of a character's eight marks, or one echo
@@ -38,8 +39,13 @@ pub largest-read-room : (form : ℕ) → topLargestRead form ≤ inputSize
 unfolding topLargestRead inputSize
 largest-read-room form = pick-case (λ top. top ≤ inputSize) (eqb form form1) (λ y. omega arith) (λ n. omega arith)
 
+-- form 2 holds what form 1 does
+pub wider-form : topLargestRead form1 ≤ topLargestRead form2
+unfolding topLargestRead pick
+wider-form = omega arith
+
 -- a settings record with every section at its longest: its form, the switches, a pair for each code, a whole set and a largest read, each behind its length
-pub moving-room : 1 + 4 * wordBytes + switchAt switchCount + 2 * codeCount + setSize + wordBytes ≤ movingArea
+pub moving-room : 1 + sectionCount * wordBytes + switchAt switchCount + 2 * codeCount + setSize + wordBytes ≤ movingArea
 unfolding movingArea
 moving-room = omega arith
 

@@ -220,7 +220,7 @@ attributeParametersFrom code (value ∷ table) = attributeParameter code value �
 abbrev pub attributeParameters : List ℕ → List (List ℕ)
 attributeParameters table = attributeParametersFrom 0 table
 
--- Writing it: in each form every meaning that a record can have has one, and only one.
+-- Writing it: every meaning that a record of a form can have has one of that form, and only one.
 
 -- the switches, each as the parameter that sets it
 abbrev pub switchParameter : ℕ → Bool → List ℕ
@@ -272,7 +272,7 @@ sectionsOf form m =
 unfoldable pub recordOf : ℕ → Meaning → List ℕ
 recordOf form m = form ∷ joined (map framed (sectionsOf form m))
 
--- One meaning has one record of each form.
+-- One meaning has at most one record of each form.
 abbrev pub OneRecord : Type 0
 OneRecord =
     (a b : List ℕ) →
@@ -300,15 +300,15 @@ pub record SayableSet (test : ℕ → Bool) : Type 0 where
   pub codes : (c : ℕ) → test c ≡ true → c < codeCount
   pub member : (c : ℕ) × (test c ≡ true)
 
--- a largest read, where there is one, that the form holds
-abbrev pub HeldBy : ℕ → Meaning → Type 0
-HeldBy form m = (n : ℕ) → m .largestRead ≡ some n → n ≤ topLargestRead form
+-- a largest read: the form holds it
+abbrev pub SayableRead : ℕ → Meaning → Type 0
+SayableRead form m = (n : ℕ) → m .largestRead ≡ some n → n ≤ topLargestRead form
 
 -- each part, where there is one
 pub record Sayable (form : ℕ) (m : Meaning) : Type 0 where
   pub attributes : (table : List ℕ) → m .attributes ≡ some table → SayableTable table
   pub set : (test : ℕ → Bool) → m .set ≡ some test → SayableSet test
-  pub largestRead : HeldBy form m
+  pub largestRead : SayableRead form m
 
 -- Every such meaning has a record: the one that is written.
 pub record IsRecordOf (form : ℕ) (m : Meaning) (bytes : List ℕ) : Type 0 where

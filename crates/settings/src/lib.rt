@@ -11,9 +11,10 @@ pub use crate::moving::to_form_2;
 use crate::sections::section_in;
 use rules::forms;
 
-const FORM_1: u8 = 1;
+// The forms: the first byte of a record.
+pub const FORM_1: u8 = 1;
 
-const FORM_2: u8 = 2;
+pub const FORM_2: u8 = 2;
 
 // The sections, in this order.
 pub const CHARACTERISTICS_SECTION: u8 = 1;

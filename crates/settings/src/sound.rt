@@ -11,7 +11,7 @@ use rules::forms;
 use rules::out_of_band;
 use rules::selectors;
 
-// What each form holds of a largest read: so many bytes, and so much.
+// The largest read in each form: its bytes, and the most that it may be.
 const FORM_1_BYTES: u8 = 1;
 
 const FORM_2_BYTES: u8 = forms::WORD_BYTES;

@@ -1,4 +1,4 @@
--- The section of the largest read: so many bytes as its form has.
+-- The section of the largest read: as many bytes as its form has.
 use mathlib.Core.Path.{_≡_, refl, sym, ap, ap₂, _∙_}
 use Prim.Native.Nat.{ℕ, _*_, _^_, _≤_, _<_}
 use native.Mathlib.Omega.{arith}
@@ -19,24 +19,26 @@ use Rattle.rules.proofs.Bounds.Bytes.{number-bytes, front-bytes}
 use Rattle.rules.proofs.Settings.Parts.{Says}
 
 -- Either form has a byte or two, and they hold what it may say.
-record Holds (width top : ℕ) : Type 0 where
+record WideEnough (width top : ℕ) : Type 0 where
   some : 1 ≤ width
   few : width ≤ wordBytes
   fits : top < 2 ^ (byteBits * width)
 
-holds-either : (t : Bool) → Holds (pick t 1 wordBytes) (pick t 132 1024)
+either : (t : Bool) {a b c d : ℕ} → WideEnough a c → WideEnough b d → WideEnough (pick t a b) (pick t c d)
 unfolding pick
-holds-either true = record { some = omega arith; few = omega arith; fits = omega arith }
-holds-either false = record { some = omega arith; few = omega arith; fits = omega arith }
+either true one two = one
+either false one two = two
 
-holds : (form : ℕ) → Holds (largestReadBytes form) (topLargestRead form)
+wide-enough : (form : ℕ) → WideEnough (largestReadBytes form) (topLargestRead form)
 unfolding largestReadBytes topLargestRead
-holds form = holds-either (eqb form form1)
+wide-enough form =
+    either (eqb form form1) (record { some = omega arith; few = omega arith; fits = omega arith })
+    (record { some = omega arith; few = omega arith; fits = omega arith })
 
 pub as-size : (form : ℕ) (section : List ℕ) → length (largestReadAs form section) ≤ wordBytes
 unfolding largestReadAs isEmpty pick
 as-size form [] = omega arith
-as-size form (b ∷ section) = let size = length-bytesOf (largestReadBytes form) (largestReadIn (b ∷ section)) in omega (arith, holds form .few)
+as-size form (b ∷ section) = let size = length-bytesOf (largestReadBytes form) (largestReadIn (b ∷ section)) in omega (arith, wide-enough form .few)
 
 -- What stands in so few bytes is the number in all of them.
 all-read : (bytes : List ℕ) → length bytes ≤ wordBytes → largestReadIn bytes ≡ numberAt (length bytes) 0 bytes
@@ -56,7 +58,7 @@ module _ (form : ℕ) (bytes : List ℕ) (sound : soundLargestRead form bytes �
   largest-read-back : allBytes bytes ≡ true → bytesOf (largestReadBytes form) (largestReadIn bytes) ≡ bytes
   largest-read-back areBytes =
       let size = parts .0 in
-      let few = holds form .few in
+      let few = wide-enough form .few in
       let n = length bytes in
       ap₂ bytesOf (sym size) (all-read bytes (omega arith)) ∙ front-bytes n bytes areBytes (omega arith) ∙ take-all n bytes (omega arith)
 
@@ -66,7 +68,7 @@ unfolding isEmpty numberOf
 largest-read-sayable form [] sound = omega arith
 largest-read-sayable form (b ∷ bytes) sound = parts form (b ∷ bytes) sound refl .1
 
--- What a form has of it: the section as it is written of what it says, and in its own form the section itself.
+-- The section in a form: its number in that form's bytes; in its own form the section itself.
 pub largest-read-written : (form : ℕ) (section : List ℕ) →
     orEmpty (bytesOf (largestReadBytes form)) (unlessEmpty largestReadIn section) ≡ largestReadAs form section
 unfolding orEmpty unlessEmpty largestReadAs isEmpty pick
@@ -86,16 +88,16 @@ module _ (form n : ℕ) (h : n ≤ topLargestRead form) where
   section-said =
       let width = largestReadBytes form in
       let size = length-bytesOf width n in
-      let few = holds form .few in
-      let fits = holds form .fits in
+      let few = wide-enough form .few in
+      let fits = wide-enough form .fits in
       all-read section (omega arith) ∙ ap (λ w. numberAt w 0 section) size ∙ rw append-nil at (numberAt-bytesOf width n [] [] (omega arith))
 
   pub largest-read-says : Says (soundLargestRead form) largestReadIn n section
   unfolding soundLargestRead
   largest-read-says =
       let size = length-bytesOf (largestReadBytes form) n in
-      let some = holds form .some in
-      let few = holds form .few in
+      let some = wide-enough form .some in
+      let few = wide-enough form .few in
       let filled = empty-length section ∙ ne-eqb (length section) 0 (λ e. omega arith) in
       record {
         filled = filled;

@@ -3,24 +3,24 @@
 use mathlib.Core.Path.{_≡_, refl, sym, ap, ap₂, subst, _∙_}
 use Prim.Native.Nat.{ℕ, suc, _+_, _-_, _*_, _≤_, _<_}
 use native.Mathlib.Omega.{arith}
-use mathlib.Core.Bool.{true, false, not, false≢true}
+use mathlib.Core.Bool.{Bool, true, false, not, false≢true}
 use mathlib.Core.List.{List, [], _∷_, _++_, map}
 use mathlib.Core.Option.{some}
 use lib.Dec.{leb, ltb, eqb}
 use lib.ListN.{length, length-append}
 use borrow.Author.Tests.{leb-true, ltb-true, ltb-false, lt-ltb, le-ltb, eqb-true, eq-eqb, not-false}
 use Rattle.rules.specs.Choice.{pick, firstOf, isEmpty, joined}
-use Rattle.rules.specs.Numbers.{codeCount, movingArea, smallArea, unsoundRecord, tooLarge}
+use Rattle.rules.specs.Numbers.{codeCount, movingArea, accepted, smallArea, unsoundRecord, tooLarge}
 use Rattle.rules.specs.Messages.Layout.{wordBytes, byteValues, numberOf, framed}
 use Rattle.rules.specs.Messages.Codec.{refused, sound, allBytes}
-use Rattle.rules.specs.Settings.{formIn, form1, form2, isForm, characteristicsSection, attributesSection, setSection, largestReadSection, sectionIn, topLargestRead, largestReadIn, isSound}
-use Rattle.rules.specs.Settings.{soundPairs, isListed, meaningOf, unlessEmpty, recordOf, HeldBy, Sayable, IsRecordOf}
+use Rattle.rules.specs.Settings.{formIn, form1, form2, isForm, characteristicsSection, attributesSection, setSection, largestReadSection, sectionCount, sectionIn, topLargestRead, largestReadIn, isSound}
+use Rattle.rules.specs.Settings.{soundPairs, isListed, meaningOf, unlessEmpty, recordOf, SayableRead, Sayable, IsRecordOf}
 use Rattle.rules.specs.Settings.Moving.{otherForm, isMovable, largestReadOf, largestReadAs, movedSections, moved, moveRefusals, move}
-use Rattle.rules.specs.Settings.Moving.{KeepsMeaning, MovesBack, HeldMoves, Form1Moves, IsTooLarge, TooLargeExactly}
+use Rattle.rules.specs.Settings.Moving.{KeepsMeaning, MovesBack, SayableMoves, Form1Moves, IsTooLarge, TooLargeExactly, NeverTooLarge}
 use Rattle.rules.proofs.Choice.{both, halves, thirds, all-cons, or-case, pick-true, pick-false, pick-first, pick-second}
-use Rattle.rules.proofs.Numbers.{moving-room}
+use Rattle.rules.proofs.Numbers.{moving-room, wider-form}
 use Rattle.rules.proofs.Bounds.Sent.{framed-length}
-use Rattle.rules.proofs.Outcomes.{refused-sound, other-refusal, sound-same}
+use Rattle.rules.proofs.Outcomes.{refused-sound, refused-same, other-refusal, sound-same}
 use Rattle.rules.proofs.Settings.Tests.{sound-parts}
 use Rattle.rules.proofs.Settings.Parts.{part-holds, says-some}
 use Rattle.rules.proofs.Settings.LargestRead.{largest-read-sayable, as-size}
@@ -120,34 +120,33 @@ unfolding unlessEmpty numberOf
 read-under top [] h = omega arith
 read-under top (b ∷ section) h = h (largestReadIn (b ∷ section)) refl
 
-held-under : (form : ℕ) (bytes : List ℕ) → HeldBy form (meaningOf bytes) → largestReadOf bytes ≤ topLargestRead form
+sayable-under : (form : ℕ) (bytes : List ℕ) → SayableRead form (meaningOf bytes) → largestReadOf bytes ≤ topLargestRead form
 unfolding meaningOf
-held-under form bytes h = read-under (topLargestRead form) (sectionIn largestReadSection bytes) h
+sayable-under form bytes h = read-under (topLargestRead form) (sectionIn largestReadSection bytes) h
 
-pub held-moves : HeldMoves
-held-moves form area bytes room s f h = move-sound form area bytes room (is-movable form bytes s f) (held-under form bytes h)
+pub sayable-moves : SayableMoves
+sayable-moves form area bytes room s f h = move-sound form area bytes room (is-movable form bytes s f) (sayable-under form bytes h)
 
 pub moves-back : MovesBack
 moves-back form area area′ bytes after known areBytes room e =
     let m = moves form area bytes after e in
     let r = keeps-meaning form area bytes after known areBytes e in
     let said = says-sayable bytes areBytes (m .sound) in
-    let held : HeldBy (otherForm form) (meaningOf after) = λ n is. rw (m .inForm) at (said .largestRead n (ap (λ k. k .largestRead) (sym (r .means)) ∙ is)) in
-    held-moves (otherForm form) area′ after room (r .sound) (r .inForm ∙ sym (other-back form known)) held ∙
+    let sayable : SayableRead (otherForm form) (meaningOf after) = λ n is. rw (m .inForm) at (said .largestRead n (ap (λ k. k .largestRead) (sym (r .means)) ∙ is)) in
+    sayable-moves (otherForm form) area′ after room (r .sound) (r .inForm ∙ sym (other-back form known)) sayable ∙
     ap sound
     (sym (moved-written after (r .areBytes) (r .sound) (otherForm form)) ∙ ap₂ recordOf (sym (m .inForm)) (r .means) ∙ record-back bytes areBytes (m .sound))
 
 -- Form 2 holds what form 1 does.
-wider : topLargestRead form1 ≤ topLargestRead form2
-unfolding topLargestRead pick
-wider = omega arith
+form1-held : (bytes : List ℕ) → isSound bytes ≡ true → formIn bytes ≡ form1 → largestReadOf bytes ≤ topLargestRead form2
+form1-held bytes s f =
+    let own = largest-read-sayable (formIn bytes) (sectionIn largestReadSection bytes) (sound-parts bytes s .largestRead) in
+    let top : topLargestRead (formIn bytes) ≡ topLargestRead form1 = ap topLargestRead f in
+    omega (arith, wider-form)
 
 pub form1-moves : Form1Moves
 unfolding otherForm pick
-form1-moves area bytes room s f =
-    let own = largest-read-sayable (formIn bytes) (sectionIn largestReadSection bytes) (sound-parts bytes s .largestRead) in
-    let top : topLargestRead (formIn bytes) ≡ topLargestRead form1 = ap topLargestRead f in
-    move-sound form2 area bytes room (is-movable form2 bytes s f) (omega (arith, wider))
+form1-moves area bytes room s f = move-sound form2 area bytes room (is-movable form2 bytes s f) (form1-held bytes s f)
 
 -- 8 is given where it applies, and nowhere else.
 read-filled : {least : ℕ} (section : List ℕ) → least < largestReadIn section → isEmpty section ≡ false
@@ -155,24 +154,42 @@ unfolding isEmpty numberOf
 read-filled [] h = absurd (omega arith)
 read-filled (b ∷ section) h = refl
 
-module _ (area : ℕ) (bytes : List ℕ) where
-  too-large : move form1 area bytes ≡ refused tooLarge → IsTooLarge area bytes
-  unfolding move moveRefusals firstOf otherForm pick meaningOf
-  too-large e =
+module _ (form area : ℕ) (bytes : List ℕ) where
+  record Over : Type 0 where
+    room : movingArea ≤ area
+    sound : isSound bytes ≡ true
+    inForm : formIn bytes ≡ otherForm form
+    over : topLargestRead form < largestReadOf bytes
+
+  over-form : move form area bytes ≡ refused tooLarge → Over
+  unfolding move moveRefusals firstOf
+  over-form e =
       let not-small : smallArea ≡ tooLarge → ⊥ = λ q. omega arith in
       let not-unsound : unsoundRecord ≡ tooLarge → ⊥ = λ q. omega arith in
       let small = pick-second _ (other-refusal not-small) e in
       let unsound = pick-second _ (other-refusal not-unsound) (small .1) in
       let large = pick-first _ (λ q. refused-sound (sym q)) (unsound .1) in
-      let parts = movable-parts form1 bytes (not-false _ (unsound .0)) in
-      let over = ltb-true (topLargestRead form1) (largestReadOf bytes) (large .0) in
+      let parts = movable-parts form bytes (not-false _ (unsound .0)) in
       record {
         room = ltb-false area movingArea (small .0);
         sound = parts .0;
         inForm = parts .1;
+        over = ltb-true (topLargestRead form) (largestReadOf bytes) (large .0);
+      }
+
+module _ (area : ℕ) (bytes : List ℕ) where
+  too-large : move form1 area bytes ≡ refused tooLarge → IsTooLarge area bytes
+  unfolding otherForm pick meaningOf
+  too-large e =
+      let o = over-form form1 area bytes e in
+      let section = sectionIn largestReadSection bytes in
+      record {
+        room = o .room;
+        sound = o .sound;
+        inForm = o .inForm;
         most = largestReadOf bytes;
-        largestRead = says-some largestReadIn (sectionIn largestReadSection bytes) (read-filled (sectionIn largestReadSection bytes) over);
-        over = over;
+        largestRead = says-some largestReadIn section (read-filled section (o .over));
+        over = o .over;
       }
 
   refused-large : IsTooLarge area bytes → move form1 area bytes ≡ refused tooLarge
@@ -184,6 +201,26 @@ module _ (area : ℕ) (bytes : List ℕ) where
 
 pub too-large-exactly : TooLargeExactly
 too-large-exactly area bytes = (too-large area bytes, refused-large area bytes)
+
+pub never-too-large : NeverTooLarge
+unfolding otherForm pick
+never-too-large area bytes e =
+    let o = over-form form2 area bytes e in
+    omega (arith, o .over, form1-held bytes (o .sound) (o .inForm))
+
+-- A refusal has a number other than 0.
+refused-rows : (a b c : Bool) (x : List ℕ) {n : ℕ} →
+    pick a (refused smallArea) (pick b (refused unsoundRecord) (pick c (refused tooLarge) (sound x))) ≡ refused n → n ≡ accepted → ⊥
+unfolding pick
+refused-rows true b c x e z = let same = refused-same e in omega arith
+refused-rows false true c x e z = let same = refused-same e in omega arith
+refused-rows false false true x e z = let same = refused-same e in omega arith
+refused-rows false false false x e z = refused-sound (sym e)
+
+pub refused-number : (form area : ℕ) (bytes : List ℕ) {n : ℕ} → move form area bytes ≡ refused n → n ≡ accepted → ⊥
+unfolding move moveRefusals firstOf
+refused-number form area bytes e =
+    refused-rows (ltb area movingArea) (not (isMovable form bytes)) (ltb (topLargestRead form) (largestReadOf bytes)) (moved form bytes) e
 
 -- What is moved fits: every section has its longest.
 pairs-short : (least : ℕ) (bytes : List ℕ) → allBytes bytes ≡ true → soundPairs least bytes ≡ true → length bytes ≤ 2 * (codeCount - least)
@@ -199,7 +236,7 @@ pairs-short least (code ∷ value ∷ rest) areBytes s =
     omega arith
 
 module _ (a b c d : List ℕ) where
-  four-framed : length (joined (map framed (a ∷ b ∷ c ∷ d ∷ []))) ≡ 4 * wordBytes + length a + length b + length c + length d
+  four-framed : length (joined (map framed (a ∷ b ∷ c ∷ d ∷ []))) ≡ sectionCount * wordBytes + length a + length b + length c + length d
   unfolding joined
   four-framed =
       let cd = joined (map framed (c ∷ d ∷ [])) in
@@ -217,7 +254,7 @@ moved-fits form bytes areBytes s =
     let pairs = sectionIn attributesSection bytes in
     let set = sectionIn setSection bytes in
     let read = largestReadAs form (sectionIn largestReadSection bytes) in
-    let four : length (joined (map framed (movedSections form bytes))) ≡ 4 * wordBytes + length switches + length pairs + length set + length read
+    let four : length (joined (map framed (movedSections form bytes))) ≡ sectionCount * wordBytes + length switches + length pairs + length set + length read
     = four-framed switches pairs set read
     in
     omega (

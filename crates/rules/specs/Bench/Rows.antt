@@ -3,7 +3,7 @@ use Prim.Native.Nat.{_-_}
 use mathlib.Core.List.{List, [], _∷_, _++_}
 use lib.ListN.{length, take, replicate}
 use Rattle.rules.specs.Choice.{joined}
-use Rattle.rules.specs.Numbers.{terminalArea, messageArea, typeAheadSize, accepted, smallArea, wrongTime, unsound, notCarried, unsoundRecord, tooLarge}
+use Rattle.rules.specs.Numbers.{terminalArea, messageArea, typeAheadSize, accepted, smallArea, wrongLength, wrongType, wrongTime, unsound, notCarried, unsoundRecord, tooLarge}
 use Rattle.rules.specs.Messages.Forms.{startRead}
 use Rattle.rules.specs.Screen.{HT, DEL}
 use Rattle.rules.specs.Token.{ESC}
@@ -158,6 +158,10 @@ warned =
     tokenTyped (27 ∷ 79 ∷ 32 ∷ 47 ∷ 64 ∷ []) 0x01 ∷
     -- Check Input counts the keys that wait and the bytes of a token
     runs (initiated ∷ recognising ∷ stored ESC ∷ stored 0x31 ∷ stored 0x32 ∷ startedA ∷ stepped [] [] ∷ waiting 3 ∷ []) ∷
+    -- messages of 2,048 bytes and one more: too long goes before the type
+    runs (initiated ∷ told (replicate 2048 0x00) wrongType [] [] ∷ told (replicate 2049 0x00) wrongLength [] [] ∷ []) ∷
+    copies (replicate 2048 0x00) wrongType [] ∷
+    copies (replicate 2049 0x00) wrongLength [] ∷
     -- a termination set of 33 bytes
     runs (initiated ∷ told (0x02 ∷ 0x00 ∷ 0x50 ∷ 0x00 ∷ 0x50 ∷ 0x00 ∷ 0x00 ∷ 0x00 ∷ 0x00 ∷ 0x00 ∷ 0x00 ∷ 0x00 ∷ 0x00 ∷ 0x00 ∷ 0x00 ∷ 0x00 ∷ 0x21 ∷ replicate 33 0) unsound [] [] ∷ []) ∷
     -- fields that the line ignores are kept, and unused bits are written 0
@@ -170,7 +174,7 @@ warned =
     -- the own record's section goes before the site's
     asks 4 (largestReadRecord 1 (80 ∷ [])) (largestReadRecord 1 (72 ∷ [])) (80 ∷ []) ∷
     asks 4 emptyRecord (largestReadRecord 1 (72 ∷ [])) (72 ∷ []) ∷
-    -- unsound records: a set that ends in 0; a byte behind the last section; a code twice; deferred-clear; a largest read of 133; a switch of 2; a site record of form 3
+    -- unsound records: a set that ends in 0; a byte behind the last section; a code twice; deferred-clear; a largest read of 133; a switch of 2; a site record of form 3, and one that is cut short
     asks 3 (setRecord 2 (0x01 ∷ 0x00 ∷ [])) emptyRecord [] ∷
     asks 4 (largestReadRecord 1 (80 ∷ []) ++ (0x00 ∷ [])) emptyRecord [] ∷
     asks 2 (attributeRecord 4 (0x41 ∷ 0x04 ∷ 0x41 ∷ 0x08 ∷ [])) emptyRecord [] ∷
@@ -179,17 +183,21 @@ warned =
     asks 4 (largestReadRecord 1 (133 ∷ [])) emptyRecord [] ∷
     asks 1 (switchRecord 12 (0x04 ∷ 0x02 ∷ 0x00 ∷ 0x05 ∷ 0x02 ∷ 0x02 ∷ 0x06 ∷ 0x02 ∷ 0x00 ∷ 0x09 ∷ 0x02 ∷ 0x00 ∷ [])) emptyRecord [] ∷
     asks 4 (largestReadRecord 1 (80 ∷ [])) (largestReadRecord 3 []) [] ∷
+    asks 4 (largestReadRecord 1 (80 ∷ [])) (0x02 ∷ []) [] ∷
     -- M-107, forms: in form 2 two bytes, low byte first, up to 1,024, and in form 1 one; mixed records are asked as each has it
     asks 4 (largestReadRecord 2 (0x00 ∷ 0x04 ∷ [])) emptyRecord (0x00 ∷ 0x04 ∷ []) ∷
     asks 4 (largestReadRecord 2 (0x01 ∷ 0x04 ∷ [])) emptyRecord [] ∷
     asks 4 (largestReadRecord 2 (0x84 ∷ [])) emptyRecord [] ∷
     asks 4 (largestReadRecord 1 (0x84 ∷ 0x00 ∷ [])) emptyRecord [] ∷
     asks 4 (largestReadRecord 1 (0x84 ∷ [])) (largestReadRecord 2 (0x84 ∷ 0x00 ∷ [])) (0x84 ∷ []) ∷
+    asks 4 (largestReadRecord 2 (0x84 ∷ 0x00 ∷ [])) (largestReadRecord 1 (0x50 ∷ [])) (0x84 ∷ 0x00 ∷ []) ∷
     asks 4 (largestReadRecord 2 []) (largestReadRecord 1 (0x84 ∷ [])) (0x84 ∷ []) ∷
     asks 4 emptyRecord (largestReadRecord 2 (0x84 ∷ 0x00 ∷ [])) (0x84 ∷ 0x00 ∷ []) ∷
-    -- moving: a record without anything, and one of all sections, to form 2 and back
+    -- moving: a record without anything, one of a largest read of 0, and one of all sections, to form 2 and back
     moves 2 600 emptyRecord accepted (largestReadRecord 2 []) ∷
     moves 1 600 (largestReadRecord 2 []) accepted emptyRecord ∷
+    moves 2 600 (largestReadRecord 1 (0x00 ∷ [])) accepted (largestReadRecord 2 (0x00 ∷ 0x00 ∷ [])) ∷
+    moves 1 600 (largestReadRecord 2 (0x00 ∷ 0x00 ∷ [])) accepted (largestReadRecord 1 (0x00 ∷ [])) ∷
     moves 2 600 (fullRecord 1 (0x50 ∷ [])) accepted (fullRecord 2 (0x50 ∷ 0x00 ∷ [])) ∷
     moves 1 600 (fullRecord 2 (0x50 ∷ 0x00 ∷ [])) accepted (fullRecord 1 (0x50 ∷ [])) ∷
     -- form 1 holds 132 and no more: 8 at 133, and where the low byte alone would fit
@@ -198,6 +206,7 @@ warned =
     moves 1 600 (largestReadRecord 2 (0x50 ∷ 0x01 ∷ [])) tooLarge [] ∷
     -- a largest read over 1,024 is 7, and so is a record that has the form already; the area goes before both
     moves 1 600 (largestReadRecord 2 (0x01 ∷ 0x04 ∷ [])) unsoundRecord [] ∷
+    moves 1 600 (0x02 ∷ []) unsoundRecord [] ∷
     moves 1 600 emptyRecord unsoundRecord [] ∷
     moves 2 600 (largestReadRecord 2 []) unsoundRecord [] ∷
     moves 1 599 (largestReadRecord 2 (0x85 ∷ 0x00 ∷ [])) smallArea [] ∷
@@ -231,7 +240,7 @@ warned =
     typed 0x31 (0x31 ∷ []) [] ∷
     typed 0x0D (0x0D ∷ 0x0A ∷ []) (0x0A ∷ 0x00 ∷ 0x03 ∷ 0x00 ∷ 0x02 ∷ 0x00 ∷ 0x01 ∷ 0x00 ∷ 0x01 ∷ 0x00 ∷ 0x31 ∷ 0x0D ∷ []) ∷
     startedA ∷ typed 0x31 [] [] ∷ []) ∷
-    -- a refused load, which is no record or one of another form, leaves the line as it was
+    -- a refused load, which is no record or one of form 3, leaves the line as it was
     runs
     (initiated ∷ loading emptyRecord [] unsoundRecord ∷ loading (largestReadRecord 1 (1 ∷ [])) (largestReadRecord 3 []) unsoundRecord ∷ startedA ∷ []) ∷
     -- M-103, six rows. A half-typed answer: an alarm locks (UU 1, PP 1 of one line), a key waits, and behind the unlock (UU 3, QQ 2, S) the keeper sees the answer again; Write Completion counts the "!" and not the redisplay
@@ -310,5 +319,5 @@ warned =
     typed 3 [] (outOfBand 3) ∷ typed quoteKey [] [] ∷ stored 0x0D ∷ typed clearKey [] [] ∷ typed discardKey [] (discardState 0 ++ timedOut) ∷ []) ∷
     -- in an area that is too small the key does not arrive: neither does it wait, nor is it returned
     runs
-    (initiated ∷ startedA ∷ asked (terminalArea - 1) messageArea (key 0x34) smallArea [] [] 0 ∷ waiting 0 ∷
+    (initiated ∷ startedA ∷ asked 32767 2048 (key 0x34) smallArea [] [] 0 ∷ asked 32768 2047 (key 0x34) smallArea [] [] 0 ∷ waiting 0 ∷
     typed 0x0D (0x0D ∷ 0x0A ∷ []) (0x09 ∷ 0x00 ∷ 0x03 ∷ 0x00 ∷ 0x02 ∷ 0x00 ∷ 0x01 ∷ 0x00 ∷ 0x00 ∷ 0x00 ∷ 0x0D ∷ []) ∷ []) ∷ []

@@ -10,7 +10,7 @@ use Rattle.rules.specs.Numbers.{movingArea, smallArea, unsoundRecord, to
 use Rattle.rules.specs.Messages.Layout.{bytesOf, framed}
 use Rattle.rules.specs.Messages.Codec.{Outcome, refused, sound, allBytes}
 use Rattle.rules.specs.Settings.{formIn, form1, form2, characteristicsSection, attributesSection, setSection, largestReadSection}
-use Rattle.rules.specs.Settings.{isForm, sectionIn, largestReadBytes, topLargestRead, largestReadIn, isSound, meaningOf, HeldBy, IsRecordOf}
+use Rattle.rules.specs.Settings.{isForm, sectionIn, largestReadBytes, topLargestRead, largestReadIn, isSound, meaningOf, SayableRead, IsRecordOf}
 
 -- what is moved to a form is a sound record of the other
 unfoldable pub otherForm : ℕ → ℕ
@@ -70,13 +70,13 @@ MovesBack =
     move (otherForm form) area′ after ≡ sound bytes
 
 -- A sound record moves where its largest read is none, or one that the other form holds; so every one of form 1 moves to form 2.
-abbrev pub HeldMoves : Type 0
-HeldMoves =
+abbrev pub SayableMoves : Type 0
+SayableMoves =
     (form area : ℕ) (bytes : List ℕ) →
     movingArea ≤ area →
     isSound bytes ≡ true →
     formIn bytes ≡ otherForm form →
-    HeldBy form (meaningOf bytes) →
+    SayableRead form (meaningOf bytes) →
     move form area bytes ≡ sound (moved form bytes)
 
 abbrev pub Form1Moves : Type 0
@@ -94,3 +94,6 @@ pub record IsTooLarge (area : ℕ) (bytes : List ℕ) : Type 0 where
 abbrev pub TooLargeExactly : Type 0
 TooLargeExactly =
     (area : ℕ) (bytes : List ℕ) → (move form1 area bytes ≡ refused tooLarge → IsTooLarge area bytes) × (IsTooLarge area bytes → move form1 area bytes ≡ refused tooLarge)
+
+abbrev pub NeverTooLarge : Type 0
+NeverTooLarge = (area : ℕ) (bytes : List ℕ) → move form2 area bytes ≡ refused tooLarge → ⊥
