@@ -5,8 +5,8 @@ use crate::message::BUFFER;
 use std::io;
 
 /// How many characters are in the buffer when the key of a cycle arrives; its
-/// rub-out finds one more, in the last the most that a pending read can have: one
-/// more key would end it.
+/// rub-out finds one more. The last is the most: with one more the key would end
+/// the read.
 pub const LENGTHS: [usize; 8] = [0, 16, 64, 130, 256, 512, 768, BUFFER as usize - 2];
 
 /// The mean of all but the fastest and the slowest ninth.

@@ -17,7 +17,6 @@ const DELETE_KEY: u8 = 127;
 const DELETE_WORD_KEY: u8 = 23;
 const DELETE_LINE_KEY: u8 = 21;
 const REDISPLAY_KEY: u8 = 18;
-const UNREAD: &str = "05 00";
 
 /// A read that only an end of room or an Unread completes, with all the room that
 /// there is.

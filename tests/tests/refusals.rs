@@ -3,8 +3,6 @@
 mod common;
 use common::*;
 
-const INITIATE: &str = "01 00 01 00 00 20 20 20 20 20 20 20 20";
-
 #[test]
 fn row_1_areas() {
     let (terminal, message) = (TERMINAL_AREA, MESSAGE_AREA);
@@ -82,14 +80,14 @@ fn row_4_order_of_messages() {
     assert_eq!(bench.host_bytes(&read).0, 0);
     bench.refused(4, &read);
     bench.refused(4, &[2]);
-    assert_eq!(bench.number("05 00"), 0);
+    assert_eq!(bench.number(UNREAD), 0);
     assert_eq!(bench.host_bytes(&read).0, 0);
 }
 
 #[test]
 fn row_5_cut_short_and_left_over() {
     let mut bench = Bench::initiated();
-    for whole in ["05 00", "06 00", "0C 00"] {
+    for whole in [UNREAD, "06 00", "0C 00"] {
         let whole = bytes(whole);
         bench.refused(5, &whole[..1]);
         bench.refused(5, &[whole.clone(), vec![0]].concat());
@@ -106,7 +104,7 @@ fn row_5_cut_short_and_left_over() {
     }
     bench.refused(5, &[read, vec![0]].concat());
     let mut fresh = Bench::default();
-    let whole = bytes("01 00 01 00 00 20 20 20 20 20 20 20 20 01 02 00 01");
+    let whole = bytes(&format!("{INITIATE} 01 02 00 01"));
     for end in (1..13).chain([14, 15, 16]) {
         fresh.refused(5, &whole[..end]);
     }

@@ -100,9 +100,18 @@ fn unsound(bench: &mut Bench, record: &[u8]) {
     });
 }
 
+/// A load takes it as the own record, as the site's and as both.
 fn sound(bench: &mut Bench, record: &[u8]) {
     for other in [nothing(), nothing_2()] {
         assert_eq!(bench.load(record, &other), 0, "{}", hex(record));
         assert_eq!(bench.load(&other, record), 0, "{}", hex(record));
     }
+    assert_eq!(bench.load(record, record), 0, "{}", hex(record));
+}
+
+/// A read of this MAX-LENGTH is refused with 5, or starts; then it is ended.
+fn number_at(bench: &mut Bench, max: u16) -> u8 {
+    let number = bench.host_bytes(&start(ZZ2, b"", b"").max(max).bytes()).0;
+    assert_eq!(bench.number(UNREAD), 0);
+    number
 }

@@ -37,8 +37,8 @@ use std::time::Instant;
 /// the program under 15 seconds where waking is slow.
 const RUNS: usize = 27;
 
-/// A run takes less than a second. One that waits for an echo that never comes is
-/// ended by the kernel after so many.
+/// Seconds. A run takes less than one; if an echo never comes, a signal ends the
+/// program.
 const PATIENCE: c_uint = 20;
 
 const KEY: &[u8] = b"g";

@@ -2,7 +2,7 @@
 //! whole buffer, positions about the top column, messages about the longest.
 
 use crate::line::MESSAGE_AREA;
-use crate::message::{ReadData, BUFFER, LONGEST, START_READ, UNREAD};
+use crate::message::{ReadData, BUFFER, CHARACTERISTICS, LONGEST, START_READ, UNREAD};
 use crate::screen::{self, HT, TOP};
 use crate::settings::Form;
 
@@ -32,6 +32,7 @@ things! {
     // Messages, on a line and without one.
     MessageOneLess, MessageLongest, MessageOneMore, MessageOneMoreOfNoType, MessageOneMoreUnsound,
     ReadLongest, ReadOneMore, ReadOneMoreOfNoType, ReadOneMoreUnsound,
+    LongCharacteristics, ReadLongCharacteristics,
     AnswerOneLess, AnswerFills, AnswerOneMore,
 }
 
@@ -88,19 +89,27 @@ pub fn high(number: usize) -> bool {
     number > usize::from(u8::MAX)
 }
 
+fn long_characteristics(bytes: &[u8]) -> bool {
+    bytes.first() == Some(&CHARACTERISTICS) && high(bytes.len())
+}
+
 impl Long {
     pub fn met_if(&mut self, holds: bool, thing: Thing) {
         self.things[thing as usize] += u64::from(holds);
     }
 
-    /// If it is a Start Read, it has been judged so.
+    /// Counts a Start Read of a watched MAX-LENGTH by its number.
     fn read(&mut self, place: usize, bytes: &[u8], number: u8) {
-        let [START_READ, _, _, _, low, high, ..] = *bytes else { return };
-        let max_length = u16::from_le_bytes([low, high]);
+        let [START_READ, _, _, _, max_low, max_high, end_low, end_high, ..] = *bytes else {
+            return;
+        };
+        let max_length = u16::from_le_bytes([max_low, max_high]);
+        let end_of_data = u16::from_le_bytes([end_low, end_high]);
         let Some(watched) = WATCHED.iter().position(|length| *length == max_length) else { return };
         match number {
             0 => self.reads[place][watched][0] += 1,
-            5 => self.reads[place][watched][1] += 1,
+            // Too much DATA would be a 5 of any MAX-LENGTH.
+            5 if end_of_data <= max_length => self.reads[place][watched][1] += 1,
             _ => {}
         }
     }
@@ -140,8 +149,8 @@ impl Long {
         self.met_if(at && code == HT, tab);
     }
 
-    /// A Read Data is sent.
-    pub fn returned(&mut self, read: &ReadData) {
+    /// A Read Data is sent; its read began with DATA or without.
+    pub fn returned(&mut self, read: &ReadData, began_empty: bool) {
         let whole = read.data.len() == usize::from(BUFFER);
         let met = [
             high(read.data.len()),
@@ -149,7 +158,7 @@ impl Long {
             high(usize::from(read.low_water)),
             high(usize::from(read.terminator)),
         ];
-        self.met_if(whole && read.low_water == 0, Thing::WholeTyped);
+        self.met_if(whole && began_empty, Thing::WholeTyped);
         for (count, met) in self.returned[usize::from(read.code)].iter_mut().zip(met) {
             *count += u64::from(met);
         }
@@ -157,8 +166,10 @@ impl Long {
 
     /// A message has arrived at a line, which answers this number.
     pub fn message(&mut self, bytes: &[u8], number: u8) {
-        self.met_if(bytes.len() == LONGEST - 1, Thing::MessageOneLess);
-        self.met_if(bytes.len() == LONGEST, Thing::MessageLongest);
+        let taken = number == 0;
+        self.met_if(taken && bytes.len() == LONGEST - 1, Thing::MessageOneLess);
+        self.met_if(taken && bytes.len() == LONGEST, Thing::MessageLongest);
+        self.met_if(taken && long_characteristics(bytes), Thing::LongCharacteristics);
         let things =
             [Thing::MessageOneMore, Thing::MessageOneMoreOfNoType, Thing::MessageOneMoreUnsound];
         self.one_more(bytes, things);
@@ -167,7 +178,9 @@ impl Long {
 
     /// A message has been read without a line.
     pub fn copied(&mut self, bytes: &[u8], number: u8) {
-        self.met_if(bytes.len() == LONGEST, Thing::ReadLongest);
+        let taken = number == 0;
+        self.met_if(taken && bytes.len() == LONGEST, Thing::ReadLongest);
+        self.met_if(taken && long_characteristics(bytes), Thing::ReadLongCharacteristics);
         self.one_more(
             bytes,
             [Thing::ReadOneMore, Thing::ReadOneMoreOfNoType, Thing::ReadOneMoreUnsound],

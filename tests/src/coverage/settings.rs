@@ -32,7 +32,7 @@ pub const WATCHED: [u16; 8] = [
     Form::Two.top(),
 ];
 
-/// How a move ends, each with a record that has a watched largest read or not.
+/// A move is answered 0 to 8.
 const NUMBERS: usize = TOO_LARGE as usize + 1;
 
 /// A form as an index; a record of no known form stands behind the others.

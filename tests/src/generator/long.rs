@@ -1,7 +1,7 @@
 //! Scenes with long answers (M-107): texts up to a whole buffer, positions about
 //! the top column, messages about the longest.
 
-use super::messages::{self, RECOGNISED};
+use super::messages::{self, MOST_VALUES, RECOGNISED};
 use super::random::Random;
 use super::{typing, Generator};
 use crate::coverage::long::WATCHED;
@@ -9,7 +9,7 @@ use crate::line::arrival::CLEAR_KEY;
 use crate::line::steps::{DELETE, DELETE_LINE, DELETE_WORD, REDISPLAY};
 use crate::line::tokens::{CSI, ESC};
 use crate::line::MESSAGE_AREA;
-use crate::message::{Message, StartRead, Write, BUFFER, REDISPLAY_AFTER};
+use crate::message::{Message, StartRead, Value, Write, BUFFER, NORMAL_ECHO, REDISPLAY_AFTER};
 use crate::screen::{BEL, CR, HT, LF, TOP};
 use crate::script::Order;
 
@@ -17,6 +17,9 @@ use crate::script::Order;
 const ROOMY: usize = 70;
 /// One scene in so many has its whole text typed: it takes as long as many others.
 const TYPED_OUT: usize = 300;
+
+/// How few values a long Characteristics has.
+const FEWEST_VALUES: usize = 50;
 
 /// What ends a read, and may just fill it.
 const ENDINGS: [&[u8]; 6] = [
@@ -45,6 +48,7 @@ impl Generator {
             _ if self.random.below(TYPED_OUT) == 0 => self.typed_out(),
             0 => self.fresh(),
             1 => self.wrong_length(),
+            2 if self.random.chance(50) => self.long_characteristics(),
             2 => self.longest_answer(),
             3 => self.largest_read(),
             4 => self.read_without_a_line(),
@@ -145,6 +149,20 @@ impl Generator {
         let length = self.random.between(MESSAGE_AREA - 2, MESSAGE_AREA + 2);
         let wanted = messages::wanted_for(length, &mut self.random);
         self.host(&Message::ReadCharacteristics(wanted));
+    }
+
+    /// Sets so much that the message is long, and looks at what it left.
+    fn long_characteristics(&mut self) {
+        let count = self.random.between(FEWEST_VALUES, MOST_VALUES);
+        let mut values = messages::carried(count, &mut self.random);
+        // Without echo little would be seen of what follows.
+        if self.random.chance(90) {
+            values[count - 1] = Value::Boolean { selector: NORMAL_ECHO, on: true };
+        }
+        let bytes = messages::bytes_of(&Message::Characteristics(values));
+        self.order(Order::Read(bytes.clone()));
+        self.send(&bytes);
+        self.longest_answer();
     }
 }
 

@@ -2,7 +2,7 @@
 
 use super::random::Random;
 use super::{typing, writes};
-use crate::line::MESSAGE_AREA;
+use crate::line::{LENGTH, MESSAGE_AREA};
 use crate::message::{
     self, Initiate, Message, ReadData, StartRead, Value, Wanted, BUFFER, LONGEST,
 };
@@ -22,6 +22,10 @@ const ATTRIBUTES_ANSWER: usize = 5;
 /// As many as can be answered: of the longer ones alone, and of the shorter.
 const FEWEST: usize = (MESSAGE_AREA - ANSWER_HEADER) / ATTRIBUTES_ANSWER;
 const MOST: usize = (MESSAGE_AREA - ANSWER_HEADER) / PLAIN_ANSWER;
+
+/// A Characteristics has its values as an answer has them. Of the longer ones alone
+/// a message takes so many.
+pub const MOST_VALUES: usize = (LONGEST - (ANSWER_HEADER - LENGTH)) / ATTRIBUTES_ANSWER;
 
 /// Header and DATA of a Read Data fill a message.
 const READ_DATA_HEADER: usize = 8;
@@ -156,6 +160,11 @@ fn any_start_read(random: &mut Random) -> StartRead {
 /// Characteristics that the line takes.
 pub fn carried_values(random: &mut Random) -> Vec<Value> {
     let count = random.pick(&[0, 1, 1, 1, 2, 3, 8]);
+    carried(count, random)
+}
+
+/// So many of them.
+pub fn carried(count: usize, random: &mut Random) -> Vec<Value> {
     (0..count).map(|_| carried_value(random)).collect()
 }
 

@@ -8,7 +8,8 @@ use crate::script::Order;
 impl Generator {
     pub(super) fn small_areas(&mut self) {
         let [terminal, message] = [TERMINAL_AREA, MESSAGE_AREA].map(|least| {
-            let more = least + self.random.between(1, least);
+            // A script takes lengths up to 65,535.
+            let more = least + self.random.between(1, least - 1);
             self.random.pick(&[least, least, least - 1, 0, more, usize::from(u16::MAX)])
         });
         self.order(Order::Lengths(Areas { terminal, message }));

@@ -4,7 +4,7 @@
 use super::random::Random;
 use super::{messages, records, typing, Generator};
 use crate::coverage::long::WATCHED;
-use crate::message::{Message, BUFFER};
+use crate::message::Message;
 use crate::script::{Order, Records, Reply};
 use crate::settings::{Form, ATTRIBUTES, CHARACTERISTICS, FORMS, LARGEST_READ, SET};
 
@@ -62,7 +62,7 @@ impl Generator {
 
     /// A small largest read would leave little to see in what follows.
     pub(super) fn load_room(&mut self) {
-        self.load_section(Form::Two, LARGEST_READ, Form::Two.largest_section(BUFFER));
+        self.load_section(Form::Two, LARGEST_READ, Form::Two.largest_section(Form::Two.top()));
     }
 
     /// Loads before Initiate, which has to keep what they left.

@@ -94,6 +94,8 @@ struct Read {
     display_column: u16,
     note_column: u16,
     note_line: u8,
+    /// END-OF-DATA was 0; only what is counted depends on it.
+    began_empty: bool,
 }
 
 /// The line between two calls.

@@ -98,6 +98,7 @@ impl Line {
             display_column: self.screen.column,
             note_column: self.screen.column,
             note_line: self.screen.line,
+            began_empty: asked.end_of_data == 0,
             buffer: asked.data.clone(),
         }
     }
@@ -156,7 +157,7 @@ impl Line {
             terminator: (data.len() - tail) as u16,
             data,
         };
-        self.seen.long.returned(&data);
+        self.seen.long.returned(&data, read.began_empty);
         self.send(Message::ReadData(data), out);
     }
 }

@@ -15,6 +15,7 @@ pub const BUFFER: u16 = 1_024;
 pub const INITIATE: u8 = 1;
 pub const START_READ: u8 = 2;
 pub const UNREAD: u8 = 5;
+pub const CHARACTERISTICS: u8 = 11;
 
 pub const IGNORE_INPUT: u16 = 0x0201;
 pub const CHARACTER_ATTRIBUTES: u16 = 0x0202;

@@ -57,7 +57,7 @@ impl Bench {
     /// A line that has accepted an Initiate.
     pub fn initiated() -> Self {
         let mut bench = Bench::default();
-        assert_eq!(bench.host("01 00 01 00 00 20 20 20 20 20 20 20 20").0, 0);
+        assert_eq!(bench.number(INITIATE), 0);
         bench
     }
 
@@ -183,6 +183,10 @@ impl Bench {
         });
     }
 }
+
+/// An Initiate without parameters, and an Unread (always).
+pub const INITIATE: &str = "01 00 01 00 00 20 20 20 20 20 20 20 20";
+pub const UNREAD: &str = "05 00";
 
 /// What a line answers to an Initiate: 2,048 and 1,024 stand in it.
 pub const OUR_INITIATE: &str =

@@ -51,6 +51,10 @@ fn the_test_of_the_fields_holds_above_255() {
     display.display = 300;
     bench.refused(6, &display.bytes());
     assert_eq!(bench.copied(&display.bytes()), Ok(hex(&display.bytes())));
+    // START-OF-DISPLAY 601 of END-OF-DATA 600.
+    let over = bytes("02 00 80 00 BC 02 58 02 00 00 00 00 59 02 00 00 00");
+    bench.refused(5, &over);
+    assert_eq!(bench.copied(&over), Err(5));
 }
 
 #[test]
@@ -60,6 +64,18 @@ fn a_terminator_behind_a_long_text() {
     // One line down at column 0; LOW-WATER 302, position 300.
     let answer = format!("03 00 2E 01 01 00 2C 01{} 0D", " 78".repeat(300));
     assert_eq!(bench.typed(&[CR]), pair("0D 0A", &answer));
+}
+
+/// A tab has one space there, a control its two marks; the column stays.
+#[test]
+fn a_terminator_is_echoed_at_the_top() {
+    for (code, shown) in [(HT, "20"), (1, "5E 41")] {
+        let mut bench = Bench::initiated();
+        let text = [b'x'; TOP as usize];
+        start(ZZ1 | T, b"", &text).set(&[code]).max(BUFFER).on(&mut bench);
+        let answer = format!("03 00 E7 03 00 E7 E7 03 {} {code:02X}", hex(&text));
+        assert_eq!(bench.key(code), done(shown, &answer));
+    }
 }
 
 #[test]
@@ -109,7 +125,7 @@ fn low_water_falls_from_above_255() {
     roomy(b"", &[b'x'; 600]).on(&mut bench);
     bench.typed(&[DELETE_KEY]);
     assert!(bench.host(UNREAD).2.starts_with("03 06 57 02 00 57 57 02 78"));
-    // Not where less is deleted than it has above it.
+    // It stays where the end comes down to it and no further.
     let mut read = roomy(b"", &[b'x'; 600]);
     read.low = Some(300);
     read.on(&mut bench);
@@ -117,7 +133,7 @@ fn low_water_falls_from_above_255() {
     bench.typed(b"y");
     bench.typed(&[DELETE_KEY]);
     assert!(bench.host(UNREAD).2.starts_with("03 06 2C 01 00"));
-    // To the end of a prompt, and no further.
+    // It falls to the end of a prompt, and no further.
     let mut read = roomy(&[b'?'; 513], &[b'x'; 87]);
     read.low = Some(600);
     read.on(&mut bench);
@@ -177,14 +193,21 @@ fn positions_are_modulo_256_however_long_the_text() {
     assert_eq!(bench.host(UNREAD), done("", "03 06 E9 03 E8 19 00 00"));
 }
 
+fn digits(bytes: &[u8]) -> String {
+    hex(bytes).replace(' ', "")
+}
+
+/// Our Initiate as a script shows it.
+fn our_answer() -> String {
+    format!("0 - 1900{}\n", OUR_INITIATE.replace(' ', ""))
+}
+
 /// As a script shows the message area.
 #[test]
 fn a_message_stands_behind_its_length_low_byte_first() {
-    let digits = |bytes: &[u8]| hex(bytes).replace(' ', "");
     let text = [b'x'; 300];
     let read = start(ZZ2, b"", &text).max(300).bytes();
-    let initiate = "01000100002020202020202020";
-    let ours = format!("0 - 1900{}\n", OUR_INITIATE.replace(' ', ""));
+    let (initiate, ours) = (INITIATE.replace(' ', ""), our_answer());
     // Eight bytes and 300 are 34 01.
     let answer = format!("0 {0} 340103042C01002C2C01{0}\n", digits(&text));
     let script = format!("M {initiate}\nM {}\n", digits(&read));
@@ -210,4 +233,54 @@ fn messages_without_a_line_keep_both_bytes() {
     let initiate = [vec![1, 0, 1, 0, 0], vec![b' '; 8], parameter.repeat(7)].concat();
     assert_eq!(bench.copied(&initiate), Ok(hex(&initiate)));
     assert_eq!(bench.host_bytes(&initiate), done("", OUR_INITIATE));
+}
+
+/// The bytes of a message with one part for each character code.
+fn for_each_code(front: &str, part: impl Fn(u8) -> Vec<u8>) -> Vec<u8> {
+    [bytes(front), (0..=255).flat_map(part).collect()].concat()
+}
+
+#[test]
+fn characteristics_of_all_256_codes() {
+    let given = for_each_code("0B 00", |code| vec![2, 2, code, 0xFF, 4]);
+    let asked = for_each_code("0A 00", |code| vec![2, 2, code]);
+    let answer = for_each_code("0B 00", |code| vec![2, 2, code, 0x7F, 4]);
+    assert_eq!((given.len(), asked.len(), answer.len()), (1_282, 770, 1_282));
+    let mut bench = Bench::initiated();
+    assert_eq!(bench.copied(&given), Ok(hex(&given)));
+    assert_eq!(bench.host_bytes(&given), done("", ""));
+    assert_eq!(bench.host_bytes(&asked), done("", &hex(&answer)));
+    // 1,282 are 02 05.
+    let initiate = INITIATE.replace(' ', "");
+    let script = format!("M {initiate}\nM {}\nM {}\n", digits(&given), digits(&asked));
+    let answers = format!("0 - -\n0 - 0205{}\n", digits(&answer));
+    assert_eq!(run(&script), our_answer() + &answers);
+}
+
+#[test]
+fn characteristics_have_up_to_the_longest() {
+    let mut bench = Bench::initiated();
+    // Raising off again and again, and on at the end.
+    let longest = [bytes("0B 00"), [4, 2, 0].repeat(681), bytes("04 02 01")].concat();
+    assert_eq!(longest.len(), LONGEST);
+    assert_eq!(bench.host_bytes(&longest), done("", ""));
+    assert_eq!(bench.host("0A 00 04 02"), done("", "0B 00 04 02 01"));
+    assert_eq!(bench.copied(&longest), Ok(hex(&longest)));
+    let more = [&longest[..], &[4, 2, 0]].concat();
+    bench.refused(2, &more);
+    assert_eq!(bench.copied(&more), Err(2));
+}
+
+#[test]
+fn the_end_of_long_characteristics_is_judged() {
+    let mut bench = Bench::initiated();
+    let front = [bytes("0B 00"), [2, 2, 0x41, 0xFF, 4].repeat(408)].concat();
+    // The last leaves a character deferred-clear.
+    let deferred = [front, bytes("02 02 03 FF 02")].concat();
+    assert_eq!(deferred.len(), LONGEST - 1);
+    bench.refused(6, &deferred);
+    // Behind it a selector is cut short, and 5 comes before 6.
+    let cut = [&deferred[..], &[0]].concat();
+    bench.refused(5, &cut);
+    assert_eq!(bench.copied(&cut), Err(5));
 }

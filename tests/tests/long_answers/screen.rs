@@ -41,7 +41,7 @@ fn tabs_at_the_end_of_a_thousand_characters() {
 fn a_tab_echoes_from_the_lines_column_and_is_rubbed_out_by_the_replay() {
     let mut bench = at_990();
     bench.typed(&[HT, HT, DELETE_KEY, DELETE_KEY]);
-    // The replay has 990 there, the line 3 less than it had.
+    // Ten rub-outs from 999: the line is at 989, where the replay has 990.
     assert_eq!(bench.line().column(), 989);
     assert_eq!(bench.typed(&[HT]).0, blanks(3));
     assert_eq!(bench.typed(&[DELETE_KEY]).0, rubbed(2));

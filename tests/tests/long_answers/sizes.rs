@@ -17,8 +17,8 @@ fn the_sizes_that_the_request_gives() {
 }
 
 #[test]
-fn our_initiate_offers_two_of_them() {
-    let (_, _, ours) = Bench::default().host("01 00 01 00 00 20 20 20 20 20 20 20 20");
+fn our_initiate_offers_the_longest_message_and_the_buffer() {
+    let (_, _, ours) = Bench::default().host(INITIATE);
     let offered = format!("01 02 {} 02 02 {} 03 02 FE 7F", word(LONGEST), word(WHOLE));
     assert!(ours.ends_with(&offered), "{ours}");
     assert_eq!(ours, OUR_INITIATE);

@@ -124,7 +124,7 @@ fn before_initiate_rule_4_alone_acts() {
     bench.keys(&[b'k'; TYPE_AHEAD - 4]);
     assert_eq!(bench.key(b'z'), done("07", ""));
     assert_eq!(bench.dropped(), 1);
-    assert_eq!(bench.number("01 00 01 00 00 20 20 20 20 20 20 20 20"), 0);
+    assert_eq!(bench.number(INITIATE), 0);
     assert_eq!(count(&mut bench), TYPE_AHEAD);
     plain().on(&mut bench);
     for shown in ["5E 56", "5E 4F", "5E 58", "5E 43"] {

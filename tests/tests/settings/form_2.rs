@@ -33,12 +33,19 @@ fn the_largest_read_is_low_byte_first() {
     let mut bench = Bench::initiated();
     for (section, largest) in [([0, 4], 1_024), ([4, 0], 4), ([132, 0], 132), ([1, 2], 513)] {
         assert_eq!(bench.load(&only_of(2, 4, &section), &nothing()), 0);
-        assert_eq!(bench.host_bytes(&start(ZZ2, b"", b"").max(largest).bytes()).0, 0);
-        assert_eq!(bench.number("05 00"), 0);
+        assert_eq!(number_at(&mut bench, largest), 0);
         bench.refused(5, &start(ZZ2, b"", b"").max(largest + 1).bytes());
     }
     unsound(&mut bench, &only_of(2, 4, &[0, 132]));
     unsound(&mut bench, &only_of(2, 4, &[1, 4]));
+}
+
+#[test]
+fn a_load_before_initiate_takes_form_2_too() {
+    let mut bench = Bench::default();
+    assert_eq!(bench.load(&largest_2(300), &nothing_2()), 0);
+    assert_eq!(bench.host(INITIATE), done("", OUR_INITIATE));
+    assert_eq!((number_at(&mut bench, 301), number_at(&mut bench, 300)), (5, 0));
 }
 
 /// The same sections are a record of both forms, or of one, or of neither.

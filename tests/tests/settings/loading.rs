@@ -3,9 +3,6 @@
 use super::*;
 use second::{compare, script};
 
-const INITIATE: &str = "01 00 01 00 00 20 20 20 20 20 20 20 20";
-const UNREAD: &str = "05 00";
-
 /// The four switches as Read Characteristics tells them.
 fn told_switches(bench: &mut Bench) -> Vec<usize> {
     let (number, _, answer) = bench.host("0A 00 04 02 05 02 06 02 09 02");
@@ -27,13 +24,6 @@ fn set(codes: &[u8]) -> Vec<u8> {
         set.pop();
     }
     set
-}
-
-/// A read of this MAX-LENGTH is refused with 5, or starts; then it is ended.
-fn number_at(bench: &mut Bench, max: u16) -> u8 {
-    let number = bench.host_bytes(&start(ZZ2, b"", b"").max(max).bytes()).0;
-    assert_eq!(bench.number(UNREAD), 0);
-    number
 }
 
 #[test]

@@ -59,13 +59,10 @@ fn either_unsound_record_leaves_nothing_to_ask_for() {
 fn largest(own: &[u8], site: &[u8]) -> u16 {
     let mut bench = Bench::initiated();
     assert_eq!(bench.load(own, site), 0);
-    let taken = |bench: &mut Bench, max| {
-        let number = bench.host_bytes(&start(ZZ2, b"", b"").max(max).bytes()).0;
-        assert_eq!(bench.number("05 00"), 0);
-        number == 0
-    };
-    let all = [9, 10, 11, TOP_1 - 1, TOP_1, TOP_1 + 1, 999, 1_000, 1_001, BUFFER - 1, BUFFER];
-    all.into_iter().filter(|max| taken(&mut bench, *max)).max().expect("a short read is taken")
+    let tops = [TOP_1 - 1, TOP_1, TOP_1 + 1, TOP_2 - 1, TOP_2, BUFFER - 1, BUFFER];
+    let all = [&tops[..], &[9, 10, 11, 999, 1_000, 1_001]].concat();
+    let taken = all.into_iter().filter(|max| number_at(&mut bench, *max) == 0);
+    taken.max().expect("a short read is taken")
 }
 
 #[test]
@@ -83,7 +80,7 @@ fn the_largest_read_is_loaded_from_either_form() {
         (nothing(), nothing_2(), BUFFER),
         (only(4, &[TOP_1 as u8]), nothing_2(), TOP_1),
         (largest_2(TOP_1 + 1), nothing_2(), TOP_1 + 1),
-        (largest_2(TOP_2), small(), BUFFER),
+        (largest_2(TOP_2), small(), TOP_2),
     ] {
         assert_eq!(largest(&own, &site), expected);
     }
@@ -130,13 +127,12 @@ fn form_2_loads_what_form_1_does() {
 #[test]
 fn a_form_1_record_that_is_loaded_takes_room_away() {
     let mut bench = Bench::initiated();
-    start(ZZ2, b"", b"").max(BUFFER).on(&mut bench);
-    assert_eq!(bench.number("05 00"), 0);
+    assert_eq!(number_at(&mut bench, BUFFER), 0);
     assert_eq!(bench.load(&only(4, &[TOP_1 as u8]), &nothing_2()), 0);
     bench.refused(5, &start(ZZ2, b"", b"").max(TOP_1 + 1).bytes());
     // Only form 2 can give it back.
     assert_eq!(bench.load(&nothing(), &nothing_2()), 0);
     bench.refused(5, &start(ZZ2, b"", b"").max(TOP_1 + 1).bytes());
-    assert_eq!(bench.load(&largest_2(BUFFER), &nothing()), 0);
-    start(ZZ2, b"", b"").max(BUFFER).on(&mut bench);
+    assert_eq!(bench.load(&largest_2(TOP_2), &nothing()), 0);
+    assert_eq!(number_at(&mut bench, TOP_2), 0);
 }

@@ -39,11 +39,17 @@ fn moving_keeps_the_meaning() {
             assert_eq!(bench.section(number, &two, &nothing()), section);
         }
     }
-    // A form 2 record that moves back is the same again, too.
-    for largest in 0..=TOP_1 {
-        let moved = to_form_1(&largest_2(largest), AREA).expect("it has room");
-        assert_eq!(moved, only(4, &[largest as u8]));
-        assert_eq!(to_form_2(&moved, AREA), Ok(largest_2(largest)));
+}
+
+#[test]
+fn a_moved_record_loads_the_same() {
+    let [mut forth, mut back] = [Bench::default(), Bench::default()];
+    for (one, two) in pairs() {
+        // Each of them first: what does nothing would change nothing either.
+        for (bench, first, then) in [(&mut forth, &one, &two), (&mut back, &two, &one)] {
+            assert_eq!(bench.load(first, &nothing()), 0);
+            bench.unchanged(|bench| assert_eq!(bench.load(then, &nothing()), 0));
+        }
     }
 }
 
@@ -112,7 +118,7 @@ fn an_unsound_record_is_7() {
     both(only(4, &[80, 0]));
     both(only_of(2, 4, &[80]));
     both(only(4, &[133]));
-    // 7 comes before 8: the flaw stands behind a largest read over 132.
+    // 7 comes before 8: a flaw, and a largest read over 132.
     both([&largest_2(TOP_2)[..], &[0]].concat());
     both(record_of(2, [&[], &[65, 2], &[], &[0, 4]]));
 }
@@ -141,6 +147,20 @@ fn the_longest_records_fit_the_area() {
     let longest = pairs().into_iter().map(|(one, two)| (one.len(), two.len())).max();
     assert_eq!(longest, Some((566, 567)));
     assert!(567 <= AREA);
+}
+
+#[test]
+fn a_longest_record_with_bytes_left_over_is_7() {
+    let mut bench = Bench::default();
+    for (one, two) in pairs().into_iter().filter(|(_, two)| two.len() == 567) {
+        // About the area, and about what a script keeps of a record.
+        for length in [AREA, AREA + 1, AREA + 2] {
+            for (to, mut record) in [(Form::Two, one.clone()), (Form::One, two.clone())] {
+                record.resize(length, 0);
+                assert_eq!(bench.moved(to, &record), Err(7));
+            }
+        }
+    }
 }
 
 #[test]
