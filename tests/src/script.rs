@@ -1,7 +1,7 @@
 //! Runs script text through a line and gives the answer lines.
 
 use crate::coverage::Coverage;
-use crate::line::{Answer, Areas, Line};
+use crate::line::{number_of, Answer, Areas, Line};
 use crate::message;
 use crate::moving;
 use crate::settings::{self, Form};
@@ -252,8 +252,7 @@ impl Runner {
             Form::One => moving::to_form_1(record, moving::AREA),
             Form::Two => moving::to_form_2(record, moving::AREA),
         };
-        let number = *moved.as_ref().err().unwrap_or(&0);
-        self.seen.settings.moved(form, record, number);
+        self.seen.settings.moved(form, record, number_of(&moved));
         moved
     }
 
@@ -267,7 +266,7 @@ impl Runner {
             self.seen.read[usize::from(read.kind())] += 1;
             message::write(&read, message::LONGEST)
         });
-        let number = *copy.as_ref().err().unwrap_or(&0);
+        let number = number_of(&copy);
         self.seen.read_numbers[usize::from(number)] += 1;
         self.seen.long.copied(bytes, number);
         copy

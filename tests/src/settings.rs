@@ -201,16 +201,16 @@ fn judge_set(section: &[u8]) -> Result<(), Flaw> {
 }
 
 fn judge_largest(form: Form, section: &[u8]) -> Result<(), Flaw> {
-    match largest_read(section) {
-        None if section.is_empty() => Ok(()),
-        Some(number) if section.len() == form.width() => {
-            if number > form.top() {
-                return Err(Flaw::LargestOver);
-            }
-            Ok(())
-        }
-        _ => Err(Flaw::LargestWidth),
+    if section.is_empty() {
+        return Ok(());
     }
+    if section.len() != form.width() {
+        return Err(Flaw::LargestWidth);
+    }
+    if largest_read(section) > Some(form.top()) {
+        return Err(Flaw::LargestOver);
+    }
+    Ok(())
 }
 
 /// The number that a section of one byte or two says, low byte first: how many

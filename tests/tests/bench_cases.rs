@@ -68,7 +68,7 @@ fn case_f_del_at_once() {
 fn case_g_a_quoted_cr_is_data() {
     let mut bench = after_a();
     assert_eq!(bench.typed(&[22, 13]), pair("5E 4D", ""));
-    assert_eq!(bench.host("05 00"), done("", "03 06 02 00 00 04 01 00 0D"));
+    assert_eq!(bench.host(UNREAD), done("", "03 06 02 00 00 04 01 00 0D"));
 }
 
 #[test]
@@ -103,7 +103,7 @@ fn case_k_a_word_and_a_small_area() {
     start(ZZ2, b"", b"gate 35 ").on(&mut bench);
     let (terminal, _) = bench.typed(&[23]);
     assert_eq!(terminal, "08 20 08 08 20 08 08 20 08");
-    let (_, _, messages) = bench.host("05 00");
+    let (_, _, messages) = bench.host(UNREAD);
     assert!(messages.ends_with(&hex(b"gate ")));
     bench.areas.terminal = TERMINAL_AREA - 1;
     assert_eq!(bench.key(b'a').0, 1);
@@ -119,7 +119,7 @@ fn returned_whole(codes: [u8; 3]) {
     assert_eq!(bench.host("0C 00"), done("", "0D 00 00 00"));
     start(ZZ2 | EE2, b"", b"").on(&mut bench);
     assert_eq!(bench.step(), done("", ""));
-    assert_eq!(bench.host("05 00"), done("", "03 06 00 00 00 00 00 00"));
+    assert_eq!(bench.host(UNREAD), done("", "03 06 00 00 00 00 00 00"));
 }
 
 #[test]

@@ -10,7 +10,7 @@ use std::thread;
 /// The calls of one script.
 const SCRIPT: u64 = 20_000;
 
-/// The calls of all generated scripts: some 20 seconds of processor time.
+/// The calls of all generated scripts: some 11 seconds on two cores.
 const CALLS: u64 = 10_000_000;
 
 fn wanted(name: &str, usual: u64) -> u64 {

@@ -11,12 +11,8 @@ mod screen;
 mod sizes;
 
 use common::*;
+use second::line::steps::{DELETE_KEY, DELETE_LINE_KEY, DELETE_WORD_KEY, REDISPLAY_KEY};
 use second::screen::{CR, HT, TOP};
-
-const DELETE_KEY: u8 = 127;
-const DELETE_WORD_KEY: u8 = 23;
-const DELETE_LINE_KEY: u8 = 21;
-const REDISPLAY_KEY: u8 = 18;
 
 /// A read that only an end of room or an Unread completes, with all the room that
 /// there is.

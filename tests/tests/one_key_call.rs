@@ -10,11 +10,11 @@ mod which_step;
 
 use common::*;
 use second::line::arrival::{CLEAR_KEY, DISCARD_KEY, QUOTE_KEY};
+use second::line::steps::DELETE_LINE_KEY;
 use second::line::tokens::ESC;
 use second::line::TYPE_AHEAD;
 use second::screen::{CR, HT};
 
-const DELETE_LINE_KEY: u8 = 21;
 const DISCARD_ON: &str = "09 00";
 const DISCARD_OFF: &str = "09 01";
 const TIMED_OUT: &str = "03 05 00 00 00 00 00 00";

@@ -67,6 +67,14 @@ fn largest_2(number: u16) -> Vec<u8> {
     only_of(2, 4, &[(number % 256) as u8, (number / 256) as u8])
 }
 
+/// A section of all 256 codes, with the highest value each.
+fn all_attributes() -> Vec<u8> {
+    (0..=255).flat_map(|code| [code, 127]).collect()
+}
+
+/// `nothing` in a script.
+const NONE: &str = "010000000000000000";
+
 fn nothing() -> Vec<u8> {
     record([&[]; 4])
 }
@@ -83,6 +91,14 @@ fn full() -> Vec<u8> {
 /// The same in form 2: 30 bytes.
 fn full_2() -> Vec<u8> {
     record_of(2, [&switches(&[ECHO]), &[3, 1, 65, 4], &[0, 32, 8], &[80, 0]])
+}
+
+/// A longest record of each form, with the top of its largest read.
+fn longest() -> [Vec<u8>; 2] {
+    let (switches, attributes, set) = (switches(&[]), all_attributes(), [255; 32]);
+    let one = record([&switches, &attributes, &set, &[TOP_1 as u8]]);
+    let two = record_of(2, [&switches, &attributes, &set, &[0, 4]]);
+    [one, two]
 }
 
 /// Neither as the own record nor as the site's is it taken: a load is 7 and
@@ -107,6 +123,16 @@ fn sound(bench: &mut Bench, record: &[u8]) {
         assert_eq!(bench.load(&other, record), 0, "{}", hex(record));
     }
     assert_eq!(bench.load(record, record), 0, "{}", hex(record));
+}
+
+/// The values that the byte at a place of a record can have in a sound one.
+fn taken(bench: &mut Bench, whole: &[u8], place: usize) -> Vec<u8> {
+    let mut record = whole.to_vec();
+    let loads = |value: &u8| {
+        record[place] = *value;
+        bench.load(&record, &nothing()) == 0
+    };
+    (0..=u8::MAX).filter(loads).collect()
 }
 
 /// A read of this MAX-LENGTH is refused with 5, or starts; then it is ended.

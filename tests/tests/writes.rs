@@ -14,6 +14,7 @@ mod redisplay;
 
 use common::*;
 use second::line::arrival::{CLEAR_KEY, DISCARD_KEY, QUOTE_KEY};
+use second::line::steps::{DELETE_KEY, REDISPLAY_KEY};
 use second::line::tokens::ESC;
 use second::message;
 use second::screen::{CR, HT, LF};
@@ -31,9 +32,6 @@ const PP2: u16 = 2 << 6;
 const QQ1: u16 = 1 << 8;
 const QQ2: u16 = 2 << 8;
 const S: u16 = 1 << 10;
-
-const DELETE_KEY: u8 = 127;
-const REDISPLAY_KEY: u8 = 18;
 
 /// A Write to be filled in.
 struct Write {

@@ -50,6 +50,8 @@ const RUBBED_OUT: &[u8] = b"\x08 \x08";
 /// into the kernel's buffers of 4,096 bytes.
 const TOGETHER: usize = 512;
 const LONGEST: usize = TOGETHER * (KEY.len() + RUBBED_OUT.len());
+/// What is typed before the cycles is echoed into the same room.
+const _: () = assert!(LENGTHS[LENGTHS.len() - 1] <= LONGEST);
 
 fn main() -> io::Result<()> {
     let paces = [key_by_key(), together()];

@@ -1,6 +1,9 @@
 //! What occurred to long answers (M-107): numbers that need their high byte, a
 //! whole buffer, positions about the top column, messages about the longest.
 
+use crate::line::reads::{
+    ABSENTEE, BUFFER_FULL, INVALID_TOKEN, OUT_OF_BAND, TERMINATOR, UNDERFLOW, VALID_TOKEN,
+};
 use crate::line::MESSAGE_AREA;
 use crate::message::{ReadData, BUFFER, CHARACTERISTICS, LONGEST, START_READ, UNREAD};
 use crate::screen::{self, HT, TOP};
@@ -47,10 +50,7 @@ enum Returned {
 
 const RETURNED: [Returned; 4] =
     [Returned::Long, Returned::Whole, Returned::HighLowWater, Returned::HighTerminator];
-const CODES: usize = 9;
-/// These end a read that has no input left.
-const OUT_OF_BAND: usize = 3;
-const UNDERFLOW: usize = 7;
+const CODES: usize = ABSENTEE as usize + 1;
 
 /// MAX-LENGTHs on both sides of each number that stands for one.
 pub const WATCHED: [u16; 8] = [
@@ -108,7 +108,7 @@ impl Long {
         let Some(watched) = WATCHED.iter().position(|length| *length == max_length) else { return };
         match number {
             0 => self.reads[place][watched][0] += 1,
-            // Too much DATA would be a 5 of any MAX-LENGTH.
+            // END-OF-DATA over MAX-LENGTH is another cause of 5.
             5 if end_of_data <= max_length => self.reads[place][watched][1] += 1,
             _ => {}
         }
@@ -217,7 +217,7 @@ impl Long {
     pub fn table(&self) -> Vec<(String, u64)> {
         let thing = |thing: &Thing| (format!("{thing:?}"), self.things[*thing as usize]);
         let mut table: Vec<(String, u64)> = THINGS.iter().map(thing).collect();
-        for (code, counts) in self.returned.iter().enumerate() {
+        for (code, counts) in (TERMINATOR..).zip(&self.returned) {
             let counts = RETURNED.into_iter().zip(*counts);
             let counts = counts.filter(|(returned, _)| can_return(code, *returned));
             table.extend(counts.map(|(returned, n)| (format!("code {code}: {returned:?}"), n)));
@@ -244,10 +244,13 @@ impl Long {
 }
 
 /// Whether a completion of this code can have it: a token, a terminator or the
-/// last character fills a buffer, the others find it less than full.
-fn can_return(code: usize, returned: Returned) -> bool {
+/// last character fills a buffer, the others find it less than full; out-of-band
+/// and underflow end a read that has no input left.
+fn can_return(code: u8, returned: Returned) -> bool {
     match returned {
-        Returned::Whole => matches!(code, 0 | 1 | 2 | 4),
+        Returned::Whole => {
+            matches!(code, TERMINATOR | VALID_TOKEN | INVALID_TOKEN | BUFFER_FULL)
+        }
         Returned::Long | Returned::HighTerminator => !matches!(code, OUT_OF_BAND | UNDERFLOW),
         Returned::HighLowWater => true,
     }
@@ -266,6 +269,18 @@ mod tests {
         long.rubbed(b'a', TOP - 1);
         let met: Vec<(String, u64)> = long.table().into_iter().filter(|row| row.1 > 0).collect();
         assert_eq!(met, [("TabAcrossTop".into(), 1), ("RubTabAtTop".into(), 1)]);
+    }
+
+    #[test]
+    fn a_5_of_another_cause_is_not_counted() {
+        let mut long = Long::default();
+        let [low, high] = BUFFER.to_le_bytes();
+        for end_of_data in [[low, high], [low + 1, high]] {
+            let read = [START_READ, 0, 0, 0, low, high, end_of_data[0], end_of_data[1]];
+            long.message(&read, 5);
+        }
+        let met: Vec<(String, u64)> = long.table().into_iter().filter(|row| row.1 > 0).collect();
+        assert_eq!(met, [(format!("read of {BUFFER}: 5"), 1)]);
     }
 
     #[test]

@@ -64,8 +64,9 @@ pub struct Settings {
     move_flaws: [[[u64; FLAWS.len()]; FORMS.len() + 1]; FORMS.len()],
     /// Sound records of the form that they should be moved to.
     same_form: [u64; FORMS.len()],
-    /// Records of a form that are as long as they can be: loaded, and moved.
-    longest: [[u64; 2]; FORMS.len()],
+    /// Records of a form that are as long as they can be.
+    longest_loaded: [u64; FORMS.len()],
+    longest_moved: [u64; FORMS.len()],
     /// Watched largest reads of records that were to be moved, and none.
     moved_largest: [[u64; WATCHED.len() + 1]; FORMS.len()],
 }
@@ -81,7 +82,8 @@ impl Default for Settings {
             moves: Default::default(),
             move_flaws: [[[0; FLAWS.len()]; FORMS.len() + 1]; FORMS.len()],
             same_form: Default::default(),
-            longest: Default::default(),
+            longest_loaded: Default::default(),
+            longest_moved: Default::default(),
             moved_largest: Default::default(),
         }
     }
@@ -107,7 +109,7 @@ impl Settings {
     pub fn loaded_pair(&mut self, own: &Record, site: &Record) {
         self.pairs[LOADED][index(own.form)][index(site.form)] += 1;
         for record in [own, site] {
-            self.longest[index(record.form)][0] += u64::from(record.is_longest());
+            self.longest_loaded[index(record.form)] += u64::from(record.is_longest());
         }
     }
 
@@ -133,7 +135,7 @@ impl Settings {
                 return self.move_flaws[index(to)][form_of(bytes)][flaw as usize] += 1;
             }
         };
-        self.longest[index(record.form)][1] += u64::from(record.is_longest());
+        self.longest_moved[index(record.form)] += u64::from(record.is_longest());
         let largest = settings::largest_read(record.sections[LARGEST_READ]);
         if let Some(place) = largest.map_or(Some(WATCHED.len()), watched) {
             self.moved_largest[index(to)][place] += 1;
@@ -153,7 +155,8 @@ impl Settings {
         let counts = counts.chain(self.largest.as_flattened_mut());
         let counts = counts.chain(self.moves.as_flattened_mut());
         let counts = counts.chain(self.move_flaws.as_flattened_mut().as_flattened_mut());
-        let counts = counts.chain(&mut self.same_form).chain(self.longest.as_flattened_mut());
+        let counts = counts.chain(&mut self.same_form).chain(&mut self.longest_loaded);
+        let counts = counts.chain(&mut self.longest_moved);
         counts.chain(self.moved_largest.as_flattened_mut())
     }
 
@@ -182,9 +185,10 @@ impl Settings {
             let counts = counts.filter(|(number, _)| *number <= form.top());
             let row = |(number, n)| (format!("loaded form {form:?} largest read {number}"), n);
             table.extend(counts.map(row));
-            let [loaded, moved] = self.longest[index(form)];
-            table.push((format!("loaded form {form:?} longest record"), loaded));
-            table.push((format!("moved form {form:?} longest record"), moved));
+            let count = self.longest_loaded[index(form)];
+            table.push((format!("loaded form {form:?} longest record"), count));
+            let count = self.longest_moved[index(form)];
+            table.push((format!("moved form {form:?} longest record"), count));
             self.move_rows(form, &mut table);
         }
         table

@@ -6,7 +6,7 @@ use super::random::Random;
 use super::{typing, Generator};
 use crate::coverage::long::WATCHED;
 use crate::line::arrival::CLEAR_KEY;
-use crate::line::steps::{DELETE, DELETE_LINE, DELETE_WORD, REDISPLAY};
+use crate::line::steps::{DELETE_KEY, DELETE_LINE_KEY, DELETE_WORD_KEY, REDISPLAY_KEY};
 use crate::line::tokens::{CSI, ESC};
 use crate::line::MESSAGE_AREA;
 use crate::message::{Message, StartRead, Value, Write, BUFFER, NORMAL_ECHO, REDISPLAY_AFTER};
@@ -18,6 +18,11 @@ const ROOMY: usize = 70;
 /// One scene in so many has its whole text typed: it takes as long as many others.
 const TYPED_OUT: usize = 300;
 
+/// It echoes two marks, the next nothing, and the last is a mark itself.
+const CONTROL: u8 = 1;
+const SILENT: u8 = 150;
+const HIGH_MARK: u8 = 201;
+
 /// How few values a long Characteristics has.
 const FEWEST_VALUES: usize = 50;
 
@@ -28,7 +33,7 @@ const ENDINGS: [&[u8]; 6] = [
     &[ESC, b'[', b'A'],
     &[ESC, b'[', BEL],
     &[CSI, b'1', b'2', b'~'],
-    &[DELETE_LINE, DELETE],
+    &[DELETE_LINE_KEY, DELETE_KEY],
 ];
 
 /// A script of little else than long answers.
@@ -90,19 +95,19 @@ impl Generator {
     fn key_in_long(&mut self) {
         match self.random.below(30) {
             0..=6 => self.key(HT),
-            7..=12 => self.key(DELETE),
+            7..=12 => self.key(DELETE_KEY),
             13..=18 => self.key(b'a'),
-            19 | 20 => self.key(DELETE_WORD),
-            21 => self.key(REDISPLAY),
+            19 | 20 => self.key(DELETE_WORD_KEY),
+            21 => self.key(REDISPLAY_KEY),
             22 => {
                 let lock = REDISPLAY_AFTER;
                 self.host(&Message::Write(Write { lock, status: true, ..Write::default() }));
             }
             23 => {
-                let code = self.random.pick(&[DELETE_LINE, CLEAR_KEY, CR]);
+                let code = self.random.pick(&[DELETE_LINE_KEY, CLEAR_KEY, CR]);
                 self.key(code);
             }
-            24..=26 => self.key(1),
+            24..=26 => self.key(CONTROL),
             _ => self.typed_key(),
         }
     }
@@ -131,8 +136,8 @@ impl Generator {
             read.raise = random.pick(&[1, 2]);
         });
         for _ in 0..BUFFER {
-            let code =
-                if self.random.chance(97) { b'a' } else { self.random.pick(&[HT, 150, 201]) };
+            let other = self.random.pick(&[HT, SILENT, HIGH_MARK]);
+            let code = if self.random.chance(97) { b'a' } else { other };
             self.key(code);
         }
     }
@@ -191,12 +196,12 @@ fn text(random: &mut Random, length: usize) -> Vec<u8> {
     let mut text: Vec<u8> = match random.below(8) {
         0 => (0..length).map(|_| typing::shown(random)).collect(),
         1 => vec![HT; length],
-        2 => vec![1; length],
+        2 => vec![CONTROL; length],
         _ => (0..length).map(|_| random.pick(b"abcxyzABCZ019. ")).collect(),
     };
     let tail = random.below(40).min(length);
     for byte in &mut text[length - tail..] {
-        *byte = random.pick(&[HT, HT, HT, b'a', b'b', 1, *byte]);
+        *byte = random.pick(&[HT, HT, HT, b'a', b'b', CONTROL, *byte]);
     }
     text
 }

@@ -7,8 +7,8 @@ use super::{typing, Generator};
 use crate::line::arrival::{CLEAR_KEY, DISCARD_KEY, HELLO, IMMEDIATE_CLEAR, OUT_OF_BAND};
 use crate::line::tokens::{CSI, ESC};
 use crate::message::{
-    Message, Value, Write, CHARACTER, LOCK, LONGEST, NEW_LINES, NO_AFFIX, REDISPLAY_AFTER, UNLOCK,
-    UNLOCK_AFTER,
+    Message, Value, Write, CHARACTER, LOCK, LONGEST_DATA, NEW_LINES, NO_AFFIX, REDISPLAY_AFTER,
+    UNLOCK, UNLOCK_AFTER,
 };
 use crate::screen::{CR, LF};
 
@@ -17,9 +17,6 @@ use crate::screen::{CR, LF};
 const LOCKING: usize = 10;
 const UNLOCKING: [u8; 5] = [UNLOCK, UNLOCK, UNLOCK_AFTER, REDISPLAY_AFTER, REDISPLAY_AFTER];
 const CODES: [u8; 5] = [NO_AFFIX, NO_AFFIX, NO_AFFIX, NEW_LINES, CHARACTER];
-
-/// Type, FLAGS and the two values stand before DATA.
-const LONGEST_DATA: usize = LONGEST - 5;
 
 /// Of a hundred locks this many are lifted before the next scene.
 const LIFTED: usize = 90;

@@ -4,7 +4,7 @@ pub mod arrival;
 mod deleting;
 mod host;
 mod loading;
-mod reads;
+pub(crate) mod reads;
 pub mod steps;
 pub mod tokens;
 mod writes;
@@ -57,6 +57,11 @@ impl Answer {
         }
         area
     }
+}
+
+/// 0, or the number of a refusal.
+pub(crate) fn number_of<T>(result: &Result<T, u8>) -> u8 {
+    *result.as_ref().err().unwrap_or(&0)
 }
 
 /// A key in type-ahead, with the mark that 22 leaves on the key after it.
@@ -227,7 +232,7 @@ impl Line {
         }
         let mut out = Answer::default();
         let judged = self.judge(bytes);
-        self.seen.long.message(bytes, *judged.as_ref().err().unwrap_or(&0));
+        self.seen.long.message(bytes, number_of(&judged));
         match judged {
             Ok(message) => {
                 self.seen.received[usize::from(message.kind())] += 1;

@@ -7,10 +7,10 @@ use super::{Answer, Key, Line};
 use crate::coverage::Rule;
 use crate::screen::{BEL, CR, HT, LF};
 
-pub const DELETE: u8 = 127;
-pub const DELETE_WORD: u8 = 23;
-pub const DELETE_LINE: u8 = 21;
-pub const REDISPLAY: u8 = 18;
+pub const DELETE_KEY: u8 = 127;
+pub const DELETE_WORD_KEY: u8 = 23;
+pub const DELETE_LINE_KEY: u8 = 21;
+pub const REDISPLAY_KEY: u8 = 18;
 
 /// What a step did, or why there was none.
 #[derive(Clone, Copy, Debug, PartialEq, Eq)]
@@ -120,7 +120,7 @@ impl Line {
         read.buffer.push(code);
         self.seen.met(Rule::StepTerminator);
         self.seen.met_if(read.buffer.len() == read.max_length, Rule::StepTerminatorFills);
-        let edit = matches!(code, DELETE | DELETE_WORD | DELETE_LINE | REDISPLAY);
+        let edit = matches!(code, DELETE_KEY | DELETE_WORD_KEY | DELETE_LINE_KEY | REDISPLAY_KEY);
         self.seen.met_if(edit, Rule::EditInSet);
         match (read.echo_terminator, read.echo) {
             (true, true) if code == CR => {
@@ -141,8 +141,8 @@ impl Line {
     fn edits(&mut self, code: u8) -> bool {
         let disable = self.read.as_ref().map_or(0, |read| read.disable);
         let edits = match code {
-            DELETE | DELETE_WORD => disable < 2,
-            DELETE_LINE | REDISPLAY => disable == 0,
+            DELETE_KEY | DELETE_WORD_KEY => disable < 2,
+            DELETE_LINE_KEY | REDISPLAY_KEY => disable == 0,
             _ => return false,
         };
         self.seen.met_if(!edits && disable == 1, Rule::EditOffDdd1);
@@ -155,23 +155,23 @@ impl Line {
         let Some(read) = &self.read else { return };
         let some = read.has_input();
         let end = match code {
-            REDISPLAY => {
+            REDISPLAY_KEY => {
                 self.seen.met(if read.echo { Rule::Redisplay } else { Rule::RedisplayNoEcho });
                 self.seen.met_if(read.hidden_lf, Rule::HiddenLfRedisplayed);
                 self.redisplay(out);
                 return self.note_long_redisplay(BY_KEY);
             }
-            DELETE_LINE => read.end_of_prompt,
-            DELETE_WORD => read.word_start(),
+            DELETE_LINE_KEY => read.end_of_prompt,
+            DELETE_WORD_KEY => read.word_start(),
             _ => read.buffer.len().saturating_sub(1),
         };
         match (code, some) {
-            (DELETE_LINE, false) => self.seen.met(Rule::LineNothing),
+            (DELETE_LINE_KEY, false) => self.seen.met(Rule::LineNothing),
             (_, false) => self.underflow(code, out),
             (_, true) => {
                 self.seen.met(match code {
-                    DELETE => Rule::DeleteSome,
-                    DELETE_WORD => Rule::WordSome,
+                    DELETE_KEY => Rule::DeleteSome,
+                    DELETE_WORD_KEY => Rule::WordSome,
                     _ => Rule::LineSome,
                 });
                 self.delete_to(end, true, out);
@@ -183,9 +183,9 @@ impl Line {
     fn underflow(&mut self, code: u8, out: &mut Answer) {
         let Some(read) = &mut self.read else { return };
         self.seen.met(match (read.underflow, code) {
-            (0, DELETE) => Rule::DeleteNothing,
-            (1, DELETE) => Rule::DeleteBell,
-            (_, DELETE) => Rule::DeleteUnderflow,
+            (0, DELETE_KEY) => Rule::DeleteNothing,
+            (1, DELETE_KEY) => Rule::DeleteBell,
+            (_, DELETE_KEY) => Rule::DeleteUnderflow,
             (0, _) => Rule::WordNothing,
             (1, _) => Rule::WordBell,
             (_, _) => Rule::WordUnderflow,

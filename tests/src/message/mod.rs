@@ -8,6 +8,9 @@ pub use writing::write;
 
 /// No message is longer, read or written.
 pub const LONGEST: usize = 2_048;
+/// Type, FLAGS and the two values of a Write stand before its DATA.
+pub const WRITE_HEADER: usize = 5;
+pub const LONGEST_DATA: usize = LONGEST - WRITE_HEADER;
 /// The characters of the input buffer.
 pub const BUFFER: u16 = 1_024;
 

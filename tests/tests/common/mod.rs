@@ -4,12 +4,13 @@
 
 use second::compare;
 use second::line::{Answer, Areas, Line};
+use second::screen::TOP;
 use second::script::{self, Order, Records, Reply, Runner};
 use second::settings::Form;
 use std::io::Write;
 
 pub use second::line::{MESSAGE_AREA, TERMINAL_AREA};
-pub use second::message::{BUFFER, LONGEST};
+pub use second::message::{BUFFER, LONGEST, LONGEST_DATA, WRITE_HEADER};
 
 /// The input buffer, as a count of characters.
 pub const WHOLE: usize = BUFFER as usize;
@@ -299,10 +300,14 @@ pub fn word(number: usize) -> String {
     hex(&(number as u16).to_le_bytes())
 }
 
-/// How many spaces the echo of so many tabs has from column 0: 125 tabs of eight
-/// go to the top column, and there each has one.
+/// The columns of a tab, and how many tabs go from column 0 to the top.
+const TAB: usize = 8;
+pub const TABS_TO_TOP: usize = (TOP as usize).div_ceil(TAB);
+
+/// How many spaces the echo of so many tabs has from column 0: at the top each has
+/// one.
 pub fn spaces(tabs: usize) -> usize {
-    tabs.min(125) * 8 + tabs.saturating_sub(125)
+    tabs.min(TABS_TO_TOP) * TAB + tabs.saturating_sub(TABS_TO_TOP)
 }
 
 /// What rubbing out so many marks writes.

@@ -108,12 +108,12 @@ fn a_prompt_that_is_the_whole_buffer() {
 #[test]
 fn a_token_behind_a_long_text() {
     // Room for it, or for one less.
-    for room in [3, 2] {
+    for room in [TOKEN.len(), TOKEN.len() - 1] {
         let mut bench = Bench::initiated();
         let text = vec![b'x'; WHOLE - room];
         start(ZZ2 | EE2, b"", &text).max(BUFFER).on(&mut bench);
         let end = word(WHOLE - room);
-        let (code, token) = if room == 3 { ("01", " 1B 5B 41") } else { ("18", "") };
+        let (code, token) = if room == TOKEN.len() { ("01", " 1B 5B 41") } else { ("18", "") };
         let answer = format!("03 {code} {end} 00 E7 {end} {}{token}", hex(&text));
         assert_eq!(bench.typed(&TOKEN), pair("", &answer));
     }

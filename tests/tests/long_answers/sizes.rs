@@ -58,7 +58,7 @@ fn a_script_begins_with_areas_that_suffice() {
 /// A Write of so many bytes in all.
 fn write_of(length: usize) -> Vec<u8> {
     let mut message = vec![b'w'; length];
-    message[..5].copy_from_slice(&[7, 0, 0, 0, 0]);
+    message[..WRITE_HEADER].copy_from_slice(&[7, 0, 0, 0, 0]);
     message
 }
 
@@ -66,7 +66,7 @@ fn write_of(length: usize) -> Vec<u8> {
 fn a_message_has_up_to_its_longest() {
     let mut bench = Bench::initiated();
     for length in [256, 257, 258, 1_000, LONGEST - 1, LONGEST] {
-        let shown = "77 ".repeat(length - 5);
+        let shown = "77 ".repeat(length - WRITE_HEADER);
         assert_eq!(bench.host_bytes(&write_of(length)), done(shown.trim_end(), ""));
         assert_eq!(bench.copied(&write_of(length)), Ok(hex(&write_of(length))));
     }
@@ -92,15 +92,14 @@ fn a_script_line_may_be_longer_than_what_is_kept() {
 #[test]
 fn writing_without_a_line_needs_the_longest_and_gives_no_more() {
     let message = |data| Message::Write(Write { data: vec![0; data], ..Write::default() });
-    // Five bytes stand before DATA.
-    for area in [0, 6, 255, 256, LONGEST - 1] {
+    for area in [0, WRITE_HEADER + 1, 255, 256, LONGEST - 1] {
         assert_eq!(write(&message(1), area), Err(1));
         // 1 comes before 2.
-        assert_eq!(write(&message(LONGEST - 4), area), Err(1));
+        assert_eq!(write(&message(LONGEST_DATA + 1), area), Err(1));
     }
-    assert_eq!(write(&message(LONGEST - 5), LONGEST).map(|bytes| bytes.len()), Ok(LONGEST));
-    assert_eq!(write(&message(LONGEST - 4), LONGEST), Err(2));
-    assert_eq!(write(&message(LONGEST - 4), 65_535), Err(2));
+    assert_eq!(write(&message(LONGEST_DATA), LONGEST).map(|bytes| bytes.len()), Ok(LONGEST));
+    assert_eq!(write(&message(LONGEST_DATA + 1), LONGEST), Err(2));
+    assert_eq!(write(&message(LONGEST_DATA + 1), 65_535), Err(2));
 }
 
 #[test]
@@ -127,14 +126,14 @@ fn a_read_has_up_to_the_whole_buffer() {
 #[test]
 fn the_most_that_a_call_writes_passes_the_old_area() {
     let mut bench = Bench::initiated();
-    let controls = WHOLE - 1 - 125;
-    roomy(b"", &[&[HT; 125][..], &[1].repeat(controls)].concat()).on(&mut bench);
+    let controls = WHOLE - 1 - TABS_TO_TOP;
+    roomy(b"", &[&[HT; TABS_TO_TOP][..], &[1].repeat(controls)].concat()).on(&mut bench);
     let mut message = write_of(LONGEST);
     message[1] = 3;
-    let text = format!("{}{}", " 20".repeat(spaces(125)), " 5E 41".repeat(controls));
-    let shown = format!("{}0D 0A{text}", "77 ".repeat(LONGEST - 5));
+    let text = format!("{}{}", " 20".repeat(spaces(TABS_TO_TOP)), " 5E 41".repeat(controls));
+    let shown = format!("{}0D 0A{text}", "77 ".repeat(LONGEST_DATA));
     assert_eq!(bench.host_bytes(&message), done(&shown, ""));
-    let marks = spaces(125) + 2 * controls;
+    let marks = spaces(TABS_TO_TOP) + 2 * controls;
     assert!(3 * marks > OLD_TERMINAL_AREA);
     assert_eq!(bench.typed(&[DELETE_LINE_KEY]).0, rubbed(marks));
 }

@@ -77,7 +77,7 @@ fn without_a_read_a_key_waits() {
     assert_eq!(count(&mut bench), 2);
     // Nor does a read that is gone take it.
     plain().on(&mut bench);
-    assert_eq!(bench.number("05 00"), 0);
+    assert_eq!(bench.number(UNREAD), 0);
     assert_eq!(bench.key(b'c'), done("", ""));
     assert_eq!(count(&mut bench), 3);
 }

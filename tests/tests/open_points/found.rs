@@ -9,7 +9,7 @@ fn point_43_low_water_below_the_prompt_stays() {
     read.low = Some(1);
     read.on(&mut bench);
     assert_eq!(bench.typed(&[21]).0, "08 20 08 08 20 08");
-    assert_eq!(bench.host("05 00"), done("", "03 06 01 00 00 02 00 00"));
+    assert_eq!(bench.host(UNREAD), done("", "03 06 01 00 00 02 00 00"));
 }
 
 #[test]
@@ -19,7 +19,7 @@ fn point_44_a_hidden_lf_as_the_only_input() {
         start(F | ZZ1 | UU1, b"", b"\n").on(&mut bench);
         assert_eq!(bench.typed(&[code]), pair("", ""));
         assert_eq!(bench.typed(&[code]), pair("07", ""));
-        assert_eq!(bench.host("05 00"), done("", "03 06 00 00 00 00 00 00"));
+        assert_eq!(bench.host(UNREAD), done("", "03 06 00 00 00 00 00 00"));
     }
 }
 

@@ -8,7 +8,7 @@ fn point_20_a_pending_quote_waits_for_its_key() {
     start(ZZ2, b"", b"").on(&mut bench);
     bench.key(22);
     assert_eq!(bench.number("06 00"), 0);
-    assert_eq!(bench.number("05 00"), 0);
+    assert_eq!(bench.number(UNREAD), 0);
     start(ZZ2 | C | (3 * DDD), b"", b"").on(&mut bench);
     assert_eq!(bench.typed(&[13]), pair("5E 4D", ""));
     // A quoted key that is dropped clears it too.
@@ -26,12 +26,12 @@ fn point_21_clearing_under_ddd() {
     assert_eq!(bench.number(MAKE_HELLO), 0);
     start(ZZ2 | (3 * DDD), b"", b"").on(&mut bench);
     assert_eq!(bench.key(3), done("", "04 00 03"));
-    bench.host("05 00");
+    bench.host(UNREAD);
     for ddd in 1..3 {
         start(UU2 | ZZ2 | (ddd * DDD), b"", b"ab").on(&mut bench);
         assert_eq!(bench.key(24), done("08 20 08 08 20 08", ""));
         assert_eq!(bench.key(24), done("", ""));
-        assert_eq!(bench.host("05 00"), done("", "03 06 00 00 00 00 00 00"));
+        assert_eq!(bench.host(UNREAD), done("", "03 06 00 00 00 00 00 00"));
     }
     // Stored under DDD 3; a lock lets it wait.
     start(UU2 | ZZ2 | (3 * DDD), b"", b"ab").on(&mut bench);
@@ -103,7 +103,7 @@ fn point_26_bel_without_echo() {
     let mut bench = Bench::initiated();
     start(UU1 | ZZ2 | N, b"", b"").on(&mut bench);
     assert_eq!(bench.typed(&[127, 23]), pair("07 07", ""));
-    assert_eq!(bench.number("05 00"), 0);
+    assert_eq!(bench.number(UNREAD), 0);
     bench.keys(&[b'k'; 64]);
     start(ZZ2 | N, b"", b"").on(&mut bench);
     assert_eq!(bench.key(b'k'), done("07", ""));

@@ -198,8 +198,8 @@ fn point_17_writing_without_a_line() {
 #[test]
 fn point_17_the_length_comes_before_the_values() {
     let long = |data| Message::Write(Write { lock: 4, data: vec![0; data], ..Write::default() });
-    assert_eq!(write(&long(LONGEST - 4), LONGEST), Err(2));
-    assert_eq!(write(&long(LONGEST - 5), LONGEST), Err(5));
+    assert_eq!(write(&long(LONGEST_DATA + 1), LONGEST), Err(2));
+    assert_eq!(write(&long(LONGEST_DATA), LONGEST), Err(5));
     // A parameter whose count needs a second byte: 13 bytes and two stand before.
     let long = |length| {
         let parameters = vec![(1, vec![0; length])];

@@ -37,14 +37,14 @@ fn point_37_the_hidden_lf() {
     let mut bench = Bench::initiated();
     assert_eq!(start(F | ZZ1, b"\n? ", b"").on(&mut bench), pair("3F 20", ""));
     assert_eq!(bench.typed(&[18]).0, "0D 0A 3F 20");
-    bench.host("05 00");
+    bench.host(UNREAD);
     assert_eq!(start(F | ZZ1, b"", b"\na").on(&mut bench), pair("61", ""));
     assert_eq!(bench.typed(&[18]).0, "0D 0A 61");
     assert_eq!(bench.typed(&[127, 127]).0, "08 20 08");
     assert_eq!(bench.typed(&[10, 127]).0, "5E 4A 08 20 08 08 20 08");
-    bench.host("05 00");
+    bench.host(UNREAD);
     start(F | ZZ1, b"", b"\n").on(&mut bench);
-    assert!(bench.host("05 00").2.ends_with("01 00 0A"));
+    assert!(bench.host(UNREAD).2.ends_with("01 00 0A"));
 }
 
 #[test]
@@ -52,12 +52,12 @@ fn point_38_the_last_terminal_byte() {
     let lf = |bench: &mut Bench| start(F | ZZ2, b"", b"").on(bench).0;
     let mut bench = Bench::initiated();
     assert_eq!(lf(&mut bench), "");
-    bench.host("05 00");
+    bench.host(UNREAD);
     bench.host("07 00 00 00 00 41 0D");
     bench.key(15);
     bench.host("07 00 00 00 00 42");
     assert_eq!(lf(&mut bench), "0A");
-    bench.host("05 00");
+    bench.host(UNREAD);
     bench.host("07 08 00 00 00 0D");
     bench.keys(&[b'k'; 64]);
     assert_eq!(bench.key(b'k').1, "07");
@@ -70,7 +70,7 @@ fn point_39_positions() {
     bench.number("0B 00 09 02 01");
     assert_eq!(bench.host("07 00 04 00 00 41 41 41 0D"), done("41 41 41 0D", "08 00 00 00 00 00"));
     assert_eq!(start(F | ZZ2, b"? ", b"a").on(&mut bench), pair("0A 01 3F 20 61", ""));
-    assert_eq!(bench.host("05 00"), done("", "03 06 03 00 01 03 01 00 61"));
+    assert_eq!(bench.host(UNREAD), done("", "03 06 03 00 01 03 01 00 61"));
     assert_eq!(bench.host("07 00 04 00 00 0D 0A 0A"), done("0D 0A 0A", "08 00 FD 00 02 00"));
 }
 
@@ -80,7 +80,7 @@ fn point_40_auto_prompt_and_redisplay() {
     bench.number("0B 00 09 02 01");
     assert_eq!(start(ZZ2, b"?", b"\t").on(&mut bench).0, "01 3F 20 20 20 20 20 20 20");
     assert_eq!(bench.typed(&[18]).0, "0D 0A 3F 20 20 20 20 20 20 20");
-    bench.host("05 00");
+    bench.host(UNREAD);
     bench.number("07 00 00 00 00 41 41");
     start(ZZ2 | N, b"?", b"ab").on(&mut bench);
     assert_eq!(bench.typed(&[18]).0, "0D 0A 3F");

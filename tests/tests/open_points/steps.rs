@@ -120,7 +120,7 @@ fn point_32_the_last_set_given() {
     given.set = vec![0, 2];
     given.on(&mut bench);
     start(ZZ2, b"", b"").set(b"q").on(&mut bench);
-    bench.host("05 00");
+    bench.host(UNREAD);
     start(0, b"", b"").on(&mut bench);
     assert_eq!(bench.typed(&[b'q', 200, 13]).1, "");
     assert_eq!(bench.typed(&[9]), pair("", "03 00 00 00 00 04 03 00 71 C8 0D 09"));
@@ -132,7 +132,7 @@ fn point_33_preloaded_text_is_input() {
     start(ZZ1 | II2, b"? ", b"aq").set(b"aq").on(&mut bench);
     assert_eq!(bench.host("05 01"), done("", ""));
     assert_eq!(bench.typed(&[127]), pair("08 20 08", ""));
-    assert_eq!(bench.host("05 00"), done("", "03 06 03 00 00 03 01 00 61"));
+    assert_eq!(bench.host(UNREAD), done("", "03 06 03 00 00 03 01 00 61"));
 }
 
 #[test]

@@ -72,8 +72,6 @@ fn asking_leaves_the_line() {
     assert_eq!(bench.host_bytes(&start(ZZ2, b"", b"").max(BUFFER).bytes()).0, 0);
 }
 
-const NONE: &str = "010000000000000000";
-
 #[test]
 fn a_load_is_answered_by_its_number_alone() {
     assert_eq!(run(&format!("L {NONE} {NONE}\n")), "0\n");

@@ -61,8 +61,8 @@ fn largest(own: &[u8], site: &[u8]) -> u16 {
     assert_eq!(bench.load(own, site), 0);
     let tops = [TOP_1 - 1, TOP_1, TOP_1 + 1, TOP_2 - 1, TOP_2, BUFFER - 1, BUFFER];
     let all = [&tops[..], &[9, 10, 11, 999, 1_000, 1_001]].concat();
-    let taken = all.into_iter().filter(|max| number_at(&mut bench, *max) == 0);
-    taken.max().expect("a short read is taken")
+    let started = all.into_iter().filter(|max| number_at(&mut bench, *max) == 0);
+    started.max().expect("a short read starts")
 }
 
 #[test]

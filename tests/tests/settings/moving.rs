@@ -5,7 +5,7 @@ use second::moving::{to_form_1, to_form_2, AREA};
 
 /// Records of form 1, each with the same in form 2.
 fn pairs() -> Vec<(Vec<u8>, Vec<u8>)> {
-    let attributes: Vec<u8> = (0..=255).flat_map(|code| [code, 127]).collect();
+    let attributes = all_attributes();
     let switches = switches(&[RAISE, ESCAPES]);
     let mut pairs = vec![(nothing(), nothing_2()), (full(), full_2())];
     for (number, section) in [(1, &switches[..]), (2, &[65, 4]), (2, &attributes), (3, &[0, 32])] {
@@ -144,21 +144,20 @@ fn an_area_under_600_bytes_is_1() {
 
 #[test]
 fn the_longest_records_fit_the_area() {
-    let longest = pairs().into_iter().map(|(one, two)| (one.len(), two.len())).max();
-    assert_eq!(longest, Some((566, 567)));
-    assert!(567 <= AREA);
+    let longest = longest().map(|record| record.len());
+    let lengths = pairs().into_iter().map(|(one, two)| [one.len(), two.len()]);
+    assert_eq!(lengths.max(), Some(longest));
+    assert!(longest.into_iter().all(|length| length <= AREA));
 }
 
 #[test]
 fn a_longest_record_with_bytes_left_over_is_7() {
     let mut bench = Bench::default();
-    for (one, two) in pairs().into_iter().filter(|(_, two)| two.len() == 567) {
-        // About the area, and about what a script keeps of a record.
-        for length in [AREA, AREA + 1, AREA + 2] {
-            for (to, mut record) in [(Form::Two, one.clone()), (Form::One, two.clone())] {
-                record.resize(length, 0);
-                assert_eq!(bench.moved(to, &record), Err(7));
-            }
+    // About the area, and about what a script keeps of a record.
+    for length in [AREA, AREA + 1, AREA + 2] {
+        for (to, mut record) in [Form::Two, Form::One].into_iter().zip(longest()) {
+            record.resize(length, 0);
+            assert_eq!(bench.moved(to, &record), Err(7));
         }
     }
 }
@@ -179,7 +178,7 @@ fn moving_leaves_the_line() {
     assert_eq!(bench.moved(Form::One, &full_2()), Ok(hex(&full())));
 }
 
-const NONE: &str = "010000000000000000";
+/// `NONE` in form 2.
 const NONE_2: &str = "020000000000000000";
 
 #[test]

@@ -188,24 +188,30 @@ fn a_long_record_is_unsound() {
     }
 }
 
-/// Behind the longest of each form, too, any byte is left over.
 #[test]
-fn the_longest_records() {
+fn behind_the_longest_record_any_byte_is_left_over() {
     let mut bench = Bench::default();
-    let attributes: Vec<u8> = (0..=255).flat_map(|code| [code, 127]).collect();
-    let (switches, set) = (switches(&[]), [255; 32]);
-    let one = record([&switches, &attributes, &set, &[TOP_1 as u8]]);
-    let two = record_of(2, [&switches, &attributes, &set, &[0, 4]]);
-    assert_eq!((one.len(), two.len()), (566, 567));
-    for longest in [one, two] {
+    assert_eq!(longest().map(|record| record.len()), [566, 567]);
+    for longest in longest() {
         sound(&mut bench, &longest);
         for length in longest.len() + 1..=LONG + 3 {
-            unsound(&mut bench, &[&longest[..], &vec![0; length - longest.len()]].concat());
+            let mut record = longest.clone();
+            record.resize(length, 0);
+            unsound(&mut bench, &record);
         }
-        // Each value of the attributes is judged: they begin behind 17 bytes.
-        for place in (18..17 + attributes.len()).step_by(2) {
+    }
+}
+
+#[test]
+fn each_attribute_of_the_longest_record_is_judged() {
+    let mut bench = Bench::default();
+    // They begin behind the form, two lengths and the switches.
+    let begin = 1 + 2 + switches(&[]).len() + 2;
+    for longest in longest() {
+        for code in 0..256 {
             let mut spoiled = longest.clone();
-            spoiled[place] = 126;
+            // Deferred-clear.
+            spoiled[begin + 2 * code + 1] = 126;
             unsound(&mut bench, &spoiled);
         }
     }
@@ -217,14 +223,6 @@ fn only_a_few_changes_of_one_byte_leave_a_record_sound() {
     let mut bench = Bench::default();
     let whole = full();
     for place in 0..whole.len() {
-        let mut taken = Vec::new();
-        for value in 0..=255 {
-            let mut record = whole.clone();
-            record[place] = value;
-            if bench.load(&record, &nothing()) == 0 {
-                taken.push(value);
-            }
-        }
         let attribute = |value: &u8| *value % 4 != 2 && *value != 0;
         let expected: Vec<u8> = match place {
             // The switches, the attributes, the set and the largest read.
@@ -237,6 +235,6 @@ fn only_a_few_changes_of_one_byte_leave_a_record_sound() {
             28 => (0..=TOP_1 as u8).collect(),
             _ => vec![whole[place]],
         };
-        assert_eq!(taken, expected, "byte {place}");
+        assert_eq!(taken(&mut bench, &whole, place), expected, "byte {place}");
     }
 }

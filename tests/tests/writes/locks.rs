@@ -26,7 +26,7 @@ fn is_locked(bench: &mut Bench) -> bool {
 /// Whether steps are held back when all keys were cleared or the read is gone:
 /// a read is started for the next key.
 fn stays_locked(bench: &mut Bench) -> bool {
-    assert_eq!(bench.number("05 00"), 0);
+    assert_eq!(bench.number(UNREAD), 0);
     assert_eq!(bench.number("06 00"), 0);
     start(ZZ1, b"", b"").on(bench);
     is_locked(bench)
@@ -113,7 +113,7 @@ fn point_106_immediate_clear_unlocks() {
     // The read completes, two columns behind the prompt; nothing is rubbed out.
     assert_eq!(bench.key(BAND_KEY), done("", "04 00 03 | 03 03 02 00 00 04 00 00"));
     assert!(!stays_locked(&mut bench));
-    assert_eq!(bench.number("05 00"), 0);
+    assert_eq!(bench.number(UNREAD), 0);
     write(LOCK, b"").on(&mut bench);
     assert_eq!(bench.key(BAND_KEY), done("", TOLD));
     assert!(!stays_locked(&mut bench));
@@ -129,7 +129,7 @@ fn point_106_what_leaves_the_lock() {
     assert_eq!(bench.key(BAND_KEY), done("", TOLD));
     assert!(is_locked(&mut bench));
     // Clear Input; Unread with a key that waits, and always.
-    for message in ["06 00", "05 01", "05 00"] {
+    for message in ["06 00", "05 01", UNREAD] {
         assert_eq!(bench.number(message), 0);
         assert!(stays_locked(&mut bench));
     }
@@ -243,7 +243,7 @@ fn point_107_a_start_read_is_accepted_while_locked() {
     assert_eq!(start(ZZ1, b"? ", b"a").on(&mut bench), pair("3F 20 61", ""));
     bench.keys(b"b");
     held_back(&mut bench);
-    assert_eq!(bench.host("05 00"), done("", "03 16 03 00 00 03 01 00 61"));
+    assert_eq!(bench.host(UNREAD), done("", "03 16 03 00 00 03 01 00 61"));
     // It completes at once where it has no room.
     assert_eq!(start(ZZ2, b"", b"").max(0).on(&mut bench), pair("", "03 14 00 00 00 00 00 00"));
     start(ZZ1, b"", b"").on(&mut bench);

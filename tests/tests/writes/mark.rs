@@ -101,7 +101,7 @@ fn point_102_echo_prompts_and_18_leave_the_mark() {
     assert_eq!(bench.typed(&[b'a', LF, REDISPLAY_KEY]).0, "61 5E 4A 0D 0A 0A 3F 20 61 5E 4A");
     assert_eq!(bench.typed(&[DELETE_KEY]).0, "08 20 08 08 20 08");
     assert_eq!(bench.key(CLEAR_KEY), done("08 20 08", ""));
-    for message in ["05 00", "06 00", "0B 00 09 02 01"] {
+    for message in [UNREAD, "06 00", "0B 00 09 02 01"] {
         assert_eq!(bench.number(message), 0);
     }
     assert_eq!(bench.tick(), done("", ""));
@@ -131,14 +131,14 @@ fn point_101_a_byte_left_out_is_not_lost_and_moves_nothing() {
     assert_eq!(write(L, b"").shown(&mut bench), "0A");
     start(ZZ2, b"", b"").on(&mut bench);
     assert_eq!(write(0, b"\n").shown(&mut bench), "");
-    assert_eq!(bench.host("05 00"), done("", "03 06 00 00 00 00 00 00"));
+    assert_eq!(bench.host(UNREAD), done("", "03 06 00 00 00 00 00 00"));
 }
 
 #[test]
 fn point_101_a_byte_left_out_is_not_the_last() {
     let mut bench = marked();
     start(ZZ2, b"\r", b"").on(&mut bench);
-    bench.host("05 00");
+    bench.host(UNREAD);
     assert_eq!(write(0, b"\n").shown(&mut bench), "");
     // CR is still the last, so F writes LF.
     assert_eq!(start(F | ZZ2, b"", b"").on(&mut bench), pair("0A", ""));

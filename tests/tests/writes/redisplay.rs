@@ -29,7 +29,7 @@ fn point_104_redisplay_of_a_read_that_does_not_echo() {
     for ddd in 0..=3 {
         let mut bench = half_typed(N | (ddd * DDD));
         assert_eq!(write(REDISPLAY_AFTER, b"A").shown(&mut bench), "41 0D 0A 3F 20");
-        assert_eq!(bench.host("05 00"), done("", "03 06 02 00 01 02 02 00 61 62"));
+        assert_eq!(bench.host(UNREAD), done("", "03 06 02 00 01 02 02 00 61 62"));
     }
 }
 
@@ -114,7 +114,7 @@ fn point_109_the_longest_write_and_a_redisplay_of_tabs() {
     let shown = start(ZZ1, b"", &tabs).max(BUFFER).on(&mut bench).0;
     assert_eq!(format!(" {shown}"), spaces);
     let all = REDISPLAY_AFTER | L | PP1 | QQ1;
-    let text = [b'A'; LONGEST - 5];
+    let text = [b'A'; LONGEST_DATA];
     let longest = write(all, &text).prefix(u8::MAX).postfix(u8::MAX);
     let lines = format!("0D{}", " 0A".repeat(255));
     let data = " 41".repeat(text.len());
