@@ -1,5 +1,5 @@
--- The settings record: one meaning has one record, and every meaning that a record can have has one. A sound record is what is written of its
--- meaning, and what is written of a meaning is a sound record that has it.
+-- The settings record: in each form one meaning has at most one record, and every meaning that the form can say has one. A sound record is what
+-- is written of its meaning, and what is written of a meaning is a sound record that has it.
 pub mod Tests
 pub mod Parts
 pub mod Bits

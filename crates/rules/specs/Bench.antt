@@ -184,7 +184,7 @@ tokenTyped token completion =
 abbrev pub loading : List ℕ → List ℕ → ℕ → Exchange
 loading own site number = asked 0 0 (load own site) number [] [] 0
 
--- a record of a form with these bytes for a largest read, or none, fewer than 256 of them
+-- a record of a form with no section but a largest read, of these bytes, fewer than 256; or with none
 abbrev pub largestReadRecord : ℕ → List ℕ → List ℕ
 largestReadRecord form bytes = form ∷ 0x00 ∷ 0x00 ∷ 0x00 ∷ 0x00 ∷ 0x00 ∷ 0x00 ∷ length bytes ∷ 0x00 ∷ bytes
 

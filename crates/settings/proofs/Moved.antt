@@ -1,4 +1,4 @@
--- What is put of a record that is moved, and the outcome of moving it.
+-- What is put for the largest read of a record that is moved.
 use mathlib.Core.Path.{_≡_, sym, ap, ap₂, _∙_}
 use Prim.Native.Nat.{ℕ}
 use mathlib.Core.List.{List, _++_, append-nil}

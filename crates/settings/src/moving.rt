@@ -108,12 +108,14 @@ fn move_to(form: u8, record: &[u8], area: &mut [u8]) -> Written
     }
 }
 
+// A record of form 2, in form 1.
 pub fn to_form_1(record: &[u8], area: &mut [u8]) -> Written
     ensures { λ r. ⌜ InFront (rules.move form1 (length (now (area .entry))) (now («record» .entry))) (now (area .entry)) r (now (area .exit)) ⌝ }
 {
     move_to(FORM_1, record, area)
 }
 
+// A record of form 1, in form 2.
 pub fn to_form_2(record: &[u8], area: &mut [u8]) -> Written
     ensures { λ r. ⌜ InFront (rules.move form2 (length (now (area .entry))) (now («record» .entry))) (now (area .entry)) r (now (area .exit)) ⌝ }
 {
