@@ -5,18 +5,18 @@ use second::computed::{check, Script};
 use second::{generator, script, vectors};
 use std::path::Path;
 
-/// Seeds of generated scripts, and the calls of each.
+/// Seeds of generated scripts, and the calls of each. Long answers take the
+/// checker longest.
 const SEEDS: std::ops::Range<u64> = 9000..9004;
 const CALLS: usize = 400;
+const LONG_CALLS: usize = 100;
 
 fn generated() -> impl Iterator<Item = Script> {
-    let makers = [
-        generator::script,
-        generator::token_script,
-        generator::long_script,
-        generator::settings_script,
-    ];
-    let scripts = makers.into_iter().flat_map(|make| SEEDS.map(move |seed| make(seed, CALLS)));
+    let general = SEEDS.map(|seed| generator::script(seed, CALLS));
+    let tokens = SEEDS.map(|seed| generator::token_script(seed, CALLS));
+    let settings = generator::settings_script(SEEDS.start, CALLS);
+    let long = generator::long_script(SEEDS.start, LONG_CALLS);
+    let scripts = general.chain(tokens).chain([settings, long]);
     scripts.map(|script| {
         let orders = script.into_bytes();
         let answers = script::run(&orders).0;
