@@ -15,6 +15,13 @@ use crate::steps::DELETE_WORD_KEY;
 use crate::steps::REDISPLAY_KEY;
 use rules::characters;
 
+// The small letters of ISO 8859-1 that have a capital: the division sign is no letter.
+const FIRST_SMALL_ACCENT: u8 = 224;
+
+const LAST_SMALL_ACCENT: u8 = 254;
+
+const DIVISION_SIGN: u8 = 247;
+
 // From a small letter to the capital.
 const SMALL_SHIFT: u8 = b'a' - b'A';
 
@@ -23,11 +30,13 @@ const DISABLES_LINES: u8 = 1;
 
 const DISABLES_NOTHING: u8 = 0;
 
-// A small letter of ASCII as its capital.
+// A small letter, plain or with an accent, as its capital.
 fn raised(c: u8) -> u8
     ensures { λ r. ⌜ r ≡ rules.raised c ⌝ }
 {
-    if (b'a' <= c) & (c <= b'z') {
+    if (b'a' <= c) & (c <= b'z')
+        | (FIRST_SMALL_ACCENT <= c) & (c <= LAST_SMALL_ACCENT) & (c != DIVISION_SIGN)
+    {
         return c - SMALL_SHIFT;
     }
     c

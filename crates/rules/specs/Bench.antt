@@ -121,6 +121,15 @@ startA = 0x02 ∷ 0x01 ∷ 0x90 ∷ 0x00 ∷ 0x50 ∷ 0x00 ∷ 0x02 ∷ 0x00 ∷
 abbrev pub startedA : Exchange
 startedA = told startA accepted (0x3F ∷ 0x20 ∷ []) []
 
+-- a Start Read with II 2, this termination set and this text, which echoes and is no prompt
+abbrev pub raisingRead : List ℕ → List ℕ → Exchange
+raisingRead set text =
+    told ((0x02 ∷ 0x80 ∷ 0x40 ∷ 0x00 ∷ 0x50 ∷ 0x00 ∷ length text ∷ 0x00 ∷ 0x00 ∷ 0x00 ∷ 0x00 ∷ 0x00 ∷ 0x00 ∷ 0x00 ∷ 0x00 ∷ 0x00 ∷ length set ∷ []) ++ set ++ text) accepted text []
+
+-- the termination set of 13 alone
+abbrev pub setOfReturn : List ℕ
+setOfReturn = 0x00 ∷ 0x20 ∷ []
+
 -- a Start Read with Q and this TIMEOUT, and the Read Data of one that is timed out with nothing typed
 abbrev pub timedRead : ℕ → Exchange
 timedRead timeout =

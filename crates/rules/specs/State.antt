@@ -1,8 +1,9 @@
 -- The line's state, and the typed characters in it.
 use Prim.Native.Nat.{ℕ, _-_}
-use mathlib.Core.Bool.{Bool, true, false}
+use mathlib.Core.Bool.{Bool, true, false, not, _&&_, _||_}
 use mathlib.Core.List.{List, []}
 use mathlib.Core.Option.{Option, none}
+use lib.Dec.{eqb}
 use lib.ListN.{replicate}
 use Rattle.rules.specs.Choice.{pick, within}
 use Rattle.rules.specs.Numbers.{inputSize, codeCount}
@@ -16,7 +17,7 @@ pub record Characters (C : Type 0) : Type 0 where
   -- a character of the text that a Start Read brings
   pub given : ℕ → C
 
--- the small letters, and what lies between one and its capital
+-- the small letters of ASCII
 abbrev pub firstSmall : ℕ
 firstSmall = 97
 
@@ -26,12 +27,26 @@ lastSmall = 122
 abbrev pub isSmall : ℕ → Bool
 isSmall n = within firstSmall lastSmall n
 
+-- the small letters of ISO 8859-1 that have a capital: 223 and 255 have none, and the division sign is no letter
+abbrev pub firstSmallAccent : ℕ
+firstSmallAccent = 224
+
+abbrev pub lastSmallAccent : ℕ
+lastSmallAccent = 254
+
+abbrev pub divisionSign : ℕ
+divisionSign = 247
+
+abbrev pub isSmallAccent : ℕ → Bool
+isSmallAccent n = within firstSmallAccent lastSmallAccent n && not (eqb n divisionSign)
+
+-- what lies between a small letter and its capital
 abbrev pub smallShift : ℕ
 smallShift = 32
 
--- raised form: 97 to 122 less 32, others themselves
+-- raised form: 97 to 122, and 224 to 254 except 247, less 32; others themselves
 unfoldable pub raised : ℕ → ℕ
-raised n = pick (isSmall n) (n - smallShift) n
+raised n = pick (isSmall n || isSmallAccent n) (n - smallShift) n
 
 -- the characters that a program has: their codes
 abbrev pub codes : Characters ℕ

@@ -2,13 +2,13 @@
 pub mod Examples
 use Prim.Native.Nat.{ℕ, zero, suc}
 use mathlib.Core.Path.{_≡_}
-use mathlib.Core.Bool.{Bool, true, false, not, Bool·beq, _&&_}
+use mathlib.Core.Bool.{Bool, true, false, not, Bool·beq, _&&_, _||_}
 use mathlib.Core.List.{List, [], _∷_, map}
 use lib.Dec.{eqb}
 use lib.ListN.{length}
 use Rattle.rules.specs.Choice.{pick, within, allAre, joined, sameAll}
 use Rattle.rules.specs.Messages.Forms.{Message, readData}
-use Rattle.rules.specs.Screen.{lastMark}
+use Rattle.rules.specs.Screen.{lastMark, lastHighMark}
 use Rattle.rules.specs.StartRead.{inSet}
 use Rattle.rules.specs.Editing.{isWord}
 use Rattle.rules.specs.State.{Characters, Terms, raised, codes}
@@ -87,12 +87,15 @@ eachChanged test (c ∷ cs) (d ∷ ds) =
     pick (eqb (codeOf (c .event)) (codeOf (d .event))) true (test (codeOf (c .event)) (codeOf (d .event))) &&
     eachChanged test cs ds
 
--- a printing mark: the first is 33, the last 126
+-- a printing mark, 33 to 126 or 161 to 254: what takes a column, but for the space and 160, the no-break space
 abbrev pub firstPrinting : ℕ
 firstPrinting = 33
 
+abbrev pub firstHighPrinting : ℕ
+firstHighPrinting = 161
+
 unfoldable pub isPrinting : ℕ → Bool
-isPrinting n = within firstPrinting lastMark n
+isPrinting n = within firstPrinting lastMark n || within firstHighPrinting lastHighMark n
 
 unfoldable pub bothPrinting : ℕ → ℕ → Bool
 bothPrinting m n = isPrinting m && isPrinting n

@@ -129,7 +129,7 @@ unfolding TwoRuns.eventKind TwoRuns.eventBytes TwoRuns.codeOf TwoRuns.agree TwoR
 openTwoRuns = tt
 
 unfoldable pub openExamples : Unit {0}
-unfolding Examples.sameSeen Examples.looksSame Examples.hostReads Examples.conversation Examples.reading Examples.meets Examples.passcode Examples.isHidden Examples.broken Examples.shows
+unfolding Examples.sameSeen Examples.looksSame Examples.hostReads Examples.conversation Examples.reading Examples.meets Examples.passcodes Examples.isHidden Examples.broken Examples.shows
 openExamples = tt
 
 unfoldable pub whole : Unit {0}

@@ -8,12 +8,12 @@ use Rattle.rules.specs.Choice.{allAre, same}
 use Rattle.rules.specs.State.{codes}
 use Rattle.rules.specs.Calls.{Call, run}
 use Rattle.rules.specs.TwoRuns.{Seen, seen, LooksTheSame}
-use Rattle.rules.specs.TwoRuns.Examples.{sameSeen, looksSame, Pair, meets, passcode, isHidden, broken, shows}
+use Rattle.rules.specs.TwoRuns.Examples.{sameSeen, looksSame, Pair, meets, passcodes, isHidden, broken, shows}
 use Rattle.rules.specs.Whole.{whole}
 use Rattle.rules.proofs.Choice.{both, halves, same-itself, all-member}
 
--- a passcode meets all suppositions, looks the same, and is read by the host
-pub hidden : isHidden passcode ≡ true
+-- each passcode meets all suppositions, looks the same, and is read by the host
+pub hidden : allAre isHidden passcodes ≡ true
 unfolding whole
 hidden = refl
 

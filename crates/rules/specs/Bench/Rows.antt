@@ -7,11 +7,11 @@ use Rattle.rules.specs.Numbers.{terminalArea, messageArea, typeAheadSize
 use Rattle.rules.specs.Messages.Forms.{startRead}
 use Rattle.rules.specs.Screen.{HT, DEL}
 use Rattle.rules.specs.Token.{ESC}
-use Rattle.rules.specs.Editing.{redisplayKey}
+use Rattle.rules.specs.Editing.{deleteWordKey, redisplayKey}
 use Rattle.rules.specs.Arrival.{quoteKey, clearKey, discardKey}
 use Rattle.rules.specs.Calls.{key, tick}
-use Rattle.rules.specs.Bench.{Case, reads, copies, asks, moves, runs, asked, says, typed, stored, stepped, told, initiated, startA, startedA, timedRead, timedOut, wrote, wroteNothing}
-use Rattle.rules.specs.Bench.{completed, discardState, flipped, attribute, outOfBand, recognising, waiting, typedUnseen, tokenTyped, loading, emptyRecord, switchRecord}
+use Rattle.rules.specs.Bench.{Case, reads, copies, asks, moves, runs, asked, says, typed, stored, stepped, told, initiated, startA, startedA, raisingRead, setOfReturn, timedRead, timedOut}
+use Rattle.rules.specs.Bench.{wrote, wroteNothing, completed, discardState, flipped, attribute, outOfBand, recognising, waiting, typedUnseen, tokenTyped, loading, emptyRecord, switchRecord}
 use Rattle.rules.specs.Bench.{attributeRecord, setRecord, largestReadRecord, fullRecord, inOrder}
 
 -- The starred cases in order; D and H have two rows each. Request M-101 adds two.
@@ -88,7 +88,7 @@ starred =
     tokenTyped (27 ∷ 79 ∷ 80 ∷ []) 0x01 ∷
     tokenTyped (27 ∷ 63 ∷ 65 ∷ []) 0x01 ∷ []
 
--- Rows of our own, for mistakes that the starred cases do not show: those that page 01 warns of, those that settings, tokens, Writes and the keystroke invite, and some that edits of the definitions make.
+-- Rows of our own, for mistakes that the starred cases do not show: those that page 01 warns of, those that raising, settings, tokens, Writes and the keystroke invite, and some that edits of the definitions make.
 unfoldable pub warned : List Case
 warned =
     -- waiting for one more key after the buffer is full
@@ -98,8 +98,44 @@ warned =
     typed 0x32 (0x32 ∷ []) (0x0A ∷ 0x00 ∷ 0x03 ∷ 0x04 ∷ 0x00 ∷ 0x00 ∷ 0x00 ∷ 0x02 ∷ 0x02 ∷ 0x00 ∷ 0x31 ∷ 0x32 ∷ []) ∷ []) ∷
     -- testing the set before raising: "a", raised, is the terminator "A"
     runs
-    (initiated ∷ told (0x02 ∷ 0x80 ∷ 0x40 ∷ 0x00 ∷ 0x50 ∷ 0x00 ∷ 0x00 ∷ 0x00 ∷ 0x00 ∷ 0x00 ∷ 0x00 ∷ 0x00 ∷ 0x00 ∷ 0x00 ∷ 0x00 ∷ 0x00 ∷ 0x09 ∷ 0x00 ∷ 0x00 ∷ 0x00 ∷ 0x00 ∷ 0x00 ∷ 0x00 ∷ 0x00 ∷ 0x00 ∷ 0x02 ∷ []) accepted [] [] ∷
+    (initiated ∷ raisingRead (replicate 8 0x00 ++ (0x02 ∷ [])) [] ∷
     typed 0x61 [] (0x09 ∷ 0x00 ∷ 0x03 ∷ 0x00 ∷ 0x00 ∷ 0x00 ∷ 0x00 ∷ 0x00 ∷ 0x00 ∷ 0x00 ∷ 0x41 ∷ []) ∷ []) ∷
+    -- and so of accents: "é", raised, is the terminator "É", and "é" in the set does not end the read
+    runs
+    (initiated ∷ raisingRead (replicate 25 0x00 ++ (0x02 ∷ [])) [] ∷
+    typed 0xE9 [] (0x09 ∷ 0x00 ∷ 0x03 ∷ 0x00 ∷ 0x00 ∷ 0x00 ∷ 0x00 ∷ 0x00 ∷ 0x00 ∷ 0x00 ∷ 0xC9 ∷ []) ∷ []) ∷
+    runs (initiated ∷ raisingRead (replicate 29 0x00 ++ (0x02 ∷ [])) [] ∷ typed 0xE9 (0xC9 ∷ []) [] ∷ []) ∷
+    -- "é" is raised, echoed raised and returned raised
+    runs
+    (initiated ∷ raisingRead setOfReturn [] ∷
+    typed 0xE9 (0xC9 ∷ []) [] ∷
+    typed 0x0D [] (0x0A ∷ 0x00 ∷ 0x03 ∷ 0x00 ∷ 0x00 ∷ 0x00 ∷ 0x00 ∷ 0x01 ∷ 0x01 ∷ 0x00 ∷ 0xC9 ∷ 0x0D ∷ []) ∷ []) ∷
+    -- 247, 255 and 223 stay; 255 echoes nothing
+    runs
+    (initiated ∷ raisingRead setOfReturn [] ∷
+    typed 247 (247 ∷ []) [] ∷ typed 255 [] [] ∷ typed 223 (223 ∷ []) [] ∷
+    typed 0x0D [] (0x0C ∷ 0x00 ∷ 0x03 ∷ 0x00 ∷ 0x00 ∷ 0x00 ∷ 0x00 ∷ 0x02 ∷ 0x03 ∷ 0x00 ∷ 247 ∷ 255 ∷ 223 ∷ 0x0D ∷ []) ∷ []) ∷
+    -- the edges of what is raised
+    runs
+    (initiated ∷ raisingRead setOfReturn [] ∷
+    typed 96 (96 ∷ []) [] ∷ typed 97 (65 ∷ []) [] ∷ typed 122 (90 ∷ []) [] ∷ typed 123 (123 ∷ []) [] ∷
+    typed 224 (192 ∷ []) [] ∷ typed 246 (214 ∷ []) [] ∷ typed 248 (216 ∷ []) [] ∷ typed 254 (222 ∷ []) [] ∷ []) ∷
+    -- not raised: a quoted "é", one of the text that the Start Read brings, bytes of a token
+    runs (initiated ∷ raisingRead setOfReturn [] ∷ typed quoteKey [] [] ∷ typed 0xE9 (0xE9 ∷ []) [] ∷ []) ∷
+    runs
+    (initiated ∷ raisingRead setOfReturn (0xE9 ∷ []) ∷
+    typed 0x0D [] (0x0A ∷ 0x00 ∷ 0x03 ∷ 0x00 ∷ 0x00 ∷ 0x00 ∷ 0x00 ∷ 0x01 ∷ 0x01 ∷ 0x00 ∷ 0xE9 ∷ 0x0D ∷ []) ∷ []) ∷
+    runs
+    (initiated ∷ recognising ∷ raisingRead setOfReturn [] ∷
+    typedUnseen (27 ∷ 91 ∷ 97 ∷ []) (0x0B ∷ 0x00 ∷ 0x03 ∷ 0x01 ∷ 0x00 ∷ 0x00 ∷ 0x00 ∷ 0x00 ∷ 0x00 ∷ 0x00 ∷ 27 ∷ 91 ∷ 97 ∷ [])) ∷
+    runs
+    (initiated ∷ recognising ∷ raisingRead setOfReturn [] ∷
+    typedUnseen (27 ∷ 0xE9 ∷ []) (0x0A ∷ 0x00 ∷ 0x03 ∷ 0x02 ∷ 0x00 ∷ 0x00 ∷ 0x00 ∷ 0x00 ∷ 0x00 ∷ 0x00 ∷ 27 ∷ 0xE9 ∷ [])) ∷
+    -- a raised accent is no word character: of "ÉA" 23 deletes "A" alone
+    runs
+    (initiated ∷ raisingRead setOfReturn [] ∷
+    typed 0xE9 (0xC9 ∷ []) [] ∷ typed 0x61 (0x41 ∷ []) [] ∷ typed deleteWordKey (0x08 ∷ 0x20 ∷ 0x08 ∷ []) [] ∷
+    typed 0x0D [] (0x0A ∷ 0x00 ∷ 0x03 ∷ 0x00 ∷ 0x00 ∷ 0x00 ∷ 0x00 ∷ 0x01 ∷ 0x01 ∷ 0x00 ∷ 0xC9 ∷ 0x0D ∷ []) ∷ []) ∷
     -- quoting after out-of-band: a quoted hello character is data
     runs
     (initiated ∷ attribute 3 0x03 ∷ startedA ∷ typed quoteKey [] [] ∷ typed 3 (0x5E ∷ 0x43 ∷ []) [] ∷ []) ∷

@@ -1,5 +1,5 @@
--- Demand 3, shown by computing: a pair of lists that meets its suppositions and differs in DATA, and for each supposition a pair
--- that breaks it alone and looks different.
+-- Demand 3, shown by computing: pairs of lists that meet its suppositions and differ in DATA, and for each supposition pairs
+-- that break it alone and look different.
 use Prim.Native.Nat.{ℕ}
 use mathlib.Core.Bool.{Bool, true, false, not, _&&_}
 use mathlib.Core.List.{List, [], _∷_, _++_, map}
@@ -77,6 +77,10 @@ setOfCapitalA = 9 ∷ (replicate 8 0 ++ (0x02 ∷ []))
 abbrev pub setOfSmallA : List ℕ
 setOfSmallA = 13 ∷ (replicate 12 0 ++ (0x02 ∷ []))
 
+-- the set of "É" alone
+abbrev pub setOfCapitalAccent : List ℕ
+setOfCapitalAccent = 26 ∷ (replicate 25 0 ++ (0x02 ∷ []))
+
 -- two lists of calls, and which suppositions hold of them, in their order
 pub record Pair : Type 0 where
   pub first : List (Call ℕ)
@@ -92,13 +96,19 @@ pair before one other holding =
 unfoldable pub meets : Pair → Bool
 meets p = same (map bit (suppositions inBand (p .first) (p .second))) (p .holding)
 
--- A passcode typed into a read with no echo, rubbed out in part, raised, ended by CR: "a7", DEL, "bc" or "z3", DEL, "Qq".
-unfoldable pub passcode : Pair
-passcode =
+-- Passcodes typed into a read with no echo, rubbed out in part, raised, ended by CR.
+unfoldable pub passcodes : List Pair
+passcodes =
+    -- "a7", DEL, "bc" or "z3", DEL, "Qq"
     pair (reading silentRaising noSet ∷ [])
     (0x61 ∷ 0x37 ∷ DEL ∷ 0x62 ∷ 0x63 ∷ 0x0D ∷ [])
     (0x7A ∷ 0x33 ∷ DEL ∷ 0x51 ∷ 0x71 ∷ 0x0D ∷ [])
-    (replicate 8 1)
+    (replicate 8 1) ∷
+    -- with accents: "üé", DEL, "éü" or "¡þ", DEL, "!÷"; none of them is a word character
+    pair (reading silentRaising noSet ∷ [])
+    (0xFC ∷ 0xE9 ∷ DEL ∷ 0xE9 ∷ 0xFC ∷ 0x0D ∷ [])
+    (0xA1 ∷ 0xFE ∷ DEL ∷ 0x21 ∷ 0xF7 ∷ 0x0D ∷ [])
+    (replicate 8 1) ∷ []
 
 -- it looks the same, and the host reads another DATA
 unfoldable pub isHidden : Pair → Bool
@@ -118,6 +128,9 @@ broken =
     -- another word class: 23 leaves "-" of "-1x" and "--" of "--x"
     pair (reading silent noSet ∷ []) (0x2D ∷ 0x31 ∷ 0x78 ∷ deleteWordKey ∷ 0x0D ∷ []) (0x2D ∷ 0x2D ∷ 0x78 ∷ deleteWordKey ∷ 0x0D ∷ [])
     (1 ∷ 1 ∷ 0 ∷ 1 ∷ 1 ∷ 1 ∷ 1 ∷ 1 ∷ []) ∷
+    -- and so of "é" and "e": 23 leaves "-é" of "-éx" and "-" of "-ex"
+    pair (reading silent noSet ∷ []) (0x2D ∷ 0xE9 ∷ 0x78 ∷ deleteWordKey ∷ 0x0D ∷ []) (0x2D ∷ 0x65 ∷ 0x78 ∷ deleteWordKey ∷ 0x0D ∷ [])
+    (1 ∷ 1 ∷ 0 ∷ 1 ∷ 1 ∷ 1 ∷ 1 ∷ 1 ∷ []) ∷
     -- out-of-band: "1" is a hello character
     pair (message (0x0B ∷ 0x00 ∷ 0x02 ∷ 0x02 ∷ 0x31 ∷ 0xFF ∷ 0x03 ∷ []) ∷ []) (0x31 ∷ []) (0x32 ∷ [])
     (1 ∷ 1 ∷ 1 ∷ 0 ∷ 1 ∷ 1 ∷ 1 ∷ 1 ∷ []) ∷
@@ -127,8 +140,9 @@ broken =
     pair (reading recognising noSet ∷ []) (ESC ∷ BRACKET ∷ 65 ∷ []) (ESC ∷ BRACKET ∷ 48 ∷ []) (1 ∷ 1 ∷ 1 ∷ 1 ∷ 1 ∷ 0 ∷ 1 ∷ 1 ∷ []) ∷
     -- the termination set has "a"
     pair (reading ownSet setOfSmallA ∷ []) (0x61 ∷ []) (0x62 ∷ []) (1 ∷ 1 ∷ 1 ∷ 1 ∷ 1 ∷ 1 ∷ 0 ∷ 1 ∷ []) ∷
-    -- the termination set has "A", the raised form of "a"
-    pair (reading ownSetRaising setOfCapitalA ∷ []) (0x61 ∷ []) (0x62 ∷ []) (1 ∷ 1 ∷ 1 ∷ 1 ∷ 1 ∷ 1 ∷ 1 ∷ 0 ∷ []) ∷ []
+    -- the termination set has "A", the raised form of "a", or "É", that of "é"
+    pair (reading ownSetRaising setOfCapitalA ∷ []) (0x61 ∷ []) (0x62 ∷ []) (1 ∷ 1 ∷ 1 ∷ 1 ∷ 1 ∷ 1 ∷ 1 ∷ 0 ∷ []) ∷
+    pair (reading ownSetRaising setOfCapitalAccent ∷ []) (0xE9 ∷ []) (0xEA ∷ []) (1 ∷ 1 ∷ 1 ∷ 1 ∷ 1 ∷ 1 ∷ 1 ∷ 0 ∷ []) ∷ []
 
 unfoldable pub shows : Pair → Bool
 shows p = meets p && not (looksSame (p .first) (p .second))
