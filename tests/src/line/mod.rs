@@ -4,6 +4,7 @@ pub mod arrival;
 mod deleting;
 mod host;
 mod loading;
+pub mod raising;
 pub(crate) mod reads;
 pub mod steps;
 pub mod tokens;

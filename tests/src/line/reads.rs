@@ -31,6 +31,13 @@ fn universal_set() -> [u8; 32] {
     set
 }
 
+impl Read {
+    /// Whether the code is in the read's set.
+    pub(super) fn ends_at(&self, code: u8) -> bool {
+        self.set[usize::from(code / 8)] >> (code % 8) & 1 == 1
+    }
+}
+
 impl Line {
     pub(super) fn start_read(&mut self, asked: StartRead, out: &mut Answer) {
         let read = self.fixed(&asked);

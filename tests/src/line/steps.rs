@@ -1,6 +1,7 @@
 //! One step and one tick.
 
 use super::deleting::BY_KEY;
+use super::raising::raised;
 use super::reads::{BUFFER_FULL, TERMINATOR, TIMEOUT, UNDERFLOW};
 use super::tokens::{CSI, ESC};
 use super::{Answer, Key, Line};
@@ -101,11 +102,11 @@ impl Line {
             }
             self.seen.met(Rule::StepEscapeOff);
         }
-        let raised = read.raise && key.code.is_ascii_lowercase();
-        self.seen.met_if(raised, Rule::StepRaised);
-        let code = if raised { key.code - 32 } else { key.code };
-        if read.set[usize::from(code / 8)] >> (code % 8) & 1 == 1 {
-            self.seen.met_if(raised, Rule::StepRaisedTerminator);
+        let code = if read.raise { raised(key.code) } else { key.code };
+        let ends = read.ends_at(code);
+        self.seen.met_if(code != key.code, Rule::StepRaised);
+        self.seen.met_if(code != key.code && ends, Rule::StepRaisedTerminator);
+        if ends {
             return self.terminator(code, out);
         }
         if self.edits(code) {
