@@ -2,6 +2,7 @@
 //! number, message type and rule of page 01 and the requests was met.
 
 pub mod long;
+pub mod raising;
 pub mod settings;
 pub mod steps;
 pub mod tokens;
@@ -9,6 +10,7 @@ pub mod writes;
 
 use crate::settings::{find, read, Source, SECTIONS};
 use long::Long;
+use raising::Raising;
 use settings::Settings;
 use std::fmt;
 use steps::Steps;
@@ -42,6 +44,10 @@ rules! {
     LineSome, LineNothing, Redisplay, RedisplayNoEcho,
     EditOffDdd1, EditOffDdd2, EditOffDdd3, EditInSet, LowWaterFalls, LowWaterStays,
     DataEchoed, DataSilent, DataFull, QuotedFull,
+    // Small accents in reads that raise, and in those that do not.
+    AccentRaisedEchoed, AccentRaisedSilent, AccentRaisedTerminator, AccentRaisedOutOfSet,
+    AccentRaisedToOutOfBand, AccentQuoted, AccentInToken, WordBehindAccent, WordStopsAtAccent,
+    AccentData, AccentTerminator, AccentInSetAlone,
     // Tokens.
     TokenValid, TokenInvalid, TokenSixteenthInvalid, TokenSixteenthFinal, TokenFits,
     TokenFills, TokenAbsentee, PartialDropped,
@@ -54,7 +60,7 @@ rules! {
     Initiated, InitiatedLoaded, ReadPending, ReadFullAtOnce, ReadEndsIdle, ReadClears,
     ReadClearsHeld, FormattingLf, FormattingNoLf, HiddenLfInPrompt, HiddenLfInData, HiddenLfDeleted,
     HiddenLfRedisplayed, AutoPrompt, SetLast, SetLastNone, SetLoaded, SetGiven, SetUniversal,
-    RaiseOn, EscapesOn, NoEcho,
+    RaiseOn, AccentInPrompt, AccentPreloaded, EscapesOn, NoEcho,
     EchoOffByCharacteristic, UnreadAlways, UnreadEmptyDone, UnreadEmptyWaiting,
     UnreadEmptyToken, UnreadEmptyInput, UnreadNoRead, ClearInput, CheckInput,
     SetAttributes, SetRaise, SetEcho, SetEscapes, SetAutoPrompt, SetNothing, SetInMidRead,
@@ -103,6 +109,7 @@ pub struct Coverage {
     pub read_numbers: [u64; 7],
     pub rules: [u64; RULES.len()],
     pub long: Long,
+    pub raising: Raising,
     pub settings: Settings,
     pub steps: Steps,
     pub tokens: Tokens,
@@ -121,6 +128,7 @@ impl Default for Coverage {
             read_numbers: [0; 7],
             rules: [0; RULES.len()],
             long: Long::default(),
+            raising: Raising::default(),
             settings: Settings::default(),
             steps: Steps::default(),
             tokens: Tokens::default(),
@@ -182,6 +190,7 @@ impl Coverage {
             *mine += more;
         }
         self.long.add(&other.long);
+        self.raising.add(&other.raising);
         self.settings.add(&other.settings);
         self.steps.add(&other.steps);
         self.tokens.add(&other.tokens);
@@ -206,6 +215,7 @@ impl Coverage {
         table.extend((1..15).map(|kind| (format!("read type {kind}"), self.read[kind])));
         table.extend([0, 2, 3, 5].map(|no| (format!("reading {no}"), self.read_numbers[no])));
         table.extend(RULES.iter().map(|rule| (format!("{rule:?}"), self.rules[*rule as usize])));
+        table.extend(self.raising.table());
         table.extend(self.settings.table());
         table.extend(self.steps.table());
         table.extend(self.writes.table());

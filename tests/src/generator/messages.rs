@@ -133,12 +133,16 @@ pub fn set(random: &mut Random) -> Vec<u8> {
     }
     let codes = [13, 13, 13, 10, 9, 26, 27, 18, 21, 23, 127, b'A', b'Z', b'q', b'.', 155, 200, 255];
     for _ in 0..random.below(5) {
-        let code = random.pick(&codes);
-        if let Some(byte) = set.get_mut(usize::from(code) / 8) {
-            *byte |= 1 << (code % 8);
-        }
+        include(&mut set, random.pick(&codes));
     }
     set
+}
+
+/// Puts a code into a set whose bytes reach so far.
+pub fn include(set: &mut [u8], code: u8) {
+    if let Some(byte) = set.get_mut(usize::from(code / 8)) {
+        *byte |= 1 << (code % 8);
+    }
 }
 
 /// A Start Read that is sound, but not always carried.

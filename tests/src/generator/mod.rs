@@ -1,5 +1,6 @@
 //! Makes random scripts that reach deep states, from a seed.
 
+mod accents;
 mod damage;
 mod long;
 mod messages;
@@ -91,7 +92,7 @@ impl Generator {
     /// One scene; a script is a row of them.
     fn scene(&mut self) {
         self.lift_mostly();
-        match self.random.below(138) {
+        match self.random.below(142) {
             0..=25 => self.read(),
             26 => self.many_lines(),
             27..=29 => self.idling(),
@@ -122,6 +123,7 @@ impl Generator {
             117..=119 => self.skipped_linefeed(),
             120..=127 => self.backlog(),
             128..=135 => self.drained(),
+            136..=139 => self.accents(),
             _ => self.single_parts(),
         }
     }

@@ -1,5 +1,7 @@
 //! A small generator of numbers, the same on every machine.
 
+use std::ops::RangeInclusive;
+
 #[derive(Clone, Debug)]
 pub struct Random(u64);
 
@@ -25,6 +27,11 @@ impl Random {
     /// From `first` to `last`, both included.
     pub fn between(&mut self, first: usize, last: usize) -> usize {
         first + self.below(last - first + 1)
+    }
+
+    /// A code of this range.
+    pub fn within(&mut self, range: RangeInclusive<u8>) -> u8 {
+        self.between(usize::from(*range.start()), usize::from(*range.end())) as u8
     }
 
     pub fn byte(&mut self) -> u8 {

@@ -5,7 +5,6 @@ use super::{Generator, AHEAD};
 use crate::coverage::tokens::WATCHED;
 use crate::line::tokens::{Form, FORMS, INTERMEDIATES, LONGEST, PARAMETERS};
 use crate::message::{Message, BUFFER};
-use std::ops::RangeInclusive;
 
 /// How many sequences in a hundred are kept to one byte at most between the
 /// introducer and a final, so that what follows the introducer is seen often.
@@ -109,7 +108,7 @@ fn escape_sequence(random: &mut Random) -> Vec<u8> {
     keys.push(match random.below(8) {
         0 => random.byte(),
         1..=3 => random.pick(&WATCHED),
-        _ => from(random, form.finals.clone()),
+        _ => random.within(form.finals.clone()),
     });
     keys
 }
@@ -130,11 +129,7 @@ fn opening(random: &mut Random, form: &Form, longest: usize) -> Vec<u8> {
         0 => more,
         _ => random.below(more + 1),
     };
-    keys.extend((0..parameters).map(|_| from(random, PARAMETERS)));
-    keys.extend((parameters..more).map(|_| from(random, INTERMEDIATES)));
+    keys.extend((0..parameters).map(|_| random.within(PARAMETERS)));
+    keys.extend((parameters..more).map(|_| random.within(INTERMEDIATES)));
     keys
-}
-
-fn from(random: &mut Random, range: RangeInclusive<u8>) -> u8 {
-    random.between(usize::from(*range.start()), usize::from(*range.end())) as u8
 }

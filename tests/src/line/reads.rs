@@ -83,6 +83,7 @@ impl Line {
         let raise = asked.raise == 2 || asked.raise == 0 && self.raise;
         let escapes = asked.escapes == 2 || asked.escapes == 0 && self.escapes;
         let hidden_lf = asked.formatting && asked.data.first() == Some(&LF);
+        self.note_preloaded(asked, raise);
         self.seen.met_if(raise, Rule::RaiseOn);
         self.seen.met_if(escapes, Rule::EscapesOn);
         self.seen.met_if(asked.no_echo, Rule::NoEcho);

@@ -1,7 +1,7 @@
 //! One step and one tick.
 
 use super::deleting::BY_KEY;
-use super::raising::raised;
+use super::raising::{is_small_accent, raised};
 use super::reads::{BUFFER_FULL, TERMINATOR, TIMEOUT, UNDERFLOW};
 use super::tokens::{CSI, ESC};
 use super::{Answer, Key, Line};
@@ -87,13 +87,16 @@ impl Line {
     fn take_key(&mut self, key: Key, out: &mut Answer) {
         self.idle = 0;
         let Some(read) = &self.read else { return };
+        let spared = read.raise && is_small_accent(key.code);
         if !self.partial.is_empty() {
             self.seen.met(Rule::StepPartial);
             self.seen.met_if(key.quoted, Rule::StepQuotedInToken);
+            self.seen.met_if(spared, Rule::AccentInToken);
             return self.add_to_token(key.code, out);
         }
         if key.quoted {
             self.seen.met(Rule::StepQuoted);
+            self.seen.met_if(spared, Rule::AccentQuoted);
             return self.data(key.code, true, out);
         }
         if key.code == ESC || key.code == CSI {
@@ -104,12 +107,10 @@ impl Line {
         }
         let code = if read.raise { raised(key.code) } else { key.code };
         let ends = read.ends_at(code);
-        self.seen.met_if(code != key.code, Rule::StepRaised);
-        self.seen.met_if(code != key.code && ends, Rule::StepRaisedTerminator);
+        self.note_raising(key.code, code);
         if ends {
-            return self.terminator(code, out);
-        }
-        if self.edits(code) {
+            self.terminator(code, out);
+        } else if self.edits(code) {
             self.edit(code, out);
         } else {
             self.data(code, false, out);
@@ -175,6 +176,9 @@ impl Line {
                     DELETE_WORD_KEY => Rule::WordSome,
                     _ => Rule::LineSome,
                 });
+                if code == DELETE_WORD_KEY {
+                    self.note_word_deleted(end);
+                }
                 self.delete_to(end, true, out);
             }
         }
