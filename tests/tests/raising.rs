@@ -19,6 +19,7 @@ use common::*;
 use second::line::arrival::QUOTE_KEY;
 use second::line::steps::{DELETE_KEY, DELETE_WORD_KEY, REDISPLAY_KEY};
 use second::line::tokens::ESC;
+use second::message::READ_DATA;
 use second::screen::{CR, HT};
 
 /// A small letter with its capital, and two signs, no letters, that are 32 apart too.
@@ -30,13 +31,21 @@ const MULTIPLICATION_SIGN: u8 = 215;
 /// Letters before the small accents and behind them, and the sign among them.
 const STAYING: [u8; 3] = [223, DIVISION_SIGN, 255];
 
+fn all_codes() -> Vec<u8> {
+    (0..=255).collect()
+}
+
 /// 224 to 254 except 247.
 fn small_accents() -> Vec<u8> {
     (224..=246).chain(248..=254).collect()
 }
 
-fn less_32(codes: &[u8]) -> Vec<u8> {
-    codes.iter().map(|code| code - 32).collect()
+fn less_32(code: u8) -> u8 {
+    code - 32
+}
+
+fn each_less_32(codes: &[u8]) -> Vec<u8> {
+    codes.iter().copied().map(less_32).collect()
 }
 
 /// A read that raises, without a terminator and with room for every code.
@@ -70,10 +79,6 @@ impl Start {
         input(&mut bench)
     }
 }
-
-/// The type of a Read Data, and how much of it stands before DATA.
-const READ_DATA: u8 = 3;
-const READ_DATA_HEADER: usize = 8;
 
 /// Ends the read; gives what was in it.
 fn input(bench: &mut Bench) -> Vec<u8> {

@@ -15,7 +15,7 @@ use crate::steps::DELETE_WORD_KEY;
 use crate::steps::REDISPLAY_KEY;
 use rules::characters;
 
-// The small letters of ISO 8859-1 that have a capital: the division sign is no letter.
+// Small accents: the small letters of ISO 8859-1 above ASCII whose capital it has too. The division sign is no letter.
 const FIRST_SMALL_ACCENT: u8 = 224;
 
 const LAST_SMALL_ACCENT: u8 = 254;
@@ -30,7 +30,7 @@ const DISABLES_LINES: u8 = 1;
 
 const DISABLES_NOTHING: u8 = 0;
 
-// A small letter, plain or with an accent, as its capital.
+// The raised form: a small letter of ASCII or a small accent as its capital, any other code as it is.
 fn raised(c: u8) -> u8
     ensures { λ r. ⌜ r ≡ rules.raised c ⌝ }
 {

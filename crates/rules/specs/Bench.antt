@@ -1,12 +1,13 @@
 -- Page 01, "Bench cases": what it is for one to hold, and the words that rows are written in. The rows stand in Bench/Rows.antt.
 pub mod Rows
-use Prim.Native.Nat.{ℕ, suc, _+_}
+use Prim.Native.Nat.{ℕ, suc, _+_, _/_, _%_, _^_}
 use mathlib.Core.Bool.{Bool, true, false, _&&_}
 use mathlib.Core.List.{List, [], _∷_, _++_}
 use lib.Dec.{eqb}
 use lib.ListN.{length, replicate}
 use Rattle.rules.specs.Choice.{pick, same, sameAll}
 use Rattle.rules.specs.Numbers.{terminalArea, messageArea, accepted}
+use Rattle.rules.specs.Messages.Layout.{byteBits}
 use Rattle.rules.specs.Messages.Forms.{Message, revisionSize, readDataHeader}
 use Rattle.rules.specs.Messages.Codec as codec
 use Rattle.rules.specs.Messages.Codec.{Outcome, refused, sound, read, written}
@@ -121,14 +122,14 @@ startA = 0x02 ∷ 0x01 ∷ 0x90 ∷ 0x00 ∷ 0x50 ∷ 0x00 ∷ 0x02 ∷ 0x00 ∷
 abbrev pub startedA : Exchange
 startedA = told startA accepted (0x3F ∷ 0x20 ∷ []) []
 
--- a Start Read with II 2, this termination set and this text, which echoes and is no prompt
+-- the bytes of a termination set with this code alone
+abbrev pub setOfCode : ℕ → List ℕ
+setOfCode code = replicate (code / byteBits) 0x00 ++ (2 ^ (code % byteBits) ∷ [])
+
+-- a Start Read that raises (II 2) and echoes, with this termination set (ZZ 1) and no prompt; its text is of marks
 abbrev pub raisingRead : List ℕ → List ℕ → Exchange
 raisingRead set text =
     told ((0x02 ∷ 0x80 ∷ 0x40 ∷ 0x00 ∷ 0x50 ∷ 0x00 ∷ length text ∷ 0x00 ∷ 0x00 ∷ 0x00 ∷ 0x00 ∷ 0x00 ∷ 0x00 ∷ 0x00 ∷ 0x00 ∷ 0x00 ∷ length set ∷ []) ++ set ++ text) accepted text []
-
--- the termination set of 13 alone
-abbrev pub setOfReturn : List ℕ
-setOfReturn = 0x00 ∷ 0x20 ∷ []
 
 -- a Start Read with Q and this TIMEOUT, and the Read Data of one that is timed out with nothing typed
 abbrev pub timedRead : ℕ → Exchange

@@ -20,7 +20,7 @@ deleteLineKey = 21
 abbrev pub redisplayKey : ℕ
 redisplayKey = 18
 
--- the digits and the capital letters
+-- the digits and the capital letters of ASCII
 abbrev pub firstDigit : ℕ
 firstDigit = 48
 

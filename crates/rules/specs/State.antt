@@ -27,7 +27,7 @@ lastSmall = 122
 abbrev pub isSmall : ℕ → Bool
 isSmall n = within firstSmall lastSmall n
 
--- the small letters of ISO 8859-1 that have a capital: 223 and 255 have none, and the division sign is no letter
+-- small accents: the small letters of ISO 8859-1 above ASCII whose capital it has too. It has none for 223 and 255; the division sign is no letter
 abbrev pub firstSmallAccent : ℕ
 firstSmallAccent = 224
 

@@ -31,7 +31,7 @@ rules! {
     KeyBeforeInitiate, KeyQuoted, KeyQuotedOutOfBand, KeyQuotedDropped, KeyHello,
     KeyImmediateClearIdle, KeyImmediateClearRead, KeyOutOfBandInDdd3, KeyQuote, KeyClearIdle,
     KeyClearRead, KeyDiscardOn, KeyDiscardOff, KeyQuoteDdd3, KeyClearDdd3, KeyDiscardDdd3,
-    KeyStored, KeyDropped, KeyLoadedHello, KeyLoadedClear,
+    KeyStored, KeyDropped, KeyLoadedHello, KeyLoadedClear, KeyAccentOutOfBand,
     // The clear rule.
     ClearedTypeAhead, ClearedHeld, ClearedPartial, ClearedInput,
     // One step.
@@ -44,10 +44,11 @@ rules! {
     LineSome, LineNothing, Redisplay, RedisplayNoEcho,
     EditOffDdd1, EditOffDdd2, EditOffDdd3, EditInSet, LowWaterFalls, LowWaterStays,
     DataEchoed, DataSilent, DataFull, QuotedFull,
-    // Small accents in reads that raise, and in those that do not.
-    AccentRaisedEchoed, AccentRaisedSilent, AccentRaisedTerminator, AccentRaisedOutOfSet,
-    AccentRaisedToOutOfBand, AccentQuoted, AccentInToken, WordBehindAccent, WordStopsAtAccent,
-    AccentData, AccentTerminator, AccentInSetAlone,
+    // Small accents taken by reads that raise, and by those that do not; 23 and high marks.
+    AccentRaisedEchoed, AccentRaisedSilent, AccentRaisedTerminator, AccentRaisedIntoSet,
+    AccentRaisedOutOfSet, AccentRaisedToOutOfBand, AccentQuoted, AccentInToken,
+    AccentData, AccentTerminator, AccentAloneInSet, AccentCapitalInSet,
+    HighBehindWord, WordStopsAtHigh,
     // Tokens.
     TokenValid, TokenInvalid, TokenSixteenthInvalid, TokenSixteenthFinal, TokenFits,
     TokenFills, TokenAbsentee, PartialDropped,

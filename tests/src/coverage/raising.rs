@@ -2,25 +2,25 @@
 
 use std::ops::RangeInclusive;
 
-/// The codes that are watched: both sides of each end of ASCII's small letters and
-/// of where printing marks go on above them; the accents, capital and small, with the
-/// code before them and that behind.
-pub const EDGES: [u8; 6] = [b'a' - 1, b'a', b'z', b'z' + 1, 160, 161];
-pub const ACCENTS: RangeInclusive<u8> = 191..=255;
+/// Watched below the accents: both sides of each end of ASCII's small letters, and
+/// 160, which is no printing mark, with 161, which is one.
+pub const WATCHED_LOW: [u8; 6] = [b'a' - 1, b'a', b'z', b'z' + 1, 160, 161];
+/// The accents, capital and small, with the code before them and that behind.
+pub const WATCHED_HIGH: RangeInclusive<u8> = 191..=255;
 
-const CODES: usize = 256;
-const READS: [&str; 2] = ["read", "raising read"];
+const CODE_COUNT: usize = 256;
+const READS: [&str; 2] = ["plain read", "raising read"];
 const TAKEN: [&str; 2] = ["data", "terminator"];
 
 #[derive(Clone, Debug, PartialEq, Eq)]
 pub struct Raising {
     /// By whether the read raises, whether the key ended it, and the code typed.
-    taken: [[[u64; CODES]; TAKEN.len()]; READS.len()],
+    taken: [[[u64; CODE_COUNT]; TAKEN.len()]; READS.len()],
 }
 
 impl Default for Raising {
     fn default() -> Self {
-        Raising { taken: [[[0; CODES]; TAKEN.len()]; READS.len()] }
+        Raising { taken: [[[0; CODE_COUNT]; TAKEN.len()]; READS.len()] }
     }
 }
 
@@ -42,7 +42,7 @@ impl Raising {
             for (became, counts) in TAKEN.iter().zip(taken) {
                 let row =
                     |code| (format!("{code} in a {read}: {became}"), counts[usize::from(code)]);
-                table.extend(EDGES.into_iter().chain(ACCENTS).map(row));
+                table.extend(WATCHED_LOW.into_iter().chain(WATCHED_HIGH).map(row));
             }
         }
         table
@@ -54,14 +54,15 @@ mod tests {
     use super::*;
 
     #[test]
-    fn a_watched_code_is_counted_as_it_was_typed() {
+    fn only_watched_codes_have_rows() {
         let mut raising = Raising::default();
         raising.taken(true, false, 233);
         raising.taken(false, true, 255);
         raising.taken(true, true, b'm');
-        let met: Vec<(String, u64)> = raising.table().into_iter().filter(|row| row.1 > 0).collect();
-        let rows =
-            [("255 in a read: terminator".into(), 1), ("233 in a raising read: data".into(), 1)];
-        assert_eq!(met, rows);
+        let mut twice = raising.clone();
+        twice.add(&raising);
+        let met: Vec<(String, u64)> = twice.table().into_iter().filter(|row| row.1 > 0).collect();
+        let expected = ["255 in a plain read: terminator", "233 in a raising read: data"];
+        assert_eq!(met, expected.map(|name| (name.into(), 2)));
     }
 }

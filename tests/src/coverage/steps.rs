@@ -110,7 +110,7 @@ impl Steps {
 }
 
 /// Whether a step can meet the rule, that of a key and a bare one. It goes by the
-/// order of `rules!`: the lists of steps and tokens, and the screen's.
+/// order of `rules!`: the lists of steps, accents and tokens, and the screen's.
 fn is_of_step(rule: Rule) -> bool {
     let lists = [Rule::StepHeldFits..=Rule::PartialDropped, Rule::EchoTab..=Rule::RubNoEcho];
     lists.iter().any(|list| list.contains(&rule))

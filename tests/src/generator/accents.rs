@@ -2,12 +2,13 @@
 
 use super::random::Random;
 use super::{messages, typing, Generator};
-use crate::coverage::raising::{ACCENTS, EDGES};
+use crate::coverage::raising::{WATCHED_HIGH, WATCHED_LOW};
 use crate::line::arrival::QUOTE_KEY;
-use crate::line::raising::SMALL_ACCENTS;
+use crate::line::raising::SMALL_ACCENT_ROWS;
 use crate::line::steps::{DELETE_KEY, DELETE_WORD_KEY};
 use crate::line::tokens::{CSI, ESC};
 use crate::screen::CR;
+use crate::settings::LONGEST_SET;
 
 /// For so many of these reads in a hundred, accents wait.
 const WAITING: usize = 50;
@@ -17,9 +18,6 @@ const SOON: usize = 90;
 
 /// Of a hundred characters that such a read begins with, so many are accents.
 const PRELOADED: usize = 30;
-
-/// A bit for each code.
-const SET_BYTES: usize = 256 / 8;
 
 impl Generator {
     /// Accents typed into reads, which some of them end.
@@ -53,6 +51,7 @@ impl Generator {
         self.settle();
     }
 
+    /// A key, mostly an accent.
     fn accent_key(&mut self) {
         let code = match self.random.below(24) {
             0 => QUOTE_KEY,
@@ -70,18 +69,18 @@ impl Generator {
 /// A code that is watched; of small accents there are more.
 fn accent(random: &mut Random) -> u8 {
     match random.below(16) {
-        0 => random.pick(&EDGES),
-        1..=4 => random.within(SMALL_ACCENTS),
-        _ => random.within(ACCENTS),
+        0 => random.pick(&WATCHED_LOW),
+        1..=4 => random.within(SMALL_ACCENT_ROWS),
+        _ => random.within(WATCHED_HIGH),
     }
 }
 
 /// A set with a quarter of the accents: often a small letter without its capital, or
 /// the capital alone.
 fn accent_set(random: &mut Random) -> Vec<u8> {
-    let mut set = vec![0; SET_BYTES];
-    set[usize::from(ACCENTS.start() / 8)..].fill_with(|| random.byte() & random.byte());
-    for code in [CR, random.pick(&EDGES)] {
+    let mut set = vec![0; LONGEST_SET];
+    set[usize::from(WATCHED_HIGH.start() / 8)..].fill_with(|| random.byte() & random.byte());
+    for code in [CR, random.pick(&WATCHED_LOW)] {
         messages::include(&mut set, code);
     }
     set

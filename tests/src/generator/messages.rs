@@ -4,7 +4,7 @@ use super::random::Random;
 use super::{typing, writes};
 use crate::line::{LENGTH, MESSAGE_AREA};
 use crate::message::{
-    self, Initiate, Message, ReadData, StartRead, Value, Wanted, BUFFER, LONGEST,
+    self, Initiate, Message, ReadData, StartRead, Value, Wanted, BUFFER, LONGEST, READ_DATA_HEADER,
 };
 
 const BOOLEANS: [u16; 7] = [0x201, 0x203, 0x204, 0x205, 0x206, 0x207, 0x209];
@@ -26,9 +26,6 @@ const MOST: usize = (MESSAGE_AREA - ANSWER_HEADER) / PLAIN_ANSWER;
 /// A Characteristics has its values as an answer has them. Of the longer ones alone
 /// a message takes so many.
 pub const MOST_VALUES: usize = (LONGEST - (ANSWER_HEADER - LENGTH)) / ATTRIBUTES_ANSWER;
-
-/// Header and DATA of a Read Data fill a message.
-const READ_DATA_HEADER: usize = 8;
 
 /// The bytes of a message that is sound.
 pub fn bytes_of(message: &Message) -> Vec<u8> {
@@ -138,7 +135,7 @@ pub fn set(random: &mut Random) -> Vec<u8> {
     set
 }
 
-/// Puts a code into a set whose bytes reach so far.
+/// Puts a code into a set, if its bytes reach so far.
 pub fn include(set: &mut [u8], code: u8) {
     if let Some(byte) = set.get_mut(usize::from(code / 8)) {
         *byte |= 1 << (code % 8);

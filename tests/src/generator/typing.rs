@@ -2,8 +2,8 @@
 
 use super::random::Random;
 
-/// Codes that scripts make out-of-band. A few only, so that typing goes on. Two are
-/// one letter, capital and small.
+/// Codes that scripts make out-of-band. A few only, so that typing goes on. 200
+/// and 232 are one letter, capital and small.
 pub const OUT_OF_BAND: [u8; 9] = [3, 25, 1, b'!', 200, 232, 15, 22, 24];
 
 const WORDS: &[u8] = b"abcxyzABCZ019 azkq";

@@ -1,5 +1,6 @@
 //! A key arrives: the four arrival rules.
 
+use super::raising::is_small_accent;
 use super::tokens::End;
 use super::{Answer, Key, Line, TYPE_AHEAD};
 use crate::coverage::Rule;
@@ -49,6 +50,8 @@ impl Line {
         }
         let all_off = self.read.as_ref().is_some_and(|read| read.disable == 3);
         self.seen.met_if(out_of_band != 0 && all_off, Rule::KeyOutOfBandInDdd3);
+        let accent = is_small_accent(code) && self.read.as_ref().is_some_and(|read| read.raise);
+        self.seen.met_if(out_of_band != 0 && accent, Rule::KeyAccentOutOfBand);
         match (out_of_band, code) {
             (HELLO, _) => {
                 self.seen.met(Rule::KeyHello);

@@ -2,25 +2,25 @@
 //! (M-108).
 
 use super::arrival::OUT_OF_BAND;
+use super::steps::DELETE_WORD_KEY;
 use super::Line;
 use crate::coverage::Rule;
 use crate::message::StartRead;
 use std::ops::RangeInclusive;
 
-/// The small letters of the upper half. 223 and 255 are letters too, but ISO 8859-1
-/// has no capitals of them.
-pub const SMALL_ACCENTS: RangeInclusive<u8> = 224..=254;
-/// It stands among them and is no letter.
-pub const DIVISION_SIGN: u8 = 247;
+/// The rows of ISO 8859-1 where small accents stand, and one sign among them. 223 and
+/// 255 are small letters too, but it has no capitals of them.
+pub const SMALL_ACCENT_ROWS: RangeInclusive<u8> = 224..=254;
+const DIVISION_SIGN: u8 = 247;
 /// A small letter is so much above its capital.
 const CASE: u8 = 32;
 
-pub fn is_small_accent(code: u8) -> bool {
-    SMALL_ACCENTS.contains(&code) && code != DIVISION_SIGN
+pub(super) fn is_small_accent(code: u8) -> bool {
+    SMALL_ACCENT_ROWS.contains(&code) && code != DIVISION_SIGN
 }
 
 /// The raised form of a code. Those that have no other keep their own.
-pub fn raised(code: u8) -> u8 {
+pub(super) fn raised(code: u8) -> u8 {
     if code.is_ascii_lowercase() || is_small_accent(code) {
         code - CASE
     } else {
@@ -28,16 +28,16 @@ pub fn raised(code: u8) -> u8 {
     }
 }
 
-fn is_capital_accent(code: u8) -> bool {
-    code.checked_add(CASE).is_some_and(is_small_accent)
-}
+/// Printing marks above ASCII: no word has one.
+const HIGH_MARKS: RangeInclusive<u8> = 161..=254;
 
 /// What is counted; no rule looks at it.
 impl Line {
-    /// A key is taken by the rules from raising on: its code, and what raising left.
-    pub(super) fn note_raising(&mut self, typed: u8, code: u8) {
+    /// A key that is neither quoted nor of a token is taken: as typed, as raising left
+    /// it, and whether it ends the read.
+    pub(super) fn note_raising(&mut self, typed: u8, code: u8, ends: bool) {
         let Some(read) = &self.read else { return };
-        let (changed, ends) = (code != typed, read.ends_at(code));
+        let changed = code != typed;
         self.seen.raising.taken(read.raise, ends, typed);
         self.seen.met_if(changed, Rule::StepRaised);
         self.seen.met_if(changed && ends, Rule::StepRaisedTerminator);
@@ -51,21 +51,28 @@ impl Line {
             (false, true) => Rule::AccentTerminator,
             (false, false) => Rule::AccentData,
         });
-        let capital_out = read.ends_at(typed) && !read.ends_at(raised(typed));
-        self.seen.met_if(capital_out && changed, Rule::AccentRaisedOutOfSet);
-        self.seen.met_if(capital_out && !changed, Rule::AccentInSetAlone);
+        match (read.ends_at(typed), read.ends_at(raised(typed)), changed) {
+            (true, false, true) => self.seen.met(Rule::AccentRaisedOutOfSet),
+            (false, true, true) => self.seen.met(Rule::AccentRaisedIntoSet),
+            (true, false, false) => self.seen.met(Rule::AccentAloneInSet),
+            (false, true, false) => self.seen.met(Rule::AccentCapitalInSet),
+            _ => {}
+        }
         let out_of_band = self.attributes[usize::from(code)] & OUT_OF_BAND != 0;
         self.seen.met_if(out_of_band && changed, Rule::AccentRaisedToOutOfBand);
     }
 
-    /// 23 deletes to `end` in a read with raised accents.
-    pub(super) fn note_word_deleted(&mut self, end: usize) {
+    /// An editing key deletes to `end`.
+    pub(super) fn note_deleted(&mut self, code: u8, end: usize) {
         let Some(read) = &self.read else { return };
+        if code != DELETE_WORD_KEY {
+            return;
+        }
         let (stays, goes) = read.buffer[read.end_of_prompt..].split_at(end - read.end_of_prompt);
-        let accent = |code: &u8| read.raise && is_capital_accent(*code);
+        let high = |code: &u8| HIGH_MARKS.contains(code);
         let word = goes.first().is_some_and(u8::is_ascii_alphanumeric);
-        self.seen.met_if(word && goes.iter().any(accent), Rule::WordBehindAccent);
-        self.seen.met_if(stays.last().is_some_and(accent), Rule::WordStopsAtAccent);
+        self.seen.met_if(word && goes.iter().any(high), Rule::HighBehindWord);
+        self.seen.met_if(stays.last().is_some_and(high), Rule::WordStopsAtHigh);
     }
 
     /// A read starts with this text.

@@ -87,16 +87,16 @@ impl Line {
     fn take_key(&mut self, key: Key, out: &mut Answer) {
         self.idle = 0;
         let Some(read) = &self.read else { return };
-        let spared = read.raise && is_small_accent(key.code);
+        let accent = read.raise && is_small_accent(key.code);
         if !self.partial.is_empty() {
             self.seen.met(Rule::StepPartial);
             self.seen.met_if(key.quoted, Rule::StepQuotedInToken);
-            self.seen.met_if(spared, Rule::AccentInToken);
+            self.seen.met_if(accent, Rule::AccentInToken);
             return self.add_to_token(key.code, out);
         }
         if key.quoted {
             self.seen.met(Rule::StepQuoted);
-            self.seen.met_if(spared, Rule::AccentQuoted);
+            self.seen.met_if(accent, Rule::AccentQuoted);
             return self.data(key.code, true, out);
         }
         if key.code == ESC || key.code == CSI {
@@ -107,7 +107,7 @@ impl Line {
         }
         let code = if read.raise { raised(key.code) } else { key.code };
         let ends = read.ends_at(code);
-        self.note_raising(key.code, code);
+        self.note_raising(key.code, code, ends);
         if ends {
             self.terminator(code, out);
         } else if self.edits(code) {
@@ -176,9 +176,7 @@ impl Line {
                     DELETE_WORD_KEY => Rule::WordSome,
                     _ => Rule::LineSome,
                 });
-                if code == DELETE_WORD_KEY {
-                    self.note_word_deleted(end);
-                }
+                self.note_deleted(code, end);
                 self.delete_to(end, true, out);
             }
         }

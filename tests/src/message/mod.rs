@@ -11,12 +11,15 @@ pub const LONGEST: usize = 2_048;
 /// Type, FLAGS and the two values of a Write stand before its DATA.
 pub const WRITE_HEADER: usize = 5;
 pub const LONGEST_DATA: usize = LONGEST - WRITE_HEADER;
+/// So much of a Read Data stands before its DATA.
+pub const READ_DATA_HEADER: usize = 8;
 /// The characters of the input buffer.
 pub const BUFFER: u16 = 1_024;
 
 /// Types that are asked for by name.
 pub const INITIATE: u8 = 1;
 pub const START_READ: u8 = 2;
+pub const READ_DATA: u8 = 3;
 pub const UNREAD: u8 = 5;
 pub const CHARACTERISTICS: u8 = 11;
 

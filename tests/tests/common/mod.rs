@@ -10,7 +10,7 @@ use second::settings::Form;
 use std::io::Write;
 
 pub use second::line::{MESSAGE_AREA, TERMINAL_AREA};
-pub use second::message::{BUFFER, LONGEST, LONGEST_DATA, WRITE_HEADER};
+pub use second::message::{BUFFER, LONGEST, LONGEST_DATA, READ_DATA_HEADER, WRITE_HEADER};
 
 /// The input buffer, as a count of characters.
 pub const WHOLE: usize = BUFFER as usize;
@@ -287,6 +287,12 @@ pub fn pair(terminal: &str, messages: &str) -> (String, String) {
 
 pub fn done(terminal: &str, messages: &str) -> (u8, String, String) {
     (0, terminal.to_string(), messages.to_string())
+}
+
+/// The Read Data of a read that showed nothing: its completion code, and these bytes,
+/// which ended it.
+pub fn ended_by(completion: &str, codes: &[u8]) -> String {
+    format!("03 {completion} 00 00 00 00 00 00 {}", hex(codes))
 }
 
 /// The answers of both programs to a script.

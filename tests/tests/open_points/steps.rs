@@ -11,30 +11,26 @@ fn token(codes: &[u8]) -> String {
     messages
 }
 
-fn whole(code: &str, codes: &[u8]) -> String {
-    format!("03 {code} 00 00 00 00 00 00 {}", hex(codes))
-}
-
 #[test]
 fn point_27_quoted_keys() {
     let mut bench = Bench::initiated();
     start(ZZ2 | EE2, b"", b"").on(&mut bench);
-    assert_eq!(bench.typed(&[27, 22, 65]), pair("", &whole("01", &[27, 65])));
+    assert_eq!(bench.typed(&[27, 22, 65]), pair("", &ended_by("01", &[27, 65])));
     start(ZZ2 | EE2 | II2, b"", b"").on(&mut bench);
     assert_eq!(bench.typed(&[22, b'a', 22, 127, 22, 27, 22, 13]).0, "61 5E 3F 5E 5B 5E 4D");
 }
 
 #[test]
 fn point_28_shapes_of_tokens() {
-    assert_eq!(token(&[155, 91]), whole("01", &[155, 91]));
-    assert_eq!(token(&[27, 32, 91]), whole("01", &[27, 32, 91]));
-    assert_eq!(token(&[27, 27]), whole("02", &[27, 27]));
-    assert_eq!(token(&[155, 32, 48]), whole("02", &[155, 32, 48]));
+    assert_eq!(token(&[155, 91]), ended_by("01", &[155, 91]));
+    assert_eq!(token(&[27, 32, 91]), ended_by("01", &[27, 32, 91]));
+    assert_eq!(token(&[27, 27]), ended_by("02", &[27, 27]));
+    assert_eq!(token(&[155, 32, 48]), ended_by("02", &[155, 32, 48]));
     let mut sixteen = [b'1'; 16];
     sixteen[..2].copy_from_slice(&[27, 91]);
-    assert_eq!(token(&sixteen), whole("02", &sixteen));
+    assert_eq!(token(&sixteen), ended_by("02", &sixteen));
     sixteen[15] = b'~';
-    assert_eq!(token(&sixteen), whole("01", &sixteen));
+    assert_eq!(token(&sixteen), ended_by("01", &sixteen));
 }
 
 #[test]
@@ -43,25 +39,25 @@ fn point_28_59_63_and_79_straight_after_27() {
         assert_eq!(token(&open), "");
     }
     for valid in [[27, 79, 80], [27, 63, 65], [27, 59, 59], [27, 63, 79], [27, 59, 48]] {
-        assert_eq!(token(&valid), whole("01", &valid));
+        assert_eq!(token(&valid), ended_by("01", &valid));
     }
     for valid in [[27, 79, 91], [27, 59, 91], [27, 79, 64], [27, 63, 126]] {
-        assert_eq!(token(&valid), whole("01", &valid));
+        assert_eq!(token(&valid), ended_by("01", &valid));
     }
     for invalid in [[27, 79, 48], [27, 79, 63], [27, 79, 127], [27, 59, 127], [27, 63, 31]] {
-        assert_eq!(token(&invalid), whole("02", &invalid));
+        assert_eq!(token(&invalid), ended_by("02", &invalid));
     }
-    assert_eq!(token(&[27, 59, 32, 47, 48]), whole("01", &[27, 59, 32, 47, 48]));
-    assert_eq!(token(&[27, 79, 32, 47, 48]), whole("02", &[27, 79, 32, 47, 48]));
+    assert_eq!(token(&[27, 59, 32, 47, 48]), ended_by("01", &[27, 59, 32, 47, 48]));
+    assert_eq!(token(&[27, 79, 32, 47, 48]), ended_by("02", &[27, 79, 32, 47, 48]));
 }
 
 #[test]
 fn point_28_59_63_and_79_elsewhere() {
-    assert_eq!(token(&[27, 32, 79]), whole("01", &[27, 32, 79]));
-    assert_eq!(token(&[27, 32, 59]), whole("01", &[27, 32, 59]));
-    assert_eq!(token(&[155, 79]), whole("01", &[155, 79]));
-    assert_eq!(token(&[155, 59, 63, 79]), whole("01", &[155, 59, 63, 79]));
-    assert_eq!(token(&[27, 91, 79]), whole("01", &[27, 91, 79]));
+    assert_eq!(token(&[27, 32, 79]), ended_by("01", &[27, 32, 79]));
+    assert_eq!(token(&[27, 32, 59]), ended_by("01", &[27, 32, 59]));
+    assert_eq!(token(&[155, 79]), ended_by("01", &[155, 79]));
+    assert_eq!(token(&[155, 59, 63, 79]), ended_by("01", &[155, 59, 63, 79]));
+    assert_eq!(token(&[27, 91, 79]), ended_by("01", &[27, 91, 79]));
 }
 
 #[test]
@@ -69,9 +65,9 @@ fn point_28_the_sixteenth_byte_of_each_form() {
     for introducer in [&[27][..], &[27, 59], &[27, 63], &[27, 79], &[27, 91], &[155]] {
         let mut sixteen = [32; 16];
         sixteen[..introducer.len()].copy_from_slice(introducer);
-        assert_eq!(token(&sixteen), whole("02", &sixteen));
+        assert_eq!(token(&sixteen), ended_by("02", &sixteen));
         sixteen[15] = 64;
-        assert_eq!(token(&sixteen), whole("01", &sixteen));
+        assert_eq!(token(&sixteen), ended_by("01", &sixteen));
     }
 }
 
@@ -85,7 +81,7 @@ fn point_29_a_token_longer_than_the_buffer() {
         assert_eq!(bench.step(), done("", "03 18 00 00 00 00 00 00"));
     }
     start(ZZ2 | EE1, b"", b"").max(3).on(&mut bench);
-    assert_eq!(bench.step(), done("", &whole("02", &[27, 91, 7])));
+    assert_eq!(bench.step(), done("", &ended_by("02", &[27, 91, 7])));
 }
 
 #[test]
@@ -105,7 +101,7 @@ fn point_31_what_fills_the_buffer_keeps_its_code() {
     start(ZZ2, b"", b"").max(1).on(&mut bench);
     assert_eq!(bench.typed(&[13]), pair("", "03 00 00 00 00 00 00 00 0D"));
     start(ZZ2 | EE2, b"", b"").max(2).on(&mut bench);
-    assert_eq!(bench.typed(&[27, 65]), pair("", &whole("01", &[27, 65])));
+    assert_eq!(bench.typed(&[27, 65]), pair("", &ended_by("01", &[27, 65])));
     start(ZZ2 | UU2 | T, b"", b"").max(1).on(&mut bench);
     assert_eq!(bench.typed(&[127]), pair("", "03 07 00 00 00 00 00 00 7F"));
 }

@@ -35,7 +35,7 @@ fn looks(read: &Start, codes: &[u8]) -> Vec<Look> {
 
 /// A passcode with editing between its characters, some of them typed again.
 fn edited([a, b, c, d, e]: [u8; 5]) -> Vec<u8> {
-    let front = [a, b, DELETE_KEY, c, b, a, DELETE_WORD_KEY, d, e, DELETE_WORD_KEY];
+    let front = [a, b, DELETE_KEY, c, b, a, DELETE_WORD_KEY, d, e];
     [&front[..], &[DELETE_KEY, b, c, d, REDISPLAY_KEY, QUOTE_KEY, e, CR]].concat()
 }
 
@@ -59,7 +59,7 @@ fn hidden_accents_look_the_same() {
 }
 
 #[test]
-fn so_do_those_that_wait_for_their_read() {
+fn hidden_accents_that_wait_for_their_read_look_the_same() {
     look_the_same(PASSCODES.map(|code| {
         let mut bench = Bench::initiated();
         let keys = edited(code);
@@ -71,23 +71,23 @@ fn so_do_those_that_wait_for_their_read() {
 }
 
 #[test]
-fn a_changed_character_is_33_to_126_or_161_to_254() {
-    let looks = |code: u8| {
+fn marks_33_to_126_and_161_to_254_of_one_class_look_the_same() {
+    let with = |code: u8| {
         looks(&hiding(&[CR]), &[b'a', code, b'a', DELETE_WORD_KEY, code, REDISPLAY_KEY, CR])
     };
-    let (word, other) = (looks(b'A'), looks(b'!'));
+    let (word, other) = (with(b'A'), with(b'!'));
     assert_ne!(word, other);
     for code in (33..=126u8).chain(161..=254) {
         let of_class = if code.is_ascii_alphanumeric() { &word } else { &other };
-        assert_eq!(looks(code), *of_class, "{code}");
+        assert_eq!(with(code), *of_class, "{code}");
     }
 }
 
 #[test]
 fn a_raised_form_in_the_set_shows() {
-    let looks = |set: u8, code: u8| looks(&hiding(&[set]), &[code, b'1']);
-    assert_ne!(looks(CAPITAL_E, SMALL_E), looks(CAPITAL_E, SMALL_E + 1));
+    let with = |set: u8, code: u8| looks(&hiding(&[set]), &[code, b'1']);
+    assert_ne!(with(CAPITAL_E, SMALL_E), with(CAPITAL_E, SMALL_E + 1));
     // The division sign has no other form than its own.
-    let sign = looks(MULTIPLICATION_SIGN, DIVISION_SIGN);
-    assert_eq!(sign, looks(MULTIPLICATION_SIGN, SMALL_E));
+    let sign = with(MULTIPLICATION_SIGN, DIVISION_SIGN);
+    assert_eq!(sign, with(MULTIPLICATION_SIGN, SMALL_E));
 }

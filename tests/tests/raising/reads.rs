@@ -26,13 +26,16 @@ fn raising_is_fixed_by_ii_and_the_characteristic() {
 
 #[test]
 fn later_characteristics_act_from_the_next_read() {
-    let mut bench = Bench::initiated();
-    for (before, later, shown) in [(RAISE_OFF, RAISE_ON, "E9"), (RAISE_ON, RAISE_OFF, "C9")] {
+    let turns = [(RAISE_OFF, RAISE_ON, "E9", "C9"), (RAISE_ON, RAISE_OFF, "C9", "E9")];
+    for (before, later, this_read, next_read) in turns {
+        let mut bench = Bench::initiated();
         assert_eq!(bench.number(before), 0);
         start(ZZ1, b"", b"").on(&mut bench);
         assert_eq!(bench.number(later), 0);
-        assert_eq!(bench.typed(&[SMALL_E]).0, shown);
+        assert_eq!(bench.typed(&[SMALL_E]).0, this_read);
         assert_eq!(bench.number(UNREAD), 0);
+        start(ZZ1, b"", b"").on(&mut bench);
+        assert_eq!(bench.typed(&[SMALL_E]).0, next_read);
     }
 }
 
@@ -58,12 +61,10 @@ fn hello(code: u8) -> String {
 
 #[test]
 fn out_of_band_is_tested_on_the_code_that_was_typed() {
-    let mut bench = raising().pending();
-    assert_eq!(bench.number(&hello(CAPITAL_E)), 0);
-    assert_eq!(bench.typed(&[SMALL_E]), pair("C9", ""));
-    assert_eq!(bench.typed(&[CAPITAL_E]), pair("", "04 00 C9"));
-    let mut bench = raising().pending();
-    assert_eq!(bench.number(&hello(SMALL_E)), 0);
-    assert_eq!(bench.typed(&[SMALL_E]), pair("", "04 00 E9"));
-    assert_eq!(bench.typed(&[CAPITAL_E]), pair("C9", ""));
+    for (band, other) in [(CAPITAL_E, SMALL_E), (SMALL_E, CAPITAL_E)] {
+        let mut bench = raising().pending();
+        assert_eq!(bench.number(&hello(band)), 0);
+        assert_eq!(bench.typed(&[other]), pair("C9", ""));
+        assert_eq!(bench.typed(&[band]), pair("", &format!("04 00 {band:02X}")));
+    }
 }

@@ -5,7 +5,7 @@ use super::*;
 #[test]
 fn the_echo_is_that_of_the_raised_code() {
     let mut bench = raising().pending();
-    assert_eq!(bench.typed(&small_accents()).0, hex(&less_32(&small_accents())));
+    assert_eq!(bench.typed(&small_accents()).0, hex(&each_less_32(&small_accents())));
     // 255 has none.
     assert_eq!(bench.typed(&STAYING).0, "DF F7");
 }
@@ -36,15 +36,21 @@ fn a_raised_accent_is_rubbed_out_as_one_column() {
 
 #[test]
 fn raised_accents_are_no_word_characters() {
-    let deletions: [(&[u8], &[u8]); 5] = [
+    let deletions: [(&[u8], &[u8]); 4] = [
         (b"\xE9ab", b"\xC9"),
         (b"ab\xFCcd", b"AB\xDC"),
         (b"ab.\xE9", b""),
         (b"a b\xE9\xFC", b"A "),
-        (b"ab\xDF\xF7\xFF", b""),
     ];
     for (typed, left) in deletions {
         let codes = [typed, &[DELETE_WORD_KEY]].concat();
         assert_eq!(raising().taken(&codes), left, "{typed:?}");
+    }
+}
+
+#[test]
+fn codes_161_to_254_are_no_word_characters() {
+    for code in 161..=254 {
+        assert_eq!(plain().taken(&[b'a', code, b'b', DELETE_WORD_KEY]), [b'a', code]);
     }
 }

@@ -3,17 +3,18 @@
 use super::*;
 
 /// What completes a read that shows nothing, by this terminator alone.
-fn ended_by(code: u8) -> (String, String) {
-    pair("", &format!("03 00 00 00 00 00 00 00 {code:02X}"))
+fn caught(code: u8) -> (String, String) {
+    pair("", &ended_by("00", &[code]))
 }
 
 #[test]
 fn a_set_that_holds_192_to_222_catches_small_accents() {
+    let capitals: Vec<u8> = (192..=222).collect();
     for small in small_accents() {
-        let capital = small - 32;
-        for typed in [small, capital] {
-            let mut bench = raising().set(&[capital]).pending();
-            assert_eq!(bench.typed(&[typed]), ended_by(capital));
+        let capital = less_32(small);
+        for (set, typed) in [(&capitals[..], small), (&[capital], small), (&[capital], capital)] {
+            let mut bench = raising().set(set).pending();
+            assert_eq!(bench.typed(&[typed]), caught(capital));
         }
     }
 }
@@ -29,16 +30,16 @@ fn code_215_is_caught_as_itself_alone() {
 #[test]
 fn a_set_that_holds_small_accents_does_not_catch_them() {
     let read = raising().set(&small_accents());
-    assert_eq!(read.taken(&small_accents()), less_32(&small_accents()));
+    assert_eq!(read.taken(&small_accents()), each_less_32(&small_accents()));
 }
 
 #[test]
-fn without_raising_it_does() {
+fn without_raising_a_set_catches_the_small_accents_that_it_holds() {
     for small in small_accents() {
         let mut bench = plain().set(&[small]).pending();
-        assert_eq!(bench.typed(&[small]), ended_by(small));
+        assert_eq!(bench.typed(&[small]), caught(small));
         // And their capitals do not.
-        assert_eq!(plain().set(&[small - 32]).taken(&[small]), [small]);
+        assert_eq!(plain().set(&[less_32(small)]).taken(&[small]), [small]);
     }
 }
 
@@ -47,9 +48,9 @@ fn codes_223_247_and_255_are_caught_as_themselves() {
     for code in STAYING {
         for read in [raising(), plain()] {
             let mut bench = read.set(&[code]).pending();
-            assert_eq!(bench.typed(&[code]), ended_by(code));
+            assert_eq!(bench.typed(&[code]), caught(code));
         }
-        assert_eq!(raising().set(&[code - 32]).taken(&[code]), [code]);
+        assert_eq!(raising().set(&[less_32(code)]).taken(&[code]), [code]);
     }
 }
 
@@ -59,5 +60,5 @@ fn the_last_set_given_is_tested_after_raising_too() {
     assert_eq!(bench.typed(&[SMALL_E]), pair("E9", ""));
     assert_eq!(input(&mut bench), [SMALL_E]);
     start(II2, b"", b"").on(&mut bench);
-    assert_eq!(bench.typed(&[SMALL_E]), ended_by(CAPITAL_E));
+    assert_eq!(bench.typed(&[SMALL_E]), caught(CAPITAL_E));
 }

@@ -10,7 +10,7 @@ use Rattle.rules.specs.Token.{ESC}
 use Rattle.rules.specs.Editing.{deleteWordKey, redisplayKey}
 use Rattle.rules.specs.Arrival.{quoteKey, clearKey, discardKey}
 use Rattle.rules.specs.Calls.{key, tick}
-use Rattle.rules.specs.Bench.{Case, reads, copies, asks, moves, runs, asked, says, typed, stored, stepped, told, initiated, startA, startedA, raisingRead, setOfReturn, timedRead, timedOut}
+use Rattle.rules.specs.Bench.{Case, reads, copies, asks, moves, runs, asked, says, typed, stored, stepped, told, initiated, startA, startedA, setOfCode, raisingRead, timedRead, timedOut}
 use Rattle.rules.specs.Bench.{wrote, wroteNothing, completed, discardState, flipped, attribute, outOfBand, recognising, waiting, typedUnseen, tokenTyped, loading, emptyRecord, switchRecord}
 use Rattle.rules.specs.Bench.{attributeRecord, setRecord, largestReadRecord, fullRecord, inOrder}
 
@@ -100,42 +100,6 @@ warned =
     runs
     (initiated ∷ raisingRead (replicate 8 0x00 ++ (0x02 ∷ [])) [] ∷
     typed 0x61 [] (0x09 ∷ 0x00 ∷ 0x03 ∷ 0x00 ∷ 0x00 ∷ 0x00 ∷ 0x00 ∷ 0x00 ∷ 0x00 ∷ 0x00 ∷ 0x41 ∷ []) ∷ []) ∷
-    -- and so of accents: "é", raised, is the terminator "É", and "é" in the set does not end the read
-    runs
-    (initiated ∷ raisingRead (replicate 25 0x00 ++ (0x02 ∷ [])) [] ∷
-    typed 0xE9 [] (0x09 ∷ 0x00 ∷ 0x03 ∷ 0x00 ∷ 0x00 ∷ 0x00 ∷ 0x00 ∷ 0x00 ∷ 0x00 ∷ 0x00 ∷ 0xC9 ∷ []) ∷ []) ∷
-    runs (initiated ∷ raisingRead (replicate 29 0x00 ++ (0x02 ∷ [])) [] ∷ typed 0xE9 (0xC9 ∷ []) [] ∷ []) ∷
-    -- "é" is raised, echoed raised and returned raised
-    runs
-    (initiated ∷ raisingRead setOfReturn [] ∷
-    typed 0xE9 (0xC9 ∷ []) [] ∷
-    typed 0x0D [] (0x0A ∷ 0x00 ∷ 0x03 ∷ 0x00 ∷ 0x00 ∷ 0x00 ∷ 0x00 ∷ 0x01 ∷ 0x01 ∷ 0x00 ∷ 0xC9 ∷ 0x0D ∷ []) ∷ []) ∷
-    -- 247, 255 and 223 stay; 255 echoes nothing
-    runs
-    (initiated ∷ raisingRead setOfReturn [] ∷
-    typed 247 (247 ∷ []) [] ∷ typed 255 [] [] ∷ typed 223 (223 ∷ []) [] ∷
-    typed 0x0D [] (0x0C ∷ 0x00 ∷ 0x03 ∷ 0x00 ∷ 0x00 ∷ 0x00 ∷ 0x00 ∷ 0x02 ∷ 0x03 ∷ 0x00 ∷ 247 ∷ 255 ∷ 223 ∷ 0x0D ∷ []) ∷ []) ∷
-    -- the edges of what is raised
-    runs
-    (initiated ∷ raisingRead setOfReturn [] ∷
-    typed 96 (96 ∷ []) [] ∷ typed 97 (65 ∷ []) [] ∷ typed 122 (90 ∷ []) [] ∷ typed 123 (123 ∷ []) [] ∷
-    typed 224 (192 ∷ []) [] ∷ typed 246 (214 ∷ []) [] ∷ typed 248 (216 ∷ []) [] ∷ typed 254 (222 ∷ []) [] ∷ []) ∷
-    -- not raised: a quoted "é", one of the text that the Start Read brings, bytes of a token
-    runs (initiated ∷ raisingRead setOfReturn [] ∷ typed quoteKey [] [] ∷ typed 0xE9 (0xE9 ∷ []) [] ∷ []) ∷
-    runs
-    (initiated ∷ raisingRead setOfReturn (0xE9 ∷ []) ∷
-    typed 0x0D [] (0x0A ∷ 0x00 ∷ 0x03 ∷ 0x00 ∷ 0x00 ∷ 0x00 ∷ 0x00 ∷ 0x01 ∷ 0x01 ∷ 0x00 ∷ 0xE9 ∷ 0x0D ∷ []) ∷ []) ∷
-    runs
-    (initiated ∷ recognising ∷ raisingRead setOfReturn [] ∷
-    typedUnseen (27 ∷ 91 ∷ 97 ∷ []) (0x0B ∷ 0x00 ∷ 0x03 ∷ 0x01 ∷ 0x00 ∷ 0x00 ∷ 0x00 ∷ 0x00 ∷ 0x00 ∷ 0x00 ∷ 27 ∷ 91 ∷ 97 ∷ [])) ∷
-    runs
-    (initiated ∷ recognising ∷ raisingRead setOfReturn [] ∷
-    typedUnseen (27 ∷ 0xE9 ∷ []) (0x0A ∷ 0x00 ∷ 0x03 ∷ 0x02 ∷ 0x00 ∷ 0x00 ∷ 0x00 ∷ 0x00 ∷ 0x00 ∷ 0x00 ∷ 27 ∷ 0xE9 ∷ [])) ∷
-    -- a raised accent is no word character: of "ÉA" 23 deletes "A" alone
-    runs
-    (initiated ∷ raisingRead setOfReturn [] ∷
-    typed 0xE9 (0xC9 ∷ []) [] ∷ typed 0x61 (0x41 ∷ []) [] ∷ typed deleteWordKey (0x08 ∷ 0x20 ∷ 0x08 ∷ []) [] ∷
-    typed 0x0D [] (0x0A ∷ 0x00 ∷ 0x03 ∷ 0x00 ∷ 0x00 ∷ 0x00 ∷ 0x00 ∷ 0x01 ∷ 0x01 ∷ 0x00 ∷ 0xC9 ∷ 0x0D ∷ []) ∷ []) ∷
     -- quoting after out-of-band: a quoted hello character is data
     runs
     (initiated ∷ attribute 3 0x03 ∷ startedA ∷ typed quoteKey [] [] ∷ typed 3 (0x5E ∷ 0x43 ∷ []) [] ∷ []) ∷
@@ -356,4 +320,46 @@ warned =
     -- in an area that is too small the key does not arrive: neither does it wait, nor is it returned
     runs
     (initiated ∷ startedA ∷ asked 32767 2048 (key 0x34) smallArea [] [] 0 ∷ asked 32768 2047 (key 0x34) smallArea [] [] 0 ∷ waiting 0 ∷
-    typed 0x0D (0x0D ∷ 0x0A ∷ []) (0x09 ∷ 0x00 ∷ 0x03 ∷ 0x00 ∷ 0x02 ∷ 0x00 ∷ 0x01 ∷ 0x00 ∷ 0x00 ∷ 0x00 ∷ 0x0D ∷ []) ∷ []) ∷ []
+    typed 0x0D (0x0D ∷ 0x0A ∷ []) (0x09 ∷ 0x00 ∷ 0x03 ∷ 0x00 ∷ 0x02 ∷ 0x00 ∷ 0x01 ∷ 0x00 ∷ 0x00 ∷ 0x00 ∷ 0x0D ∷ []) ∷ []) ∷
+    -- M-108, twelve rows. The set and accents: "é", raised, is the terminator "É", and "é" in the set does not end the read
+    runs
+    (initiated ∷ raisingRead (setOfCode 0xC9) [] ∷
+    typed 0xE9 [] (0x09 ∷ 0x00 ∷ 0x03 ∷ 0x00 ∷ 0x00 ∷ 0x00 ∷ 0x00 ∷ 0x00 ∷ 0x00 ∷ 0x00 ∷ 0xC9 ∷ []) ∷ []) ∷
+    runs (initiated ∷ raisingRead (setOfCode 0xE9) [] ∷ typed 0xE9 (0xC9 ∷ []) [] ∷ []) ∷
+    -- "é" is raised, echoed raised and returned raised
+    runs
+    (initiated ∷ raisingRead (setOfCode 0x0D) [] ∷
+    typed 0xE9 (0xC9 ∷ []) [] ∷
+    typed 0x0D [] (0x0A ∷ 0x00 ∷ 0x03 ∷ 0x00 ∷ 0x00 ∷ 0x00 ∷ 0x00 ∷ 0x01 ∷ 0x01 ∷ 0x00 ∷ 0xC9 ∷ 0x0D ∷ []) ∷ []) ∷
+    -- with II 0 as the characteristic says
+    runs (initiated ∷ told (0x0B ∷ 0x00 ∷ 0x04 ∷ 0x02 ∷ 0x01 ∷ []) accepted [] [] ∷ startedA ∷ typed 0xE9 (0xC9 ∷ []) [] ∷ []) ∷
+    -- 247, 255 and 223 stay; 255 echoes nothing
+    runs
+    (initiated ∷ raisingRead (setOfCode 0x0D) [] ∷
+    typed 247 (247 ∷ []) [] ∷ typed 255 [] [] ∷ typed 223 (223 ∷ []) [] ∷
+    typed 0x0D [] (0x0C ∷ 0x00 ∷ 0x03 ∷ 0x00 ∷ 0x00 ∷ 0x00 ∷ 0x00 ∷ 0x02 ∷ 0x03 ∷ 0x00 ∷ 247 ∷ 255 ∷ 223 ∷ 0x0D ∷ []) ∷ []) ∷
+    -- the edges of what is raised, but for those of the row above
+    runs
+    (initiated ∷ raisingRead (setOfCode 0x0D) [] ∷
+    typed 96 (96 ∷ []) [] ∷ typed 97 (65 ∷ []) [] ∷ typed 122 (90 ∷ []) [] ∷ typed 123 (123 ∷ []) [] ∷
+    typed 224 (192 ∷ []) [] ∷ typed 246 (214 ∷ []) [] ∷ typed 248 (216 ∷ []) [] ∷ typed 254 (222 ∷ []) [] ∷ []) ∷
+    -- not raised: a quoted "é", which the set is not asked about either, one of the text that the Start Read brings, bytes of a token
+    runs (initiated ∷ raisingRead (setOfCode 0xC9) [] ∷ typed quoteKey [] [] ∷ typed 0xE9 (0xE9 ∷ []) [] ∷ []) ∷
+    runs
+    (initiated ∷ raisingRead (setOfCode 0x0D) (0xE9 ∷ []) ∷
+    typed 0x0D [] (0x0A ∷ 0x00 ∷ 0x03 ∷ 0x00 ∷ 0x00 ∷ 0x00 ∷ 0x00 ∷ 0x01 ∷ 0x01 ∷ 0x00 ∷ 0xE9 ∷ 0x0D ∷ []) ∷ []) ∷
+    runs
+    (initiated ∷ recognising ∷ raisingRead (setOfCode 0x0D) [] ∷
+    typedUnseen (27 ∷ 91 ∷ 97 ∷ []) (0x0B ∷ 0x00 ∷ 0x03 ∷ 0x01 ∷ 0x00 ∷ 0x00 ∷ 0x00 ∷ 0x00 ∷ 0x00 ∷ 0x00 ∷ 27 ∷ 91 ∷ 97 ∷ [])) ∷
+    runs
+    (initiated ∷ recognising ∷ raisingRead (setOfCode 0x0D) [] ∷
+    typedUnseen (27 ∷ 0xE9 ∷ []) (0x0A ∷ 0x00 ∷ 0x03 ∷ 0x02 ∷ 0x00 ∷ 0x00 ∷ 0x00 ∷ 0x00 ∷ 0x00 ∷ 0x00 ∷ 27 ∷ 0xE9 ∷ [])) ∷
+    -- a read that does not raise; and no accent is a word character: of "éa" 23 deletes "a" alone
+    runs
+    (initiated ∷ startedA ∷
+    typed 0xE9 (0xE9 ∷ []) [] ∷ typed 0x61 (0x61 ∷ []) [] ∷ typed deleteWordKey (0x08 ∷ 0x20 ∷ 0x08 ∷ []) [] ∷ []) ∷
+    -- nor is a raised one: of "ÉA" it deletes "A" alone
+    runs
+    (initiated ∷ raisingRead (setOfCode 0x0D) [] ∷
+    typed 0xE9 (0xC9 ∷ []) [] ∷ typed 0x61 (0x41 ∷ []) [] ∷ typed deleteWordKey (0x08 ∷ 0x20 ∷ 0x08 ∷ []) [] ∷
+    typed 0x0D [] (0x0A ∷ 0x00 ∷ 0x03 ∷ 0x00 ∷ 0x00 ∷ 0x00 ∷ 0x00 ∷ 0x01 ∷ 0x01 ∷ 0x00 ∷ 0xC9 ∷ 0x0D ∷ []) ∷ []) ∷ []

@@ -1,10 +1,10 @@
--- Demand 3, shown by computing: pairs of lists that meet its suppositions and differ in DATA, and for each supposition pairs
+-- Demand 3, shown by computing: pairs of lists that meet its suppositions and differ in DATA, and for each supposition one pair or more
 -- that break it alone and look different.
 use Prim.Native.Nat.{ℕ}
 use mathlib.Core.Bool.{Bool, true, false, not, _&&_}
 use mathlib.Core.List.{List, [], _∷_, _++_, map}
 use lib.Dec.{eqb}
-use lib.ListN.{replicate}
+use lib.ListN.{length, replicate}
 use Rattle.rules.specs.Choice.{bit, joined, same}
 use Rattle.rules.specs.Numbers.{terminalArea, messageArea}
 use Rattle.rules.specs.Messages.Forms.{revisionSize}
@@ -13,6 +13,7 @@ use Rattle.rules.specs.State.{codes}
 use Rattle.rules.specs.Token.{ESC, BRACKET}
 use Rattle.rules.specs.Editing.{deleteWordKey}
 use Rattle.rules.specs.Calls.{Event, key, step, message, Call, messageBytes, run}
+use Rattle.rules.specs.Bench.{setOfCode}
 use Rattle.rules.specs.TwoRuns.{suppositions, inBand, Seen, seen}
 
 -- the same to everyone, as a test
@@ -43,10 +44,10 @@ full e = record { terminal = terminalArea; messages = messageArea; event = e }
 unfoldable pub conversation : List (Event ℕ) → List (Call ℕ)
 conversation es = map full (message (0x01 ∷ 0x00 ∷ 0x01 ∷ 0x00 ∷ 0x00 ∷ replicate revisionSize SP) ∷ es)
 
--- a Start Read of 80 characters with these flags, behind whose length bytes stands this termination set
+-- a Start Read of 80 characters with these flags and this termination set
 unfoldable pub reading : List ℕ → List ℕ → Event ℕ
 reading flags set =
-    message (0x02 ∷ (flags ++ (0x50 ∷ (replicate 11 0x00 ++ set))))
+    message (0x02 ∷ (flags ++ (0x50 ∷ (replicate 11 0x00 ++ (length set ∷ set)))))
 
 -- N: no echo; raising besides; ZZ 1 for a set of its own
 abbrev pub silent : List ℕ
@@ -68,18 +69,7 @@ abbrev pub ownSetRaising : List ℕ
 ownSetRaising = 0x81 ∷ 0x48 ∷ 0x00 ∷ []
 
 abbrev pub noSet : List ℕ
-noSet = 0x00 ∷ []
-
--- the set of "A" alone, and of "a" alone
-abbrev pub setOfCapitalA : List ℕ
-setOfCapitalA = 9 ∷ (replicate 8 0 ++ (0x02 ∷ []))
-
-abbrev pub setOfSmallA : List ℕ
-setOfSmallA = 13 ∷ (replicate 12 0 ++ (0x02 ∷ []))
-
--- the set of "É" alone
-abbrev pub setOfCapitalAccent : List ℕ
-setOfCapitalAccent = 26 ∷ (replicate 25 0 ++ (0x02 ∷ []))
+noSet = []
 
 -- two lists of calls, and which suppositions hold of them, in their order
 pub record Pair : Type 0 where
@@ -104,10 +94,10 @@ passcodes =
     (0x61 ∷ 0x37 ∷ DEL ∷ 0x62 ∷ 0x63 ∷ 0x0D ∷ [])
     (0x7A ∷ 0x33 ∷ DEL ∷ 0x51 ∷ 0x71 ∷ 0x0D ∷ [])
     (replicate 8 1) ∷
-    -- with accents: "üé", DEL, "éü" or "¡þ", DEL, "!÷"; none of them is a word character
+    -- with accents: "üé", DEL, "éü÷", or the first and last printing marks, "¡þ", DEL, "!~é"; none of these is a word character
     pair (reading silentRaising noSet ∷ [])
-    (0xFC ∷ 0xE9 ∷ DEL ∷ 0xE9 ∷ 0xFC ∷ 0x0D ∷ [])
-    (0xA1 ∷ 0xFE ∷ DEL ∷ 0x21 ∷ 0xF7 ∷ 0x0D ∷ [])
+    (0xFC ∷ 0xE9 ∷ DEL ∷ 0xE9 ∷ 0xFC ∷ 0xF7 ∷ 0x0D ∷ [])
+    (0xA1 ∷ 0xFE ∷ DEL ∷ 0x21 ∷ 0x7E ∷ 0xE9 ∷ 0x0D ∷ [])
     (replicate 8 1) ∷ []
 
 -- it looks the same, and the host reads another DATA
@@ -139,10 +129,10 @@ broken =
     -- an escape sequence: 27 91 65 is whole, 27 91 48 is not
     pair (reading recognising noSet ∷ []) (ESC ∷ BRACKET ∷ 65 ∷ []) (ESC ∷ BRACKET ∷ 48 ∷ []) (1 ∷ 1 ∷ 1 ∷ 1 ∷ 1 ∷ 0 ∷ 1 ∷ 1 ∷ []) ∷
     -- the termination set has "a"
-    pair (reading ownSet setOfSmallA ∷ []) (0x61 ∷ []) (0x62 ∷ []) (1 ∷ 1 ∷ 1 ∷ 1 ∷ 1 ∷ 1 ∷ 0 ∷ 1 ∷ []) ∷
+    pair (reading ownSet (setOfCode 0x61) ∷ []) (0x61 ∷ []) (0x62 ∷ []) (1 ∷ 1 ∷ 1 ∷ 1 ∷ 1 ∷ 1 ∷ 0 ∷ 1 ∷ []) ∷
     -- the termination set has "A", the raised form of "a", or "É", that of "é"
-    pair (reading ownSetRaising setOfCapitalA ∷ []) (0x61 ∷ []) (0x62 ∷ []) (1 ∷ 1 ∷ 1 ∷ 1 ∷ 1 ∷ 1 ∷ 1 ∷ 0 ∷ []) ∷
-    pair (reading ownSetRaising setOfCapitalAccent ∷ []) (0xE9 ∷ []) (0xEA ∷ []) (1 ∷ 1 ∷ 1 ∷ 1 ∷ 1 ∷ 1 ∷ 1 ∷ 0 ∷ []) ∷ []
+    pair (reading ownSetRaising (setOfCode 0x41) ∷ []) (0x61 ∷ []) (0x62 ∷ []) (1 ∷ 1 ∷ 1 ∷ 1 ∷ 1 ∷ 1 ∷ 1 ∷ 0 ∷ []) ∷
+    pair (reading ownSetRaising (setOfCode 0xC9) ∷ []) (0xE9 ∷ []) (0xEA ∷ []) (1 ∷ 1 ∷ 1 ∷ 1 ∷ 1 ∷ 1 ∷ 1 ∷ 0 ∷ []) ∷ []
 
 unfoldable pub shows : Pair → Bool
 shows p = meets p && not (looksSame (p .first) (p .second))

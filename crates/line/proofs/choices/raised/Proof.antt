@@ -1,24 +1,19 @@
-use Prim.Native.Nat.{ℕ, _≤_}
-use mathlib.Core.Path.{_≡_, sym}
-use mathlib.Core.Bool.{true, not, _&&_}
+use Prim.Native.Nat.{_≤_}
+use mathlib.Core.Path.{sym}
 use native.Mathlib.Omega.{arith}
-use lib.Dec.{leb, eqb}
-use borrow.Author.Tests.{leb-true}
 use Rattle.rules.specs.Choice.{within}
-use Rattle.rules.specs.State.{raised, firstSmall, lastSmall, firstSmallAccent, lastSmallAccent, divisionSign, smallShift}
-use Rattle.rules.proofs.Choice.{pick-true, pick-false, halves, or-case}
+use Rattle.rules.specs.State.{raised, firstSmall, lastSmall, isSmall, firstSmallAccent, lastSmallAccent, isSmallAccent, smallShift}
+use Rattle.rules.proofs.Choice.{pick-true, pick-false, halves, or-case, within-bounds}
 use Rattle.line.proofs.choices.raised.Statement.{statement}
 use Rattle.line.proofs.choices.raised.Tie as tie
 
-above : (low n high : ℕ) → smallShift ≤ low → leb low n && leb n high ≡ true → smallShift ≤ n
-above low n high h e = omega (arith, leb-true low n (halves (leb low n) (leb n high) e .0))
-
 sub-result : tie.Need-sub-result
+unfolding within
 sub-result c =
     let n = c .before .args .c in
-    or-case (smallShift ≤ n) (leb firstSmall n && leb n lastSmall) (leb firstSmallAccent n && leb n lastSmallAccent && not (eqb n divisionSign))
-    (λ small. above firstSmall n lastSmall (omega arith) small)
-    (λ accent. above firstSmallAccent n lastSmallAccent (omega arith) (halves _ (not (eqb n divisionSign)) accent .0))
+    or-case (smallShift ≤ n) (isSmall n) (isSmallAccent n)
+    (λ small. omega (arith, within-bounds firstSmall lastSmall n small))
+    (λ accent. omega (arith, within-bounds firstSmallAccent lastSmallAccent n (halves (within firstSmallAccent lastSmallAccent n) _ accent .0)))
     (c .if1 .taken)
 
 returns : tie.Need-returns
