@@ -129,7 +129,7 @@ setOfCode code = replicate (code / byteBits) 0x00 ++ (2 ^ (code % byteBits) ∷ 
 -- a Start Read that raises (II 2) and echoes, with this termination set (ZZ 1) and no prompt; its text is of marks
 abbrev pub raisingRead : List ℕ → List ℕ → Exchange
 raisingRead set text =
-    told ((0x02 ∷ 0x80 ∷ 0x40 ∷ 0x00 ∷ 0x50 ∷ 0x00 ∷ length text ∷ 0x00 ∷ 0x00 ∷ 0x00 ∷ 0x00 ∷ 0x00 ∷ 0x00 ∷ 0x00 ∷ 0x00 ∷ 0x00 ∷ length set ∷ []) ++ set ++ text) accepted text []
+    told ((0x02 ∷ 0x80 ∷ 0x40 ∷ 0x00 ∷ 0x50 ∷ 0x00 ∷ length text ∷ 0x00 ∷ replicate 8 0x00) ++ (length set ∷ set) ++ text) accepted text []
 
 -- a Start Read with Q and this TIMEOUT, and the Read Data of one that is timed out with nothing typed
 abbrev pub timedRead : ℕ → Exchange
