@@ -23,8 +23,8 @@ use second::message::READ_DATA;
 use second::screen::{CR, HT};
 
 /// A small letter with its capital, and two signs, no letters, that are 32 apart too.
-const SMALL_E: u8 = 233;
-const CAPITAL_E: u8 = 201;
+const SMALL_E_ACUTE: u8 = 233;
+const CAPITAL_E_ACUTE: u8 = 201;
 const DIVISION_SIGN: u8 = 247;
 const MULTIPLICATION_SIGN: u8 = 215;
 

@@ -126,7 +126,7 @@ startedA = told startA accepted (0x3F ∷ 0x20 ∷ []) []
 abbrev pub setOfCode : ℕ → List ℕ
 setOfCode code = replicate (code / byteBits) 0x00 ++ (2 ^ (code % byteBits) ∷ [])
 
--- a Start Read that raises (II 2) and echoes, with this termination set (ZZ 1) and no prompt; its text is of marks
+-- a Start Read of 80 characters that raises (II 2) and echoes, with this termination set (ZZ 1), no prompt, and this text, of marks, whose echo is itself
 abbrev pub raisingRead : List ℕ → List ℕ → Exchange
 raisingRead set text =
     told ((0x02 ∷ 0x80 ∷ 0x40 ∷ 0x00 ∷ 0x50 ∷ 0x00 ∷ length text ∷ 0x00 ∷ replicate 8 0x00) ++ (length set ∷ set) ++ text) accepted text []

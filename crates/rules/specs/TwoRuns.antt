@@ -87,7 +87,7 @@ eachChanged test (c ∷ cs) (d ∷ ds) =
     pick (eqb (codeOf (c .event)) (codeOf (d .event))) true (test (codeOf (c .event)) (codeOf (d .event))) &&
     eachChanged test cs ds
 
--- a printing mark, 33 to 126 or 161 to 254: what takes a column, but for the space and 160, the no-break space
+-- a printing mark, 33 to 126 or 161 to 254: a mark other than the space and the no-break space (160)
 abbrev pub firstPrinting : ℕ
 firstPrinting = 33
 

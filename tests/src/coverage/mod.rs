@@ -44,10 +44,10 @@ rules! {
     LineSome, LineNothing, Redisplay, RedisplayNoEcho,
     EditOffDdd1, EditOffDdd2, EditOffDdd3, EditInSet, LowWaterFalls, LowWaterStays,
     DataEchoed, DataSilent, DataFull, QuotedFull,
-    // Small accents taken by reads that raise, and by those that do not; 23 and high marks.
+    // Small accents in reads that raise, and in plain ones; 23 and high marks.
     AccentRaisedEchoed, AccentRaisedSilent, AccentRaisedTerminator, AccentRaisedIntoSet,
     AccentRaisedOutOfSet, AccentRaisedToOutOfBand, AccentQuoted, AccentInToken,
-    AccentData, AccentTerminator, AccentAloneInSet, AccentCapitalInSet,
+    PlainAccentData, PlainAccentTerminator, PlainAccentAloneInSet, PlainAccentCapitalInSet,
     HighBehindWord, WordStopsAtHigh,
     // Tokens.
     TokenValid, TokenInvalid, TokenSixteenthInvalid, TokenSixteenthFinal, TokenFits,

@@ -4,7 +4,7 @@ use super::random::Random;
 use super::{messages, typing, Generator};
 use crate::coverage::raising::{WATCHED_HIGH, WATCHED_LOW};
 use crate::line::arrival::QUOTE_KEY;
-use crate::line::raising::SMALL_ACCENT_ROWS;
+use crate::line::raising::SMALL_ACCENT_RANGE;
 use crate::line::steps::{DELETE_KEY, DELETE_WORD_KEY};
 use crate::line::tokens::{CSI, ESC};
 use crate::screen::CR;
@@ -44,7 +44,7 @@ impl Generator {
             read.set = accent_set(random);
             for byte in &mut read.data {
                 if random.chance(PRELOADED) {
-                    *byte = accent(random);
+                    *byte = watched_code(random);
                 }
             }
         });
@@ -60,17 +60,17 @@ impl Generator {
             3 => self.random.pick(&[ESC, CSI]),
             4 => self.random.pick(&typing::OUT_OF_BAND),
             5..=7 => typing::key(&mut self.random),
-            _ => accent(&mut self.random),
+            _ => watched_code(&mut self.random),
         };
         self.key(code);
     }
 }
 
 /// A code that is watched; of small accents there are more.
-fn accent(random: &mut Random) -> u8 {
+fn watched_code(random: &mut Random) -> u8 {
     match random.below(16) {
         0 => random.pick(&WATCHED_LOW),
-        1..=4 => random.within(SMALL_ACCENT_ROWS),
+        1..=4 => random.within(SMALL_ACCENT_RANGE),
         _ => random.within(WATCHED_HIGH),
     }
 }

@@ -8,15 +8,15 @@ use crate::coverage::Rule;
 use crate::message::StartRead;
 use std::ops::RangeInclusive;
 
-/// The rows of ISO 8859-1 where small accents stand, and one sign among them. 223 and
+/// Where small accents stand in ISO 8859-1, and one sign among them. 223 and
 /// 255 are small letters too, but it has no capitals of them.
-pub const SMALL_ACCENT_ROWS: RangeInclusive<u8> = 224..=254;
+pub const SMALL_ACCENT_RANGE: RangeInclusive<u8> = 224..=254;
 const DIVISION_SIGN: u8 = 247;
 /// A small letter is so much above its capital.
 const CASE: u8 = 32;
 
 pub(super) fn is_small_accent(code: u8) -> bool {
-    SMALL_ACCENT_ROWS.contains(&code) && code != DIVISION_SIGN
+    SMALL_ACCENT_RANGE.contains(&code) && code != DIVISION_SIGN
 }
 
 /// The raised form of a code. Those that have no other keep their own.
@@ -48,14 +48,14 @@ impl Line {
             (true, true) => Rule::AccentRaisedTerminator,
             (true, false) if read.echo => Rule::AccentRaisedEchoed,
             (true, false) => Rule::AccentRaisedSilent,
-            (false, true) => Rule::AccentTerminator,
-            (false, false) => Rule::AccentData,
+            (false, true) => Rule::PlainAccentTerminator,
+            (false, false) => Rule::PlainAccentData,
         });
         match (read.ends_at(typed), read.ends_at(raised(typed)), changed) {
             (true, false, true) => self.seen.met(Rule::AccentRaisedOutOfSet),
             (false, true, true) => self.seen.met(Rule::AccentRaisedIntoSet),
-            (true, false, false) => self.seen.met(Rule::AccentAloneInSet),
-            (false, true, false) => self.seen.met(Rule::AccentCapitalInSet),
+            (true, false, false) => self.seen.met(Rule::PlainAccentAloneInSet),
+            (false, true, false) => self.seen.met(Rule::PlainAccentCapitalInSet),
             _ => {}
         }
         let out_of_band = self.attributes[usize::from(code)] & OUT_OF_BAND != 0;

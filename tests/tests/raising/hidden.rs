@@ -41,7 +41,7 @@ fn edited([a, b, c, d, e]: [u8; 5]) -> Vec<u8> {
 
 /// The first and the third are of a word, the others are not.
 const PASSCODES: [[u8; 5]; 4] = [
-    [b'4', 252, b'x', SMALL_E, 254],
+    [b'4', 252, b'x', SMALL_E_ACUTE, 254],
     [b'q', b'!', b'7', 161, DIVISION_SIGN],
     [b'Z', 220, b'a', MULTIPLICATION_SIGN, 224],
     [b'0', 223, b'0', b'~', b'@'],
@@ -55,14 +55,23 @@ fn look_the_same([first, others @ ..]: [Vec<Look>; PASSCODES.len()]) {
 
 #[test]
 fn hidden_accents_look_the_same() {
-    look_the_same(PASSCODES.map(|code| looks(&hiding(&[CR]), &edited(code))));
+    look_the_same(PASSCODES.map(|passcode| looks(&hiding(&[CR]), &edited(passcode))));
+}
+
+#[test]
+fn the_host_reads_them_raised() {
+    let mut bench = Bench::initiated();
+    hiding(&[CR]).on(&mut bench);
+    let (shown, message) = bench.typed(&[252, SMALL_E_ACUTE, CR]);
+    assert_eq!(shown, "");
+    assert_eq!(bytes(&message)[READ_DATA_HEADER..], [220, CAPITAL_E_ACUTE, CR]);
 }
 
 #[test]
 fn hidden_accents_that_wait_for_their_read_look_the_same() {
-    look_the_same(PASSCODES.map(|code| {
+    look_the_same(PASSCODES.map(|passcode| {
         let mut bench = Bench::initiated();
-        let keys = edited(code);
+        let keys = edited(passcode);
         let mut looks: Vec<Look> = keys.iter().map(|code| look(bench.key(*code))).collect();
         looks.push(look(bench.host_bytes(&hiding(&[CR]).bytes())));
         looks.extend(keys.iter().map(|_| look(bench.step())));
@@ -86,8 +95,8 @@ fn marks_33_to_126_and_161_to_254_of_one_class_look_the_same() {
 #[test]
 fn a_raised_form_in_the_set_shows() {
     let with = |set: u8, code: u8| looks(&hiding(&[set]), &[code, b'1']);
-    assert_ne!(with(CAPITAL_E, SMALL_E), with(CAPITAL_E, SMALL_E + 1));
+    assert_ne!(with(CAPITAL_E_ACUTE, SMALL_E_ACUTE), with(CAPITAL_E_ACUTE, SMALL_E_ACUTE + 1));
     // The division sign has no other form than its own.
     let sign = with(MULTIPLICATION_SIGN, DIVISION_SIGN);
-    assert_eq!(sign, with(MULTIPLICATION_SIGN, SMALL_E));
+    assert_eq!(sign, with(MULTIPLICATION_SIGN, SMALL_E_ACUTE));
 }

@@ -20,7 +20,7 @@ fn raising_is_fixed_by_ii_and_the_characteristic() {
         let mut bench = Bench::initiated();
         assert_eq!(bench.number(characteristics), 0);
         start(ZZ1 | flags, b"", b"").on(&mut bench);
-        assert_eq!(bench.typed(&[SMALL_E]).0, shown);
+        assert_eq!(bench.typed(&[SMALL_E_ACUTE]).0, shown);
     }
 }
 
@@ -32,10 +32,10 @@ fn later_characteristics_act_from_the_next_read() {
         assert_eq!(bench.number(before), 0);
         start(ZZ1, b"", b"").on(&mut bench);
         assert_eq!(bench.number(later), 0);
-        assert_eq!(bench.typed(&[SMALL_E]).0, this_read);
+        assert_eq!(bench.typed(&[SMALL_E_ACUTE]).0, this_read);
         assert_eq!(bench.number(UNREAD), 0);
         start(ZZ1, b"", b"").on(&mut bench);
-        assert_eq!(bench.typed(&[SMALL_E]).0, next_read);
+        assert_eq!(bench.typed(&[SMALL_E_ACUTE]).0, next_read);
     }
 }
 
@@ -43,9 +43,9 @@ fn later_characteristics_act_from_the_next_read() {
 fn type_ahead_is_raised_by_the_read_that_takes_it() {
     let mut bench = Bench::initiated();
     assert_eq!(bench.number(RAISE_ON), 0);
-    bench.keys(&[SMALL_E; 3]);
+    bench.keys(&[SMALL_E_ACUTE; 3]);
     // It raises the first and is ended by it; the others are the next reads'.
-    raising().set(&[CAPITAL_E]).on(&mut bench);
+    raising().set(&[CAPITAL_E_ACUTE]).on(&mut bench);
     assert_eq!(bench.step(), done("", "03 10 00 00 00 00 00 00 C9"));
     plain().on(&mut bench);
     assert_eq!(bench.step(), done("E9", ""));
@@ -61,7 +61,7 @@ fn hello(code: u8) -> String {
 
 #[test]
 fn out_of_band_is_tested_on_the_code_that_was_typed() {
-    for (band, other) in [(CAPITAL_E, SMALL_E), (SMALL_E, CAPITAL_E)] {
+    for (band, other) in [(CAPITAL_E_ACUTE, SMALL_E_ACUTE), (SMALL_E_ACUTE, CAPITAL_E_ACUTE)] {
         let mut bench = raising().pending();
         assert_eq!(bench.number(&hello(band)), 0);
         assert_eq!(bench.typed(&[other]), pair("C9", ""));

@@ -12,8 +12,8 @@ fn the_echo_is_that_of_the_raised_code() {
 
 #[test]
 fn a_terminator_echoes_raised() {
-    let mut bench = raising().set(&[CAPITAL_E]).with(T).pending();
-    assert_eq!(bench.typed(&[SMALL_E]), pair("C9", "03 00 00 00 00 01 00 00 C9"));
+    let mut bench = raising().set(&[CAPITAL_E_ACUTE]).with(T).pending();
+    assert_eq!(bench.typed(&[SMALL_E_ACUTE]), pair("C9", "03 00 00 00 00 01 00 00 C9"));
 }
 
 #[test]
@@ -26,7 +26,7 @@ fn a_redisplay_shows_raised_accents() {
 #[test]
 fn a_raised_accent_is_rubbed_out_as_one_column() {
     let mut bench = raising().pending();
-    bench.typed(&[SMALL_E, SMALL_E, HT, SMALL_E]);
+    bench.typed(&[SMALL_E_ACUTE, SMALL_E_ACUTE, HT, SMALL_E_ACUTE]);
     // The tab goes from column 2 to column 8.
     for marks in [1, 6, 1, 1] {
         assert_eq!(bench.typed(&[DELETE_KEY]).0, rubbed(marks));

@@ -2,7 +2,7 @@
 
 use super::*;
 
-/// What completes a read that shows nothing, by this terminator alone.
+/// Nothing shown, and the Read Data of a read that this code ended.
 fn caught(code: u8) -> (String, String) {
     pair("", &ended_by("00", &[code]))
 }
@@ -21,6 +21,7 @@ fn a_set_that_holds_192_to_222_catches_small_accents() {
 
 #[test]
 fn code_215_is_caught_as_itself_alone() {
+    // Without echo the column stays 0.
     let mut bench = raising().set(&[MULTIPLICATION_SIGN]).with(N).pending();
     assert_eq!(bench.typed(&[DIVISION_SIGN]), pair("", ""));
     let ended = bench.typed(&[MULTIPLICATION_SIGN]);
@@ -38,7 +39,7 @@ fn without_raising_a_set_catches_the_small_accents_that_it_holds() {
     for small in small_accents() {
         let mut bench = plain().set(&[small]).pending();
         assert_eq!(bench.typed(&[small]), caught(small));
-        // And their capitals do not.
+        // A set with the capital alone does not catch it.
         assert_eq!(plain().set(&[less_32(small)]).taken(&[small]), [small]);
     }
 }
@@ -56,9 +57,9 @@ fn codes_223_247_and_255_are_caught_as_themselves() {
 
 #[test]
 fn the_last_set_given_is_tested_after_raising_too() {
-    let mut bench = plain().set(&[CAPITAL_E]).pending();
-    assert_eq!(bench.typed(&[SMALL_E]), pair("E9", ""));
-    assert_eq!(input(&mut bench), [SMALL_E]);
+    let mut bench = plain().set(&[CAPITAL_E_ACUTE]).pending();
+    assert_eq!(bench.typed(&[SMALL_E_ACUTE]), pair("E9", ""));
+    assert_eq!(input(&mut bench), [SMALL_E_ACUTE]);
     start(II2, b"", b"").on(&mut bench);
-    assert_eq!(bench.typed(&[SMALL_E]), caught(CAPITAL_E));
+    assert_eq!(bench.typed(&[SMALL_E_ACUTE]), caught(CAPITAL_E_ACUTE));
 }

@@ -321,7 +321,7 @@ warned =
     runs
     (initiated ∷ startedA ∷ asked 32767 2048 (key 0x34) smallArea [] [] 0 ∷ asked 32768 2047 (key 0x34) smallArea [] [] 0 ∷ waiting 0 ∷
     typed 0x0D (0x0D ∷ 0x0A ∷ []) (0x09 ∷ 0x00 ∷ 0x03 ∷ 0x00 ∷ 0x02 ∷ 0x00 ∷ 0x01 ∷ 0x00 ∷ 0x00 ∷ 0x00 ∷ 0x0D ∷ []) ∷ []) ∷
-    -- M-108, twelve rows. The set and accents: "é", raised, is the terminator "É", and "é" in the set does not end the read
+    -- M-108. The set and accents: "é", raised, is the terminator "É", and "é" in the set does not end the read
     runs
     (initiated ∷ raisingRead (setOfCode 0xC9) [] ∷
     typed 0xE9 [] (0x09 ∷ 0x00 ∷ 0x03 ∷ 0x00 ∷ 0x00 ∷ 0x00 ∷ 0x00 ∷ 0x00 ∷ 0x00 ∷ 0x00 ∷ 0xC9 ∷ []) ∷ []) ∷
@@ -331,7 +331,7 @@ warned =
     (initiated ∷ raisingRead (setOfCode 0x0D) [] ∷
     typed 0xE9 (0xC9 ∷ []) [] ∷
     typed 0x0D [] (0x0A ∷ 0x00 ∷ 0x03 ∷ 0x00 ∷ 0x00 ∷ 0x00 ∷ 0x00 ∷ 0x01 ∷ 0x01 ∷ 0x00 ∷ 0xC9 ∷ 0x0D ∷ []) ∷ []) ∷
-    -- with II 0 as the characteristic says
+    -- with II 0 the characteristic decides, and here it is on
     runs (initiated ∷ told (0x0B ∷ 0x00 ∷ 0x04 ∷ 0x02 ∷ 0x01 ∷ []) accepted [] [] ∷ startedA ∷ typed 0xE9 (0xC9 ∷ []) [] ∷ []) ∷
     -- 247, 255 and 223 stay; 255 echoes nothing
     runs
@@ -344,7 +344,7 @@ warned =
     typed 96 (96 ∷ []) [] ∷ typed 97 (65 ∷ []) [] ∷ typed 122 (90 ∷ []) [] ∷ typed 123 (123 ∷ []) [] ∷
     typed 224 (192 ∷ []) [] ∷ typed 246 (214 ∷ []) [] ∷ typed 248 (216 ∷ []) [] ∷ typed 254 (222 ∷ []) [] ∷ []) ∷
     -- not raised: a quoted "é", which the set is not asked about either, one of the text that the Start Read brings, bytes of a token
-    runs (initiated ∷ raisingRead (setOfCode 0xC9) [] ∷ typed quoteKey [] [] ∷ typed 0xE9 (0xE9 ∷ []) [] ∷ []) ∷
+    runs (initiated ∷ raisingRead (setOfCode 0xE9) [] ∷ typed quoteKey [] [] ∷ typed 0xE9 (0xE9 ∷ []) [] ∷ []) ∷
     runs
     (initiated ∷ raisingRead (setOfCode 0x0D) (0xE9 ∷ []) ∷
     typed 0x0D [] (0x0A ∷ 0x00 ∷ 0x03 ∷ 0x00 ∷ 0x00 ∷ 0x00 ∷ 0x00 ∷ 0x01 ∷ 0x01 ∷ 0x00 ∷ 0xE9 ∷ 0x0D ∷ []) ∷ []) ∷
