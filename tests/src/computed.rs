@@ -18,12 +18,11 @@ pub struct Script {
 }
 
 const HEADER: &str = "\
-use Prim.Native.Nat.{ℕ}
-use mathlib.Core.Path.{_≡_, refl}
-use mathlib.Core.List.{List, [], _∷_}
-use Rattle·rules.specs.Calls.{key, step, tick, message, load}
-use Rattle·rules.specs.Bench.{Case, runs, copies, asks, moves, failures, asked}
-use Rattle·rules.specs.Whole.{whole}
+use mathlib.Core.Path.{refl}
+use Rattle.std.specs.Prelude.{List, [], ◌∷◌, ◌≡◌}
+use Rattle.rules.specs.Calls.{key, step, tick, message, load}
+use Rattle.rules.specs.Bench.{Case, runs, copies, asks, moves, failures, asked}
+use Rattle.rules.specs.Whole.{whole}
 
 ";
 
@@ -164,16 +163,19 @@ fn copy(from: &Path, to: &Path) -> io::Result<()> {
     Ok(())
 }
 
-/// Writes the scratch repository; gives the number of calls in it.
+/// Writes the scratch repository; gives the number of calls in it. Where `rules`
+/// is proved already, what is kept of that goes along.
 fn lay_out(repository: &Path, scratch: &Path, scripts: &[Script]) -> io::Result<usize> {
-    let specs = scratch.join("crates/scripts/specs");
-    fs::create_dir_all(&specs)?;
-    fs::create_dir_all(scratch.join("crates/scripts/src"))?;
-    for part in ["src", "specs"] {
-        copy(
-            &repository.join("crates/rules").join(part),
-            &scratch.join("crates/rules").join(part),
-        )?;
+    let (rules, ours) = (repository.join("crates/rules"), scratch.join("crates/scripts"));
+    let specs = ours.join("specs");
+    for part in ["src", "specs", "proofs"] {
+        fs::create_dir_all(ours.join(part))?;
+    }
+    for part in ["src", "specs", "proofs", "out"] {
+        let from = rules.join(part);
+        if from.is_dir() {
+            copy(&from, &scratch.join("crates/rules").join(part))?;
+        }
     }
     fs::write(scratch.join("crates.txt"), "rules:\nscripts: rules\n")?;
     fs::write(scratch.join("crates/scripts/src/lib.rt"), "pub const SCRIPTS: usize = 1;\n")?;
@@ -197,7 +199,8 @@ pub fn check(repository: &Path, scripts: &[Script]) -> io::Result<(Output, usize
     let name = format!("shekuftav-computed-{}", std::process::id());
     let scratch: PathBuf = std::env::temp_dir().join(name);
     let calls = lay_out(repository, &scratch, scripts)?;
-    let output = Command::new("rt").arg("check").current_dir(&scratch).output()?;
+    let output =
+        Command::new("rt").arg("check").current_dir(scratch.join("crates/scripts")).output()?;
     fs::remove_dir_all(&scratch)?;
     Ok((output, calls))
 }

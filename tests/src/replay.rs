@@ -7,7 +7,7 @@ use std::thread;
 
 /// Where `rt` puts the program.
 pub fn program() -> PathBuf {
-    Path::new(env!("CARGO_MANIFEST_DIR")).with_file_name("target/bin/replay")
+    Path::new(env!("CARGO_MANIFEST_DIR")).with_file_name("crates/replay/out/replay")
 }
 
 /// The answers to a script. A program that ends badly says so in a last line,
@@ -18,7 +18,7 @@ pub fn run(script: &[u8]) -> Vec<u8> {
         .stdin(Stdio::piped())
         .stdout(Stdio::piped())
         .spawn()
-        .unwrap_or_else(|error| panic!("{}: {error}; `rt check` makes it", program.display()));
+        .unwrap_or_else(|error| panic!("{}: {error}; `make run` makes it", program.display()));
     let mut input = child.stdin.take().expect("a pipe");
     let output = thread::scope(|scope| {
         // If it ends before the script does, its answers are too few: no need to fail here.

@@ -1,4 +1,6 @@
 // Bytes and numbers into a lent area, from a place on; the answer is the next place. Where there is no room, nothing changes.
+#![tactic(auto)]
+
 ghost use Rattle.std.specs.Prelude.{[], ◌∷◌, ◌++◌};
 ghost use Rattle.rules.specs.Messages.Layout.{word_bytes, bytes_of};
 ghost use Rattle.areas.specs.Puts.{Puts};
@@ -6,7 +8,7 @@ ghost use Rattle.areas.specs.Puts.{Puts};
 use rules::forms;
 
 // What a function that writes to the front of an area answers: the number of a refusal, or 0 and how many bytes stand there.
-#[derive(Drop)]
+#[derive(Clone, Copy)]
 pub struct Written {
     pub number: u8,
     pub len: usize,

@@ -1,4 +1,6 @@
 // What is set of a line: characteristics and character attributes, the last termination set, and the largest read.
+#![tactic(auto)]
+
 use sets::Set;
 
 mod attributes;
@@ -6,7 +8,7 @@ mod reports;
 mod settings;
 
 // The four characteristics that are switches.
-#[derive(Drop)]
+#[derive(Clone, Copy)]
 pub struct Switches {
     pub raising: bool,
     pub echoing: bool,
@@ -15,7 +17,7 @@ pub struct Switches {
 }
 
 // What is set, by the host or by loading.
-#[derive(Drop)]
+#[derive(Clone, Copy)]
 pub struct Host {
     // Initiate was accepted
     pub initiated: bool,

@@ -1,4 +1,6 @@
 // What is done with a line besides its four calls: how a console begins, what it is loaded with, and the count that can be asked of it.
+#![tactic(auto)]
+
 ghost use Rattle.std.specs.Prelude.{◌≡◌};
 ghost use Rattle.line.specs.View.{view};
 ghost use Rattle.line.specs.Bounded.{IsFresh};

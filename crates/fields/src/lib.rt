@@ -1,4 +1,6 @@
 // Fields of a message: numbers in a slice, low byte first, spans of it, and flags as numbers. All are total: past the end of a slice stands 0, and a span stops there.
+#![tactic(auto)]
+
 ghost use Rattle.std.specs.Prelude.{◌≡◌};
 ghost use Rattle.rules.specs.Choice.{bit};
 ghost use Rattle.fields.specs.Spans.{span_of};
@@ -10,7 +12,7 @@ use rules::forms;
 const BYTE_VALUES: u16 = forms::BYTE_VALUES as u16;
 
 // A span of the lent slice: where it starts, and how long it is.
-#[derive(Drop)]
+#[derive(Clone, Copy)]
 pub struct Span {
     pub start: u16,
     pub len: u16,

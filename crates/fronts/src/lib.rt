@@ -1,4 +1,6 @@
 // A message's bytes up to its parameter list, put into an area.
+#![tactic(auto)]
+
 ghost use Rattle.message.specs.Found.{held_in};
 ghost use Rattle.areas.specs.Puts.{Puts};
 ghost use Rattle.fronts.specs.Front.{front_bytes};

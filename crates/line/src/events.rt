@@ -16,7 +16,7 @@ use fields::Span;
 use message::{InitiateFields, Message, StartReadFields, WriteFields};
 
 // The messages that a host sends; a set, text and parameters stand in the lent slice.
-#[derive(Drop)]
+#[derive(Clone, Copy)]
 pub(crate) enum HostMessage {
     Initiate(InitiateFields),
     StartRead(StartReadFields),
@@ -29,7 +29,7 @@ pub(crate) enum HostMessage {
 }
 
 // What a call brings. A key is its arrival: the keystroke makes a step behind it.
-#[derive(Drop)]
+#[derive(Clone, Copy)]
 pub(crate) enum Event {
     Key(u8),
     Tick,
@@ -38,14 +38,14 @@ pub(crate) enum Event {
 }
 
 // Who sends a message; Server also for a type that nobody sends.
-#[derive(Drop)]
+#[derive(Clone, Copy)]
 pub(crate) enum Sender {
     Host(HostMessage),
     Server,
 }
 
 // What is looked up for an event, besides the flow and the terms.
-#[derive(Drop)]
+#[derive(Clone, Copy)]
 pub struct Lookup {
     // of a key: whether Initiate was accepted, and the key's attribute
     pub(crate) initiated: bool,

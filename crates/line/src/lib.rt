@@ -1,4 +1,6 @@
 // One line of the console end: its state by value, and the four calls on it.
+#![tactic(auto)]
+
 use characteristics::Switches;
 use screen::Screen;
 use sets::Set;
@@ -27,7 +29,7 @@ mod waiting;
 mod write;
 
 // What is known of the terminal. `dropped` stands before the flags because the flow is then copied faster.
-#[derive(Drop)]
+#[derive(Clone, Copy)]
 pub struct Terminal {
     pub screen: Screen,
     pub dropped: u16,
@@ -40,7 +42,7 @@ pub struct Terminal {
 }
 
 // Typed and not yet in a read: how many keys wait, and a partial or held token. The counts are bytes, so that the flow has 40.
-#[derive(Drop)]
+#[derive(Clone, Copy)]
 pub struct Typed {
     pub keys_len: u8,
     pub token: [u8; rules::TOKEN_SIZE],
@@ -48,7 +50,7 @@ pub struct Typed {
 }
 
 // What is fixed for the whole of a read.
-#[derive(Drop)]
+#[derive(Clone, Copy)]
 pub struct Terms {
     pub underflow: u8,
     pub disables: u8,
@@ -70,7 +72,7 @@ pub struct Terms {
 }
 
 // How a read goes on. `idle`, which every key sets, stands before what is copied in one piece.
-#[derive(Drop)]
+#[derive(Clone, Copy)]
 pub struct Reading {
     pub idle: u16,
     // of what stands after its prompt
@@ -83,7 +85,7 @@ pub struct Reading {
 }
 
 // What the rules change besides the arrays. In this order it is copied fastest (docs/PERFORMANCE.md).
-#[derive(Drop)]
+#[derive(Clone, Copy)]
 pub struct Flow {
     pub reading: Reading,
     // a read is pending; if not, `reading` stands for nothing
@@ -93,7 +95,7 @@ pub struct Flow {
 }
 
 // The line between calls. What lies behind a count is left over.
-#[derive(Drop)]
+#[derive(Clone, Copy)]
 pub struct Line {
     pub attributes: [u8; rules::CODE_COUNT],
     // keys that wait, each its code, and QUOTED more if it is quoted
@@ -113,7 +115,7 @@ pub struct Line {
 }
 
 // A call's answer: the next line, the number, and the bytes written to the front of each area.
-#[derive(Drop)]
+#[derive(Clone, Copy)]
 pub struct Answer {
     pub line: Line,
     pub number: u8,
@@ -122,7 +124,7 @@ pub struct Answer {
 }
 
 // A call on its way: what the rules change, and the next place in each area.
-#[derive(Drop)]
+#[derive(Clone, Copy)]
 struct Work {
     flow: Flow,
     at: usize,

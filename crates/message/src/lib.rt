@@ -1,4 +1,6 @@
 // The fourteen messages of the Network Command Terminal protocol: their fields, and decoding them.
+#![tactic(auto)]
+
 ghost use Rattle.std.specs.Prelude.{◌≡◌};
 ghost use Rattle.rules.specs.Messages.Codec as codec;
 ghost use Rattle.message.specs.Found.{Finds, as_held, found_number};
@@ -19,7 +21,7 @@ pub const LAST_COMPLETION_CODE: u8 = 13;
 
 pub const LAST_FIX: u8 = 2;
 
-#[derive(Drop)]
+#[derive(Clone, Copy)]
 pub struct InitiateFields {
     pub version: u8,
     pub eco: u8,
@@ -29,7 +31,7 @@ pub struct InitiateFields {
     pub parameters: Span,
 }
 
-#[derive(Drop)]
+#[derive(Clone, Copy)]
 pub struct StartReadFields {
     // FLAGS from bit 0: UU, C, F, V, K
     pub underflow: u8,
@@ -56,7 +58,7 @@ pub struct StartReadFields {
     pub text: Span,
 }
 
-#[derive(Drop)]
+#[derive(Clone, Copy)]
 pub struct ReadDataFields {
     pub code: u8,
     pub more: u8,
@@ -67,7 +69,7 @@ pub struct ReadDataFields {
     pub text: Span,
 }
 
-#[derive(Drop)]
+#[derive(Clone, Copy)]
 pub struct WriteFields {
     // FLAGS from bit 0: UU, L, D, B, E
     pub lock: u8,
@@ -85,7 +87,7 @@ pub struct WriteFields {
     pub text: Span,
 }
 
-#[derive(Drop)]
+#[derive(Clone, Copy)]
 pub enum Message {
     Initiate(InitiateFields),
     StartRead(StartReadFields),
@@ -128,7 +130,7 @@ pub enum Message {
 }
 
 // What decoding finds: a message, or the number of a refusal.
-#[derive(Drop)]
+#[derive(Clone, Copy)]
 pub enum Found {
     Message(Message),
     Refused(u8),

@@ -1,4 +1,6 @@
 // Parameter lists: a walk of one, and a parameter into an area. `kind` is the type of the message that a list stands in: Initiate, Read Characteristics or Characteristics.
+#![tactic(auto)]
+
 ghost use Rattle.std.specs.Prelude.{◌≡◌, ◌%◌, ◌<◌, ◌≤◌, length, drop};
 ghost use Rattle.rules.specs.Messages.Layout.{byte_at};
 ghost use Rattle.rules.specs.Messages.Parameters.{parameter_head, parameter_size, sound_parameter};
@@ -35,7 +37,7 @@ const LAST_COUNT_STATE: u16 = 3;
 
 // One parameter of a list: its SELECTOR, the bytes behind it (CHARACTER, MASK and ATTRIBUTES, or a VALUE; 0 where there are
 // fewer), unused bits set to 0, and where the next one begins.
-#[derive(Drop)]
+#[derive(Clone, Copy)]
 pub struct Parameter {
     pub selector: u16,
     pub first: u8,

@@ -24,7 +24,7 @@ const NO_VALUE: u8 = 0;
 
 // How many bytes a parameter has behind its first two, and a limit for each of the first three of them: a byte is taken modulo its
 // limit. A byte that the parameter does not have gets NO_BITS, by which it is 0.
-#[derive(Drop)]
+#[derive(Clone, Copy)]
 pub(crate) struct Limits(pub u8, pub u16, pub u16, pub u16);
 
 pub(crate) fn defined_selector(n: u16) -> bool

@@ -1,4 +1,6 @@
 // Reads a script of calls from standard input and prints what each answered.
+#![tactic(auto)]
+
 ghost use Rattle.std.specs.Prelude.{◌≤◌, ◌≡◌, true};
 ghost use Rattle.rules.specs.Messages.Codec.{all_bytes};
 ghost use Rattle.line.specs.Bounded.{Bounded};
@@ -11,6 +13,7 @@ use crate::run::Run;
 use crate::text::Call;
 use fields::Span;
 use line::{Answer, Line};
+use std::rt::HostRuntime;
 
 mod answers;
 mod hex;
@@ -27,6 +30,9 @@ const KEPT: usize = rules::MESSAGE_SIZE + 1;
 
 // The longest area.
 const AREA: usize = 65_535;
+
+// What is read in one piece, and what waits to be printed.
+const BLOCK: usize = 65_536;
 
 // A length that a line of the script can ask for.
 fn size(length: u16) -> usize
@@ -66,7 +72,13 @@ fn dropped(line: Line) -> u16
 }
 
 // From a fresh line to the line at the script's end. It stays a local of the loop: to hand it on is to copy it.
-fn replay(input: &mut [u8], terminal: &mut [u8], messages: &mut [u8], buffer: &mut [u8]) -> Line
+fn replay(
+    rt: HostRuntime,
+    input: &mut [u8],
+    terminal: &mut [u8],
+    messages: &mut [u8],
+    buffer: &mut [u8],
+) -> Line
     requires { Areas terminal.old messages.old }
     ensures { Played result }
 {
@@ -74,7 +86,7 @@ fn replay(input: &mut [u8], terminal: &mut [u8], messages: &mut [u8], buffer: &m
     let mut line = console::fresh();
     let mut run = Run::begun();
     while 0 < run.turns {
-        run = run.next(input, &mut kept, terminal, messages, buffer);
+        run = run.next(rt, input, &mut kept, terminal, messages, buffer);
         let t = &mut terminal[0..size(run.terminal)];
         let m = &mut messages[0..size(run.messages)];
         match run.call() {
@@ -111,10 +123,10 @@ fn replay(input: &mut [u8], terminal: &mut [u8], messages: &mut [u8], buffer: &m
     line
 }
 
-fn main() {
-    let mut input = io::large_buffer();
+fn main(rt: HostRuntime) {
+    let mut input = [0u8; BLOCK];
     let mut terminal = [0u8; AREA];
     let mut messages = [0u8; AREA];
-    let mut buffer = io::large_buffer();
-    replay(&mut input, &mut terminal, &mut messages, &mut buffer);
+    let mut buffer = [0u8; BLOCK];
+    replay(rt, &mut input, &mut terminal, &mut messages, &mut buffer);
 }

@@ -12,7 +12,7 @@ const MOST_DIGITS: u32 = DIGITS_A_BYTE * ROOM as u32;
 // The count of what is no record.
 const LOST: u32 = u32::MAX;
 
-#[derive(Drop)]
+#[derive(Clone, Copy)]
 pub struct Record {
     // of its digits
     count: u32,

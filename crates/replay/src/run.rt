@@ -8,6 +8,7 @@ use crate::output::flush;
 use crate::records::Record;
 use crate::script::Script;
 use crate::text::{Call, Order, Text};
+use std::rt::HostRuntime;
 
 // The lengths of a fresh line's areas.
 const TERMINAL: u16 = rules::TERMINAL_AREA as u16;
@@ -15,7 +16,7 @@ const TERMINAL: u16 = rules::TERMINAL_AREA as u16;
 const MESSAGES: u16 = rules::MESSAGE_AREA as u16;
 
 // In this order it is copied fastest (docs/PERFORMANCE.md).
-#[derive(Drop)]
+#[derive(Clone, Copy)]
 pub struct Run {
     // A proved loop has to end: its turns are counted down, from a number that no run uses up. At the script's end none is left.
     pub turns: u64,
@@ -76,20 +77,20 @@ impl Run {
     }
 
     // Once the piece is used up, what waits is written and the next piece is read.
-    fn filled(mut self, input: &mut [u8], buffer: &[u8]) -> Run
+    fn filled(mut self, rt: HostRuntime, input: &mut [u8], buffer: &[u8]) -> Run
         ensures { result.turns ≤ self.turns }
     {
         let script = self.script;
         if script.from < script.to {
             return self;
         }
-        let at = flush(self.at, buffer);
+        let at = flush(rt.stdout(), self.at, buffer);
         self.at = at;
         if script.ended | (0 < at) {
             self.turns = 0;
             return self;
         }
-        let script = script.read(input);
+        let script = script.read(rt.stdin(), rt.stderr(), input);
         self.script = script;
         self
     }
@@ -146,6 +147,7 @@ impl Run {
     // Prints, and goes one line of the script on.
     pub(crate) fn next(
         mut self,
+        rt: HostRuntime,
         input: &mut [u8],
         kept: &mut [u8],
         terminal: &[u8],
@@ -157,8 +159,8 @@ impl Run {
     {
         self.turns -= 1;
         let told = self.told;
-        self.at = told.put(self.at, kept, terminal, messages, buffer);
-        let r = self.filled(input, buffer);
+        self.at = told.put(rt.stdout(), self.at, kept, terminal, messages, buffer);
+        let r = self.filled(rt, input, buffer);
         let script = r.script;
         r.ordered(script.next(input, kept))
     }

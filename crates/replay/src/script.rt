@@ -3,9 +3,9 @@ ghost use Rattle.io.specs.Counts.{IsPrefixLen};
 
 use crate::output::front;
 use crate::text::{Order, Text};
-use libc::{STDERR_FILENO, STDIN_FILENO};
+use std::io::{Read, Stderr, Stdin, Write};
 
-#[derive(Drop)]
+#[derive(Clone, Copy)]
 pub struct Script {
     // the line that has begun
     pub text: Text,
@@ -18,14 +18,17 @@ pub struct Script {
     pub order: Order,
 }
 
-// How many bytes a read gave.
-fn count(got: isize, input: &[u8]) -> usize
-    ensures { IsPrefixLen result input.now }
+// How many bytes a read gave. One that fails gives none, and says so.
+fn count(mut stdin: Stdin, mut stderr: Stderr, input: &mut [u8]) -> usize
+    ensures { IsPrefixLen result input.new }
 {
-    if got < 0 {
-        io::write_all(STDERR_FILENO, b"replay: the script cannot be read\n");
+    match stdin.read(input) {
+        Ok(got) => got,
+        Err(_) => {
+            let _ = stderr.write_all(b"replay: the script cannot be read\n");
+            0
+        }
     }
-    io::count(got, input)
 }
 
 impl Script {
@@ -41,9 +44,9 @@ impl Script {
     }
 
     // The next piece. The last line may lack its newline: one is put behind it.
-    pub(crate) fn read(self, input: &mut [u8]) -> Script {
+    pub(crate) fn read(self, stdin: Stdin, stderr: Stderr, input: &mut [u8]) -> Script {
         let text = self.text;
-        let to = count(libc::read(STDIN_FILENO, input), input);
+        let to = count(stdin, stderr, input);
         if (to == 0) & text.is_begun() {
             if 0 < input.len() {
                 input[0] = b'\n';

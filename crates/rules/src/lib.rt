@@ -1,4 +1,6 @@
 // The numbers of page 01 and 000 for the crates above. First the sizes, as in specs/Numbers.antt.
+#![tactic(auto)]
+
 pub mod bits;
 pub mod characters;
 pub mod forms;

@@ -1,11 +1,13 @@
 // What the terminal gets: bytes into its area, and where the cursor stands then. Every function takes any input, and promises the
 // bytes and the screen of the rules.
+#![tactic(auto)]
+
 pub mod columns;
 pub mod echo;
 pub mod put;
 pub mod rub;
 
-#[derive(Drop)]
+#[derive(Clone, Copy)]
 pub struct Screen {
     pub column: u16,
     pub line: u8,
@@ -14,7 +16,7 @@ pub struct Screen {
 }
 
 // The screen after some bytes, and the place behind them.
-#[derive(Drop)]
+#[derive(Clone, Copy)]
 pub struct Shown {
     pub screen: Screen,
     pub at: usize,
@@ -22,7 +24,7 @@ pub struct Shown {
 
 // Marks and spaces to rub out, and how many columns were worked out to find them: one for each character whose width was
 // asked for.
-#[derive(Drop)]
+#[derive(Clone, Copy)]
 pub struct RubOut {
     pub marks: usize,
     pub columns: usize,

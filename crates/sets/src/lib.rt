@@ -1,4 +1,6 @@
 // Termination sets.
+#![tactic(auto)]
+
 ghost use Rattle.std.specs.Prelude.{◌≡◌, ◌≤◌, length, take};
 ghost use Rattle.rules.specs.Messages.Codec.{set_size};
 ghost use Rattle.rules.specs.StartRead as sets;
@@ -14,7 +16,7 @@ const CODES_A_BYTE: u8 = 8;
 const UNIVERSAL: u8 = 4;
 
 // Its first `len` bytes were given; codes behind them are not in it.
-#[derive(Drop)]
+#[derive(Clone, Copy)]
 pub struct Set {
     pub bytes: [u8; rules::SET_SIZE],
     pub len: u8,
@@ -37,7 +39,8 @@ impl Set {
     {
         let kept = front(given);
         let mut held = [0u8; rules::SET_SIZE];
-        let len = bytes::copy(kept, &mut held) as u8;
+        held[..kept.len()].copy_from_slice(kept);
+        let len = kept.len() as u8;
         Set { bytes: held, len }
     }
 

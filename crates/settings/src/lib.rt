@@ -1,4 +1,6 @@
 // The settings record, forms 1 and 2: whether it breaks a rule, its sections, the attributes that it lists, and moving it from form to form.
+#![tactic(auto)]
+
 ghost use Rattle.std.specs.Prelude.{◌≡◌};
 ghost use Rattle.rules.specs.Settings.{is_sound, found_section, table_in};
 

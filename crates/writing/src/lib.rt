@@ -1,4 +1,6 @@
 // Writing the fourteen messages into a lent area.
+#![tactic(auto)]
+
 mod encoding;
 mod fits;
 mod lists;

@@ -9,7 +9,7 @@ use rules::forms;
 
 // `header` is how many bytes stand in front of the list, or of the text; a set has its count among them. A span that a message
 // does not have is empty.
-#[derive(Drop)]
+#[derive(Clone, Copy)]
 pub(crate) struct Spans {
     pub kind: u8,
     pub header: u16,

@@ -1,9 +1,0 @@
-use mathlib.Core.Path.{refl}
-use Rattle.console.proofs.dropped.Statement.{statement}
-use Rattle.console.proofs.dropped.Tie as tie
-
-returns : tie.Need-returns
-returns c = refl
-
-pub dropped-spec : {M : Type 1} → statement M
-dropped-spec = tie.close (tie.spec returns)

@@ -1,0 +1,15 @@
+use mathlib.Core.List.{[]}
+use Rattle.rules.specs.Messages.Layout.{fields_in}
+use Rattle.fronts.proofs.Groups.{headed, field_first, no_more}
+use Rattle.rules.specs.Messages.Forms.{forms, form_of}
+use Rattle.message.specs.Found.{held_in}
+use Rattle.fronts.specs.Front.{front_bytes, front_tail}
+use Rattle.areas.proofs.Putting.{joins}
+use Rattle.fronts.proofs.heads.put_write_completion.Goals as goal
+
+pub returns : goal.returns
+unfolding front_bytes held_in form_of forms front_tail fields_in
+returns c =
+    let a = c.args in
+    headed 8 [] (field_first 1 1 a.lost (field_first 2 16 a.horizontal (field_first 2 16 a.vertical no_more)))
+    (joins c.put_pair-next.ensures (joins c.put_word-next.ensures c.put_word.ensures))

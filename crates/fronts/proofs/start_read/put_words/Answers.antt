@@ -1,0 +1,6 @@
+use Rattle.areas.proofs.Putting.{joins}
+use Rattle.fronts.proofs.start_read.put_words.Goals as goal
+
+pub returns : goal.returns
+returns c =
+    joins c.put_word-next.ensures (joins c.put_word-next-2.ensures (joins c.put_word-next-3.ensures (joins c.put_word-next-4.ensures (joins c.put_word-next-5.ensures c.put_word.ensures))))

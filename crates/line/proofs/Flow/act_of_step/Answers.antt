@@ -1,0 +1,85 @@
+use mathlib.Core.Path.{◌≡◌, refl, sym, ap, ◌∙◌}
+use Prim.Native.Nat.{ℕ}
+use native.Mathlib.Omega.{arith}
+use mathlib.Core.Bool.{false, not}
+use mathlib.Core.List.{List}
+use borrow.Author.Tests.{eq-eqb}
+use Rattle.rules.specs.State.{codes}
+use Rattle.rules.specs.Turns.{still, only}
+use Rattle.rules.specs.Steps.{takes_first, steps_while, steps}
+use Rattle.rules.proofs.Choice.{is_empty_nil}
+use Rattle.line.specs.View.{view, reading_of}
+use Rattle.line.specs.With.{on_flow, lent}
+use Rattle.line.specs.declared.Line.{Line}
+use Rattle.line.specs.declared.acts.Act.{Act}
+use Rattle.line.specs.Acts.{CanTakeKey, Meets}
+use Rattle.line.proofs.ActChoice.{met, meets_as, meets_pending, meets_none, meets_first, meets_second, meets_told}
+use Rattle.line.proofs.KeyArrays.{keys_empty, first_key}
+use Rattle.line.proofs.TokenBytes.{token_short}
+use Rattle.line.proofs.PendingRead.{pending_room}
+use Rattle.line.proofs.Flow.act_of_step.Goals as goal
+
+-- a step while the line is not locked
+meets_unlocked : {s : List ℕ} {l : Line} {a : Act} → l.flow.terminal.locked ≡ false →
+    Meets (λ v. steps_while codes v.pending_read v) s l a → Meets (steps codes) s l a
+unfolding steps only
+meets_unlocked e h = meets_first still refl (ap not e) (meets_as refl h)
+
+pub returns-then-known : goal.returns-then-known
+unfolding steps only
+returns-then-known c = record { rule = λ s l bounded held taken. meets_second _ refl (ap not c.if-known.true) (met tt); kind = refl }
+
+pub returns-then-not-pending : goal.returns-then-not-pending
+unfolding steps_while
+returns-then-not-pending c =
+    let self = c.args.self in
+    record { rule = λ s l bounded held taken. meets_unlocked c.if-known.false (meets_none (steps_while codes) c.if-not-pending.true (met tt)); kind = refl }
+
+pub returns-then-held : goal.returns-then-held
+unfolding steps_while
+returns-then-held c =
+    let a = c.args in
+    let pending = c.if-not-pending.false in record {
+      rule = λ s l bounded held taken.
+          meets_unlocked c.if-known.false
+          (meets_pending (steps_while codes) pending
+          (meets_first _ refl (sym held ∙ c.if-held.true) (met (pending_room (on_flow a.self (lent a.t l.text l)) bounded pending))));
+      kind = refl;
+    }
+
+pub returns-then-waiting-eq0 : goal.returns-then-waiting-eq0
+unfolding steps_while
+returns-then-waiting-eq0 c =
+    let a = c.args in
+    let pending = c.if-not-pending.false in record {
+      rule = λ s l bounded held taken.
+          let line = on_flow a.self (lent a.t l.text l) in
+          let none = is_empty_nil _ (keys_empty a.self.typed.keys_len l.keys ∙ eq-eqb _ 0 c.if-waiting-eq0.true) in
+          meets_unlocked c.if-known.false
+          (meets_pending (steps_while codes) pending
+          (meets_second _ refl (sym held ∙ c.if-held.false)
+          (meets_as (ap (λ ks. takes_first codes ks (reading_of line a.self.reading) (view line)) none) (c.act_without_key.ensures.rule s line))));
+      kind = c.act_without_key.ensures.kind;
+    }
+
+pub returns : goal.returns
+unfolding steps_while takes_first
+returns c =
+    let a = c.args in
+    let f = a.self in
+    let pending = c.if-not-pending.false in
+    let waiting = f.typed.keys_len in record {
+      rule = λ s l bounded held taken.
+          let line = on_flow f (lent a.t l.text l) in
+          let can : CanTakeKey f a.t = record {
+            room = pending_room line bounded pending;
+            waits = omega (arith, c.if-waiting-eq0.false);
+            short = token_short f.typed c.requires (sym held ∙ c.if-held.false);
+          } in
+          let head = first_key waiting l.keys (omega (arith, c.if-waiting-eq0.false)) in
+          meets_unlocked c.if-known.false
+          (meets_pending (steps_while codes) pending
+          (meets_second _ refl (sym held ∙ c.if-held.false)
+          (meets_as (ap (λ ks. takes_first codes ks (reading_of line f.reading) (view line)) head) (meets_told _ (taken can)))));
+      kind = refl;
+    }

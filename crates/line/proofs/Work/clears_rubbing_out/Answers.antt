@@ -1,0 +1,21 @@
+use Rattle.line.specs.View.{reading_of}
+use Rattle.line.specs.With.{lent}
+use Rattle.rules.specs.State.{codes}
+use Rattle.rules.specs.Arrival.{rubbing_out, clears_input}
+use Rattle.rules.specs.Turns.{cleared}
+use Rattle.line.proofs.Turns.{still_does}
+use Rattle.line.proofs.ArrivalLaws.{pending_does, idle_does}
+use Rattle.line.proofs.Work.clears_rubbing_out.Goals as goal
+
+pub returns-then-pending : goal.returns-then-pending
+unfolding clears_input
+returns-then-pending c =
+    let a = c.args in
+    let deleted = c.deletes.ensures in
+    record { counted = deleted.counted; rule = λ l m. pending_does (clears_input codes rubbing_out) (reading_of (lent a.t a.text.now l) a.r) c.if-pending.true (deleted.rule cleared l m) }
+
+pub returns : goal.returns
+unfolding clears_input
+returns c =
+    let a = c.args in
+    record { counted = c.requires.counted_flow; rule = λ l m. idle_does (clears_input codes rubbing_out) (reading_of (lent a.t a.text.now l) a.r) c.if-pending.false (still_does _ _ m) }

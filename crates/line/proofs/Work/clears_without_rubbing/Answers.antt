@@ -1,0 +1,21 @@
+use Rattle.line.specs.View.{reading_of}
+use Rattle.line.specs.With.{lent}
+use Rattle.rules.specs.State.{codes}
+use Rattle.rules.specs.Arrival.{without_rubbing, clears_input}
+use Rattle.rules.specs.Turns.{cleared}
+use Rattle.line.proofs.Turns.{still_does}
+use Rattle.line.proofs.ArrivalLaws.{pending_does, idle_does}
+use Rattle.line.proofs.Work.clears_without_rubbing.Goals as goal
+
+pub returns-then-pending : goal.returns-then-pending
+unfolding clears_input
+returns-then-pending c =
+    let a = c.args in
+    let deleted = c.deletes_without_rubbing.ensures in
+    record { counted = deleted.counted; rule = λ text l x m. pending_does (clears_input codes without_rubbing) (reading_of (lent a.t text l) a.r) c.if-pending.true (deleted.rule cleared text l x m) }
+
+pub returns : goal.returns
+unfolding clears_input
+returns c =
+    let a = c.args in
+    record { counted = c.requires.counted_flow; rule = λ text l x m. idle_does (clears_input codes without_rubbing) (reading_of (lent a.t text l) a.r) c.if-pending.false (still_does _ x m) }

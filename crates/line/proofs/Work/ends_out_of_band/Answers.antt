@@ -1,0 +1,20 @@
+use Rattle.line.specs.View.{reading_of}
+use Rattle.line.specs.With.{lent}
+use Rattle.rules.specs.State.{codes}
+use Rattle.rules.specs.Arrival.{ends_out_of_band}
+use Rattle.line.proofs.Turns.{still_does}
+use Rattle.line.proofs.ArrivalLaws.{pending_does, idle_does}
+use Rattle.line.proofs.Work.ends_out_of_band.Goals as goal
+
+pub returns-then-pending : goal.returns-then-pending
+unfolding ends_out_of_band
+returns-then-pending c =
+    let a = c.args in
+    let ended = c.completes.ensures in
+    record { counted = ended.counted; rule = λ l x. pending_does (ends_out_of_band codes) (reading_of (lent a.t a.text.now l) a.r) c.if-pending.true (ended.rule (lent a.t a.text.now l) l x) }
+
+pub returns : goal.returns
+unfolding ends_out_of_band
+returns c =
+    let a = c.args in
+    record { counted = c.requires.counted_flow; rule = λ l x. idle_does (ends_out_of_band codes) (reading_of (lent a.t a.text.now l) a.r) c.if-pending.false (still_does _ x _) }

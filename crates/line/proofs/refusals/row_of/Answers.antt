@@ -1,0 +1,14 @@
+use mathlib.Core.Path.{sym, ap}
+use mathlib.Core.Bool.{not}
+use Rattle.rules.specs.Choice.{first_row_answer}
+use Rattle.rules.proofs.Choice.{pick_true, pick-false}
+use Rattle.line.specs.Refusals.{row_of}
+use Rattle.line.proofs.refusals.row_of.Goals as goal
+
+pub returns-then-roomy : goal.returns-then-roomy
+unfolding row_of first_row_answer
+returns-then-roomy c = sym (pick-false _ _ (ap not c.if-roomy.true))
+
+pub returns : goal.returns
+unfolding row_of first_row_answer
+returns c = sym (pick_true _ _ (ap not c.if-roomy.false))

@@ -1,0 +1,4 @@
+use Rattle.settings.proofs.moving.to_form_2.Goals as goal
+
+pub returns : goal.returns
+returns c = c.move_to.ensures
