@@ -1,8 +1,8 @@
 # make test: every proof and test. make run: bench case B, call by call. make bench: calls a second, and beside it the kernel's own line discipline.
 CARGO = cargo --quiet
 TESTS = --offline --release --manifest-path tests/Cargo.toml
-REPLAY = target/bin/replay
-SOURCES = crates.txt $(shell find crates -path '*/must-fail' -prune -o -type f -print)
+REPLAY = crates/replay/out/replay
+SOURCES = crates.txt $(shell find crates \( -name must-fail -o -name out \) -prune -o -type f -print)
 
 .PHONY: test run bench
 

@@ -3,14 +3,13 @@ use mathlib.Core.Path.{◌≡◌, refl, sym, ap, ◌∙◌, subst}
 use Prim.Native.Nat.{ℕ}
 use mathlib.Core.Bool.{Bool, true, false, not, ◌&&◌}
 use mathlib.Core.List.{List, map-id}
-use mathlib.Core.Option.{none}
 use lib.Dec.{eqb}
 use lib.ListN.{length}
 use Rattle.rules.specs.Choice.{pick, joined}
 use Rattle.rules.specs.Numbers.{input_size, type_ahead_size}
 use Rattle.rules.specs.State.{Reading, codes, with_host, with_read, with_last_set}
 use Rattle.rules.specs.Messages.Forms as forms
-use Rattle.rules.specs.Turns.{Rule, still, sends, ◌then◌}
+use Rattle.rules.specs.Turns.{Rule, still, sends}
 use Rattle.rules.specs.StartRead.Acceptance as rules
 use Rattle.rules.specs.Host.{our_initiate, initiates, reports, sets_characteristics, obeys}
 use Rattle.rules.specs.Calls.{are_roomy, is_timely, is_pending, carries_questions, refusals, received, does, answers_message, answers, message_bytes}

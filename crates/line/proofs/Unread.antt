@@ -13,7 +13,7 @@ use Rattle.rules.specs.State.{codes}
 use Rattle.rules.specs.Messages.Forms.{Message, plain, unread}
 use Rattle.rules.specs.ReadData.{by_unread, no_ending, completes, unreads_while, unreads}
 use Rattle.line.specs.View.{view, keys_of, token_of, input_of, pending_of, reading_of}
-use Rattle.line.specs.Bounded.{CountedFlow, CountedReading}
+use Rattle.line.specs.Bounded.{CountedFlow}
 use Rattle.line.specs.Promise.{Progress, Does}
 use Rattle.line.proofs.Turns.{still_does}
 use Rattle.line.proofs.FlowChanges.{here_rule, here_only, here_not}

@@ -9,7 +9,6 @@ use Rattle.sets.specs.View.{set_of}
 use Rattle.characteristics.specs.View.{switches_of}
 use Rattle.line.specs.declared.Terminal.{Terminal}
 use Rattle.line.specs.declared.Typed.{Typed}
-use Rattle.line.specs.declared.Terms.{Terms}
 use Rattle.line.specs.declared.Reading.{Reading}
 use Rattle.line.specs.declared.Line.{Line}
 

@@ -1,6 +1,6 @@
 -- What a decoded message means: its fields, read off the slice that it was found in, and where its spans lie there; a number for
 -- each refusal.
-use Rattle.std.specs.Prelude.{ℕ, ◌+◌, ◌-◌, ◌≤◌, ◌≡◌, Bool, true, not, List, [], ◌∷◌, ◌++◌, map, leb, length, take, drop}
+use Rattle.std.specs.Prelude.{ℕ, ◌+◌, ◌-◌, ◌≤◌, ◌≡◌, Bool, true, not, List, [], ◌∷◌, ◌++◌, map, leb, length, drop}
 use Rattle.rules.specs.Choice.{pick, all_are}
 use Rattle.rules.specs.Numbers.{message_size, accepted, unsound}
 use Rattle.rules.specs.Messages.Layout.{fields_in, number_at}

@@ -1,6 +1,6 @@
 -- The three kinds of parameter lists, by the type of their message.
 use mathlib.Core.Path.{◌≡◌, refl, sym, ap, ap₂, ◌∙◌, subst}
-use Prim.Native.Nat.{ℕ, zero, ◌+◌, ◌*◌, ◌%◌, ◌<◌, ◌≤◌}
+use Prim.Native.Nat.{ℕ, ◌+◌, ◌*◌, ◌%◌, ◌<◌, ◌≤◌}
 use native.Mathlib.Omega.{arith}
 use mathlib.Core.Bool.{Bool, true, false, ◌&&◌}
 use mathlib.Core.List.{List, [], ◌∷◌, map, zip_with}
@@ -11,7 +11,7 @@ use borrow.Author.Tests.{eq-eqb, ne_eqb, eqb-true, ltb-true, lt-ltb, le-ltb}
 use Rattle.rules.specs.Choice.{pick, within, all_are}
 use Rattle.rules.specs.Messages.Layout.{byte_at, number_at}
 use Rattle.rules.specs.Messages.Parameters.{Shape, initiation, question, setting, selector, input_count_state, defined_selector, defined_value}
-use Rattle.rules.specs.Messages.Parameters.{value_limits, limits_of, parameter_size, sound_parameter, cleaned, cut}
+use Rattle.rules.specs.Messages.Parameters.{value_limits, limits_of, parameter_size, sound_parameter, cleaned}
 use Rattle.rules.proofs.Choice.{pick_true, pick-false, pick_case, all_at}
 use Rattle.rules.proofs.Parameters.{Cleanable, positive, initiation_cleanable, question_cleanable, setting_cleanable}
 use Rattle.parameters.specs.declared.limits.Limits.{Limits}

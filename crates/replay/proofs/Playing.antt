@@ -4,7 +4,6 @@ use mathlib.Core.Path.{◌≡◌, refl, sym, ap, ◌∙◌, subst}
 use mathlib.Core.Bool.{true}
 use mathlib.Core.List.{List, [], ◌∷◌, ◌++◌}
 use borrow.Author.Tests.{lt-ltb}
-use Rattle.rules.specs.State.{fresh}
 use Rattle.rules.specs.Messages.Codec.{all_bytes}
 use Rattle.rules.specs.Calls.{Event, key, step, tick, message, load}
 use Rattle.rules.specs.Bounds.{is_byte_event}

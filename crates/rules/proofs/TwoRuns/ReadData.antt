@@ -1,5 +1,5 @@
 -- Agreement of two runs: a pending read completes; Unread.
-use Prim.Native.Nat.{ℕ, ◌-◌}
+use Prim.Native.Nat.{ℕ}
 use mathlib.Core.Path.{◌≡◌, refl, ap}
 use mathlib.Core.Bool.{Bool, true, not, ◌||◌}
 use mathlib.Core.Option.{Option, none, some}

@@ -8,7 +8,6 @@ use Rattle.line.specs.View.{view, reading_of}
 use Rattle.line.proofs.HostAccepted.{host_sends}
 use Rattle.line.proofs.Answers.{refused}
 use Rattle.line.proofs.ReceivedMessage.{is_pending_lem, early_refused, early_passed, outcome_refused, found-refused, server_found, late-refused, is_accepted}
-use borrow.Author.Rules.{rules}
 use Rattle.line.proofs.Line.host.Goals as goal
 
 pub returns-then-row-ne-ACCEPTED : goal.returns-then-row-ne-ACCEPTED

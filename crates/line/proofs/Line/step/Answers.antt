@@ -7,7 +7,6 @@ use Rattle.rules.specs.Calls.{answers}
 use Rattle.rules.specs.Bounds.{is_byte_event}
 use Rattle.line.specs.Events.{event_rule}
 use Rattle.line.proofs.ActsDone.{act_doable, act_done, acted_answers}
-use borrow.Author.Rules.{rules}
 use Rattle.line.proofs.Line.step.Goals as goal
 
 pub acts_on_step-done-requires : goal.acts_on_step-done-requires

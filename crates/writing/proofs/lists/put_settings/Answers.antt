@@ -1,5 +1,4 @@
 use native.Mathlib.Omega.{arith}
-use mathlib.Core.Bool.{true}
 use Rattle.areas.proofs.Putting.{all_left, none_left}
 use Rattle.writing.proofs.Settings.{whole_next, behind_two, setting_put, no_settings}
 use Rattle.writing.proofs.lists.put_settings.Goals as goal
