@@ -8,13 +8,15 @@ use Rattle.rules.specs.Numbers.{accepted}
 use Rattle.rules.specs.Calls.{area_after}
 use Rattle.rules.specs.Messages.Codec.{Outcome, refused, sound}
 use Rattle.rules.proofs.Area.{puts_front}
-use Rattle.areas.specs.declared.Written.{Written}
+use Rattle.std.specs.Prelude.{Result, Ok, Err}
+use Rattle.rules.specs.declared.refusals.Refusal.{Refusal}
+use Rattle.rules.specs.Refusals.{number_of, answered}
 use Rattle.areas.specs.Puts.{Puts}
-use Rattle.areas.specs.InFront.{number_in, bytes_in, InFront}
+use Rattle.areas.specs.InFront.{number_in, bytes_in, written, InFront}
 
 -- A refusal leaves the area as it was.
-pub refusal : {o : Outcome (List ℕ)} {before : List ℕ} {n : ℕ} → o ≡ refused n →
-    InFront o before (record { number = n; len = 0 }) before
+pub refusal : {o : Outcome (List ℕ)} {before : List ℕ} {n : Refusal} → o ≡ refused (number_of n) →
+    InFront o before (Err n) before
 unfolding number_in bytes_in area_after
 refusal {before = before} e =
     record {
@@ -25,22 +27,22 @@ refusal {before = before} e =
     }
 
 -- one outcome for another that it equals
-pub answers_as_lem : {o o' : Outcome (List ℕ)} {before after : List ℕ} {r : Written} → o ≡ o' → InFront o' before r after → InFront o before r after
+pub answers_as_lem : {o o' : Outcome (List ℕ)} {before after : List ℕ} {r : Result ℕ Refusal} → o ≡ o' → InFront o' before r after → InFront o before r after
 answers_as_lem e w = rw e w
 
 -- bytes that were written stand in front
-module _ {bytes before after : List ℕ} {r : Written} (w : InFront (sound bytes) before r after) where
-  pub answer_accepted : r.number ≡ accepted
+module _ {bytes before after : List ℕ} {r : Result ℕ Refusal} (w : InFront (sound bytes) before r after) where
+  pub answer_accepted : answered r ≡ accepted
   unfolding number_in
   answer_accepted = w.number
 
-  pub front_bytes_lem : take r.len after ≡ bytes
+  pub front_bytes_lem : take (written r) after ≡ bytes
   unfolding bytes_in area_after
   front_bytes_lem = ap₂ take w.len w.area ∙ take-append_seam bytes (drop (length bytes) before)
 
 -- bytes put from the front on, where there is room
 pub put_in_front : {o : Outcome (List ℕ)} {bytes before after : List ℕ} {n : ℕ} → o ≡ sound bytes → length bytes ≤ length before →
-    Puts bytes before 0 n after → InFront o before (record { number = 0; len = n }) after
+    Puts bytes before 0 n after → InFront o before (Ok n) after
 unfolding number_in bytes_in
 put_in_front {o} {bytes} {before} {after} {n} e room w =
     let there = w.area ∙ puts_front bytes before room in

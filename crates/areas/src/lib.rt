@@ -7,13 +7,6 @@ ghost use Rattle.areas.specs.Puts.{Puts};
 
 use rules::forms;
 
-// What a function that writes to the front of an area answers: the number of a refusal, or 0 and how many bytes stand there.
-#[derive(Clone, Copy)]
-pub struct Written {
-    pub number: u8,
-    pub len: usize,
-}
-
 pub fn put_byte(b: u8, area: &mut [u8], at: usize) -> usize
     ensures { Puts (b ∷ []) area.old at result area.new }
 {

@@ -10,7 +10,7 @@ ghost use Rattle.characteristics.specs.Lists.{settings_in};
 
 use crate::attributes::{any_deferred_clear, with_attribute};
 use crate::{Host, Switches};
-use parameters::Parameter;
+use parameters::{Parameter, Parameters};
 use rules::selectors;
 
 // One of the five.
@@ -28,13 +28,10 @@ fn is_carried(selector: u16) -> bool
 pub(crate) fn all_carried(kind: u8, list: &[u8]) -> bool
     ensures { result ≡ all_are (λ p. is_carried (selector p)) (parameters_from kind 0 list.now) }
 {
-    let mut at = 0;
-    while at < list.len() {
-        let p = parameters::parameter_at(kind, list, at);
+    for p in Parameters::new(kind, list) {
         if !is_carried(p.selector) {
             return false;
         }
-        at = p.next;
     }
     true
 }

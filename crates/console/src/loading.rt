@@ -12,6 +12,7 @@ ghost use Rattle.console.specs.Loading.{Loads};
 
 use characteristics::Switches;
 use line::{Answer, Line};
+use rules::refusals::Refusal;
 use sets::Set;
 
 fn switch_in(section: &[u8], n: u8) -> bool
@@ -99,7 +100,7 @@ pub fn load<'a>(line: Line, own: &'a [u8], site: &'a [u8]) -> Answer
     if !(settings::is_sound(own) & settings::is_sound(site)) {
         return Answer {
             line,
-            number: rules::UNSOUND_RECORD,
+            number: Refusal::UnsoundRecord.number(),
             terminal: 0,
             messages: 0,
         };

@@ -19,7 +19,9 @@ use Rattle.rules.specs.Messages.Layout.{byte_at}
 use Rattle.rules.proofs.Outcomes.{refused-sound, sound_same, refused_same, readable, read_defined, read-refused}
 use Rattle.message.specs.declared.Message.{Message}
 use Rattle.message.specs.declared.Message.TheVariants as found_message
-use Rattle.message.specs.declared.Found.TheVariants as found
+use Rattle.std.specs.Prelude.{Ok, Err}
+use Rattle.rules.specs.declared.refusals.Refusal.{Refusal}
+use Rattle.rules.specs.Refusals.{number_of}
 use Rattle.message.specs.Found.{held_in, as_held, found_in}
 use Rattle.line.specs.declared.Line.{Line}
 use Rattle.line.specs.View.{pending_of, view}
@@ -116,11 +118,11 @@ module _ (l : Line) (bytes : List ℕ) where
         ap refused (sym (read-refused bytes sized kind r) ∙ sym (refused_same e))
     refuses_number (sound x) r e = absurd (refused-sound e)
 
-    pub found-refused : {n : ℕ} → found_in bytes (found.Refused n) ≡ as_held (read bytes) → late (view l) (read bytes) ≡ refused n
+    pub found-refused : (r : Refusal) → found_in bytes (Err r) ≡ as_held (read bytes) → late (view l) (read bytes) ≡ refused (number_of r)
     unfolding found_in
-    found-refused e = refuses_number (read bytes) refl e
+    found-refused r e = refuses_number (read bytes) refl e
 
-  module _ (m : Message) (h : HostMessage) (sent : m ≡ message_of h) {row : ℕ} (found : found_in bytes (found.Message m) ≡ as_held (read bytes))
+  module _ (m : Message) (h : HostMessage) (sent : m ≡ message_of h) {row : ℕ} (found : found_in bytes (Ok m) ≡ as_held (read bytes))
       (judges : (x : forms.Message ℕ) → held_in bytes (message_of h) ≡ codec.message x → defined_fields x ≡ true → row ≡ late_row (view l) x) where
     judge : (x : forms.Message ℕ) → read bytes ≡ sound x → held_in bytes m ≡ codec.message x → row ≡ late_row (view l) x
     judge x r e = judges x (ap (held_in bytes) (sym sent) ∙ e) (read_defined bytes x r)
@@ -197,6 +199,6 @@ module _ (bytes : List ℕ) (hosts : is_hosts (byte_at bytes 0) ≡ true) where
   server_held m e (refused n) r h = refused-sound (sym h)
   server_held m e (sound x) r h = no_host bytes x (server_kind x r) m e (sound_same h)
 
-  pub server_found : (m : Message) → sender_of m ≡ sender.Server → found_in bytes (found.Message m) ≡ as_held (read bytes) → ⊥
+  pub server_found : (m : Message) → sender_of m ≡ sender.Server → found_in bytes (Ok m) ≡ as_held (read bytes) → ⊥
   unfolding found_in
   server_found m e h = server_held m e (read bytes) refl h

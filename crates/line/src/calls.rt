@@ -11,7 +11,7 @@ use crate::events::{Event, HostMessage, Lookup, Sender, sender_of};
 use crate::keys::move_keys;
 use crate::refusals::{are_roomy, early_row, row_of};
 use crate::{Answer, Line, Work};
-use message::Found;
+use rules::refusals::Refusal;
 
 // What is looked up for an event that needs nothing.
 const NO_KEY: Taken = Taken::Data(0);
@@ -166,27 +166,25 @@ impl Line {
         ensures { Answers (rules.message s.now) self terminal.old messages.old result terminal.new messages.new }
     {
         let flow = self.flow;
-        let row = early_row(
+        let early = early_row(
             s,
             terminal.len(),
             messages.len(),
             self.initiated,
             flow.pending,
         );
-        if row != rules::ACCEPTED {
+        if let Err(row) = early {
             return self.refuse(row);
         }
-        let f = message::decode(s);
-        let Found::Message(m) = f else {
-            let number = message::found_number(f);
-            return self.refuse(number);
+        let found = message::decode(s);
+        let Ok(m) = found else {
+            return self.refuse(found.unwrap_err());
         };
         let sender = sender_of(m);
         let Sender::Host(h) = sender else {
-            return self.refuse(rules::WRONG_TYPE);
+            return self.refuse(Refusal::WrongType);
         };
-        let late = self.late_row(h, s);
-        if late != rules::ACCEPTED {
+        if let Err(late) = self.late_row(h, s) {
             return self.refuse(late);
         }
         self.obeys(h, s, terminal, messages)

@@ -6,6 +6,7 @@ ghost use Rattle.rules.specs.Messages.Codec.{sound_length, defined_fields};
 ghost use Rattle.rules.specs.State.{State};
 ghost use Rattle.rules.specs.Calls as rules;
 ghost use Rattle.rules.specs.Calls.{are_roomy, is_hosts, is_pending};
+ghost use Rattle.rules.specs.Refusals.{number_of, answered};
 ghost use Rattle.message.specs.Found.{start_read_in, write_in, held_in};
 ghost use Rattle.line.specs.View.{view};
 ghost use Rattle.line.specs.Bounded.{Counted};
@@ -16,6 +17,7 @@ ghost use Rattle.line.specs.Refusals.{row_of, first_row, early_row, last_row, la
 use crate::events::HostMessage;
 use crate::{Answer, Line};
 use message::{StartReadFields, WriteFields};
+use rules::refusals::Refusal;
 
 // Both areas are large enough.
 pub(crate) fn are_roomy(terminal: usize, messages: usize) -> bool
@@ -31,7 +33,7 @@ pub(crate) fn row_of(roomy: bool) -> u8
     if roomy {
         return rules::ACCEPTED;
     }
-    rules::SMALL_AREA
+    Refusal::SmallArea.number()
 }
 
 // A message has a length that can be.
@@ -68,23 +70,23 @@ fn carries_write(f: WriteFields) -> bool
     f.transparent == fields::OFF
 }
 
-// Rows 1 to 4, in order; 0 if none applies.
-fn first_row(roomy: bool, sized: bool, hosts: bool, timely: bool) -> u8
-    ensures { result ≡ first_row roomy sized hosts timely }
+// Rows 1 to 4, in order.
+fn first_row(roomy: bool, sized: bool, hosts: bool, timely: bool) -> Result<(), Refusal>
+    ensures { answered result ≡ first_row roomy sized hosts timely }
 {
     if !roomy {
-        return rules::SMALL_AREA;
+        return Err(Refusal::SmallArea);
     }
     if !sized {
-        return rules::WRONG_LENGTH;
+        return Err(Refusal::WrongLength);
     }
     if !hosts {
-        return rules::WRONG_TYPE;
+        return Err(Refusal::WrongType);
     }
     if !timely {
-        return rules::WRONG_TIME;
+        return Err(Refusal::WrongTime);
     }
-    rules::ACCEPTED
+    Ok(())
 }
 
 // First Initiate, and only once; Start Read with no read pending.
@@ -97,15 +99,15 @@ fn is_timely(kind: u8, initiated: bool, pending: bool) -> bool
     kind == rules::INITIATE
 }
 
-// The row that applies before the message is read, or 0.
+// The row that applies before the message is read.
 pub(crate) fn early_row(
     s: &[u8],
     terminal: usize,
     messages: usize,
     initiated: bool,
     pending: bool,
-) -> u8
-    ensures { (x : State ℕ) → initiated ≡ x.host.initiated → pending ≡ is_pending x.pending_read → result ≡ early_row terminal messages s.now x }
+) -> Result<(), Refusal>
+    ensures { (x : State ℕ) → initiated ≡ x.host.initiated → pending ≡ is_pending x.pending_read → answered result ≡ early_row terminal messages s.now x }
 {
     let roomy = are_roomy(terminal, messages);
     let sized = is_sound_length(s.len());
@@ -115,27 +117,27 @@ pub(crate) fn early_row(
     first_row(roomy, sized, hosts, timely)
 }
 
-// Rows 5 and 6, in order; 0 if none applies.
-fn last_row(passes: bool, carries: bool) -> u8
-    ensures { result ≡ last_row passes carries }
+// Rows 5 and 6, in order.
+fn last_row(passes: bool, carries: bool) -> Result<(), Refusal>
+    ensures { answered result ≡ last_row passes carries }
 {
     if !passes {
-        return rules::UNSOUND;
+        return Err(Refusal::Unsound);
     }
     if !carries {
-        return rules::NOT_CARRIED;
+        return Err(Refusal::NotCarried);
     }
-    rules::ACCEPTED
+    Ok(())
 }
 
 impl Line {
     // A refusal writes nothing and hands the line back as it was.
-    pub(crate) fn refuse(self, number: u8) -> Answer
-        ensures { result ≡ refusal number self }
+    pub(crate) fn refuse(self, refused: Refusal) -> Answer
+        ensures { result ≡ refusal (number_of refused) self }
     {
         Answer {
             line: self,
-            number,
+            number: refused.number(),
             terminal: 0,
             messages: 0,
         }
@@ -173,10 +175,10 @@ impl Line {
         }
     }
 
-    // The row that applies to a message that was read, or 0.
-    pub(crate) fn late_row(self, m: HostMessage, s: &[u8]) -> u8
+    // The row that applies to a message that was read.
+    pub(crate) fn late_row(self, m: HostMessage, s: &[u8]) -> Result<(), Refusal>
         requires { Counted self }
-        ensures { (x : forms.Message ℕ) → held_in s.now (message_of m) ≡ codec.message x → defined_fields x ≡ true → result ≡ late_row (view self) x }
+        ensures { (x : forms.Message ℕ) → held_in s.now (message_of m) ≡ codec.message x → defined_fields x ≡ true → answered result ≡ late_row (view self) x }
     {
         let passes = self.passes_test(m);
         let carries = self.carries(m, s);

@@ -15,14 +15,17 @@ use Rattle.rules.specs.Messages.Codec.{Outcome, Held, message, sound, refused, d
 use Rattle.rules.proofs.Choice.{both, thirds, pick_true, pick-false}
 use Rattle.fields.specs.declared.Span.{Span}
 use Rattle.message.specs.declared.Message as declared
-use Rattle.message.specs.declared.Found.TheVariants as found
+use Rattle.std.specs.Prelude.{Ok, Err}
+use Rattle.rules.specs.declared.refusals.Refusal.{Refusal}
+use Rattle.rules.specs.declared.refusals.Refusal.TheVariants.{Unsound}
+use Rattle.rules.specs.Refusals.{number_of}
 use Rattle.fields.specs.Spans.{span_of}
 use Rattle.message.specs.Found.{RestFrom, FieldsIn, Finds, parameters_of, plain_message, text_message, list_message, held_in, span_list_of, lies}
 use Rattle.message.specs.Found.{as_held, found_in, found_inside, decoded_as}
 use Rattle.message.proofs.Heads.{Head}
 
 -- A refusal has no span.
-pub finds_refusal : {s : List ℕ} {o : Outcome Held} {n : ℕ} → refused n ≡ o → Finds s o (found.Refused n)
+pub finds_refusal : {s : List ℕ} {o : Outcome Held} {n : Refusal} → refused (number_of n) ≡ o → Finds s o (Err n)
 unfolding found_in found_inside
 finds_refusal e = record { fields = e; inside = refl }
 
@@ -68,7 +71,7 @@ module _ (kind : ℕ) (s : List ℕ) where
   whole = whole_tail (form_of kind).tail rest
 
   abbrev Refuses : Type 0
-  Refuses = Finds s (decoded_as kind s) (found.Refused 5)
+  Refuses = Finds s (decoded_as kind s) (Err Unsound)
 
   refused_by : sound_as (form_of kind) s ≡ false → Refuses
   unfolding decoded_as as_held
@@ -90,7 +93,7 @@ module _ (kind : ℕ) (s : List ℕ) where
   field_undefined e = refused_by (no_third (leb head (length s)) whole (defined_fields fields) e)
 
   pub decodes_sound : {m : declared.Message} → FieldsIn kind s m → head ≤ length s → whole ≡ true → defined_fields fields ≡ true →
-      Finds s (decoded_as kind s) (found.Message m)
+      Finds s (decoded_as kind s) (Ok m)
   unfolding decoded_as as_held sound_as found_in found_inside
   decodes_sound e n w d =
       let passed = both (both (le-leb head (length s) n) w) d in
@@ -139,7 +142,7 @@ module _ (kind : ℕ) (s : List ℕ) where
       -- a message whose one span is its list
       pub list_sound : (shape : Shape) → (form_of kind).tail ≡ list shape → is_free kind ≡ true → {m : declared.Message} →
           held_in s m ≡ list_message kind vs (parameters_of shape s p) → span_list_of m ≡ p ∷ [] → head ≤ length s → whole ≡ true →
-          Finds s (decoded_as kind s) (found.Message m)
+          Finds s (decoded_as kind s) (Ok m)
       unfolding all_are
       list_sound shape is free held place n w =
           decodes_sound
@@ -166,7 +169,7 @@ module _ (kind : ℕ) (s : List ℕ) where
 
     pub fixed_sound : byte_at s 0 ≡ kind → is_free kind ≡ true → length s ≡ head →
         {vs : List ℕ} → Head (form_of kind).head 1 s vs → {m : declared.Message} → held_in s m ≡ plain_message kind vs → span_list_of m ≡ [] →
-        Finds s (decoded_as kind s) (found.Message m)
+        Finds s (decoded_as kind s) (Ok m)
     unfolding behind_head is_empty set_in parameters_in text_in all_are
     fixed_sound k e h {vs} v held none =
         let empty = drop_of_length-le s {i = head} (omega arith) in

@@ -1,6 +1,6 @@
 -- What a decoded message means: its fields, read off the slice that it was found in, and where its spans lie there; a number for
 -- each refusal.
-use Rattle.std.specs.Prelude.{ℕ, ◌+◌, ◌-◌, ◌≤◌, ◌≡◌, Bool, true, not, List, [], ◌∷◌, ◌++◌, map, leb, length, drop}
+use Rattle.std.specs.Prelude.{ℕ, ◌+◌, ◌-◌, ◌≤◌, ◌≡◌, Bool, true, not, List, [], ◌∷◌, ◌++◌, map, leb, length, drop, Result, Ok, Err}
 use Rattle.rules.specs.Choice.{pick, all_are}
 use Rattle.rules.specs.Numbers.{message_size, accepted, unsound}
 use Rattle.rules.specs.Messages.Layout.{fields_in, number_at}
@@ -17,8 +17,8 @@ use Rattle.message.specs.declared.Message.{Message}
 use Rattle.message.specs.declared.Message.TheVariants.{Initiate, StartRead, ReadData, OutOfBand, Unread, ClearInput, Write}
 use Rattle.message.specs.declared.Message.TheVariants.{WriteCompletion, DiscardState, ReadCharacteristics, Characteristics}
 use Rattle.message.specs.declared.Message.TheVariants.{CheckInput, InputCount, InputState, Other}
-use Rattle.message.specs.declared.Found.{Found}
-use Rattle.message.specs.declared.Found.TheVariants as found
+use Rattle.rules.specs.declared.refusals.Refusal.{Refusal}
+use Rattle.rules.specs.Refusals.{number_of}
 
 -- the parameters in a span
 unfoldable pub parameters_of : Shape → List ℕ → Span → List (List ℕ)
@@ -118,24 +118,24 @@ as_held (codec.refused n) = codec.refused n
 as_held (codec.sound m) = codec.sound (codec.message m)
 
 -- what was found, or its number
-unfoldable pub found_in : List ℕ → Found → Outcome Held
-found_in s (found.Message m) = codec.sound (held_in s m)
-found_in s (found.Refused n) = codec.refused n
+unfoldable pub found_in : List ℕ → Result Message Refusal → Outcome Held
+found_in s (Ok m) = codec.sound (held_in s m)
+found_in s (Err e) = codec.refused (number_of e)
 
 -- every span of what was found lies in the slice
-unfoldable pub found_inside : ℕ → Found → Bool
-found_inside size (found.Message m) = all_lie size m
-found_inside size (found.Refused n) = true
+unfoldable pub found_inside : ℕ → Result Message Refusal → Bool
+found_inside size (Ok m) = all_lie size m
+found_inside size (Err e) = true
 
 -- what reading promises: this outcome, and where the spans of a message lie
-pub record Finds (s : List ℕ) (o : Outcome Held) (f : Found) : Type 0 where
+pub record Finds (s : List ℕ) (o : Outcome Held) (f : Result Message Refusal) : Type 0 where
   pub fields : found_in s f ≡ o
   pub inside : found_inside (length s) f ≡ true
 
 -- the number of what was found
-abbrev pub found_number : Found → ℕ
-found_number (found.Message m) = accepted
-found_number (found.Refused n) = n
+abbrev pub found_number : Result Message Refusal → ℕ
+found_number (Ok m) = accepted
+found_number (Err e) = number_of e
 
 -- reading as one type
 unfoldable pub decoded_as : ℕ → List ℕ → Outcome Held

@@ -6,6 +6,7 @@ ghost use Rattle.rules.specs.Messages.Codec as codec;
 ghost use Rattle.message.specs.Found.{Finds, as_held, found_number};
 
 use fields::Span;
+use rules::refusals::Refusal;
 
 mod fixed;
 mod listed;
@@ -129,21 +130,14 @@ pub enum Message {
     },
 }
 
-// What decoding finds: a message, or the number of a refusal.
-#[derive(Clone, Copy)]
-pub enum Found {
-    Message(Message),
-    Refused(u8),
-}
-
 // Decodes a message without a line: 2, 3 or 5 in that order, else its fields, with spans that lie in the slice.
-pub fn decode(s: &[u8]) -> Found
+pub fn decode(s: &[u8]) -> Result<Message, Refusal>
     ensures { Finds s.now (as_held (codec.read s.now)) result }
 {
     let size = s.len();
     let sized = (rules::SHORTEST_MESSAGE <= size) & (size <= rules::MESSAGE_SIZE);
     if !sized {
-        return Found::Refused(rules::WRONG_LENGTH);
+        return Err(Refusal::WrongLength);
     }
     let kind = fields::byte_at(s, rules::forms::MSGTYPE);
     match kind {
@@ -161,16 +155,16 @@ pub fn decode(s: &[u8]) -> Found
         rules::CHECK_INPUT => fixed::decode_check_input(s),
         rules::INPUT_COUNT => fixed::decode_input_count(s),
         rules::INPUT_STATE => fixed::decode_input_state(s),
-        _ => Found::Refused(rules::WRONG_TYPE),
+        _ => Err(Refusal::WrongType),
     }
 }
 
 // The number of what was found; of a message it is 0.
-pub fn found_number(f: Found) -> u8
+pub fn found_number(f: Result<Message, Refusal>) -> u8
     ensures { result ≡ found_number f }
 {
     match f {
-        Found::Message(_) => rules::ACCEPTED,
-        Found::Refused(number) => number,
+        Ok(_) => rules::ACCEPTED,
+        Err(refusal) => refusal.number(),
     }
 }

@@ -5,10 +5,11 @@ ghost use Rattle.message.specs.declared.Message.TheVariants as variants;
 ghost use Rattle.message.specs.Found.{IsType, FieldsIn, Finds, decoded_as};
 
 use crate::spans::rest_from;
-use crate::{Found, InitiateFields, Message, sizes};
+use crate::{InitiateFields, Message, sizes};
 use fields::{Span, byte_at};
 use parameters::is_sound_list;
 use rules::forms;
+use rules::refusals::Refusal;
 
 // Initiate's version, in three bytes, and REVISION.
 const VERSION: usize = 2;
@@ -39,44 +40,44 @@ fn initiate_fields(s: &[u8]) -> InitiateFields
     }
 }
 
-pub(crate) fn decode_initiate(s: &[u8]) -> Found
+pub(crate) fn decode_initiate(s: &[u8]) -> Result<Message, Refusal>
     requires { IsType forms.initiate s.now }
     ensures { Finds s.now (decoded_as forms.initiate s.now) result }
 {
     if s.len() < sizes::INITIATE_HEADER {
-        return Found::Refused(rules::UNSOUND);
+        return Err(Refusal::Unsound);
     }
     if !is_sound_list(rules::INITIATE, s, sizes::INITIATE_HEADER) {
-        return Found::Refused(rules::UNSOUND);
+        return Err(Refusal::Unsound);
     }
     let f = initiate_fields(s);
-    Found::Message(Message::Initiate(f))
+    Ok(Message::Initiate(f))
 }
 
-pub(crate) fn decode_read_characteristics(s: &[u8]) -> Found
+pub(crate) fn decode_read_characteristics(s: &[u8]) -> Result<Message, Refusal>
     requires { IsType forms.read_characteristics s.now }
     ensures { Finds s.now (decoded_as forms.read_characteristics s.now) result }
 {
     if s.len() < sizes::BARE_HEADER {
-        return Found::Refused(rules::UNSOUND);
+        return Err(Refusal::Unsound);
     }
     if !is_sound_list(rules::READ_CHARACTERISTICS, s, sizes::BARE_HEADER) {
-        return Found::Refused(rules::UNSOUND);
+        return Err(Refusal::Unsound);
     }
     let parameters = rest_from(s, forms::BARE_HEADER);
-    Found::Message(Message::ReadCharacteristics { parameters })
+    Ok(Message::ReadCharacteristics { parameters })
 }
 
-pub(crate) fn decode_characteristics(s: &[u8]) -> Found
+pub(crate) fn decode_characteristics(s: &[u8]) -> Result<Message, Refusal>
     requires { IsType forms.characteristics s.now }
     ensures { Finds s.now (decoded_as forms.characteristics s.now) result }
 {
     if s.len() < sizes::BARE_HEADER {
-        return Found::Refused(rules::UNSOUND);
+        return Err(Refusal::Unsound);
     }
     if !is_sound_list(rules::CHARACTERISTICS, s, sizes::BARE_HEADER) {
-        return Found::Refused(rules::UNSOUND);
+        return Err(Refusal::Unsound);
     }
     let parameters = rest_from(s, forms::BARE_HEADER);
-    Found::Message(Message::Characteristics { parameters })
+    Ok(Message::Characteristics { parameters })
 }

@@ -7,8 +7,9 @@ ghost use Rattle.fields.specs.Spans.{span_of};
 ghost use Rattle.message.specs.Found.{IsType, FlagsAre, StartReadIs, start_read_in, Finds, decoded_as};
 
 use crate::spans::rest_from;
-use crate::{Found, Message, StartReadFields};
+use crate::{Message, StartReadFields};
 use fields::{Span, byte_at, three_at, word_at};
+use rules::refusals::Refusal;
 use rules::{bits, forms};
 
 // Fields of FLAGS, by how many values they have.
@@ -128,22 +129,22 @@ pub fn is_sound_start_read(f: StartReadFields) -> bool
         & (largest <= rules::INPUT_SIZE)
 }
 
-pub(crate) fn decode_start_read(s: &[u8]) -> Found
+pub(crate) fn decode_start_read(s: &[u8]) -> Result<Message, Refusal>
     requires { IsType forms.start_read s.now }
     ensures { Finds s.now (decoded_as forms.start_read s.now) result }
 {
     if s.len() < SET_COUNT {
-        return Found::Refused(rules::UNSOUND);
+        return Err(Refusal::Unsound);
     }
     let behind = s.len() - SET_COUNT;
     let count = byte_at(s, SET_COUNT) as usize;
     let whole = (count < behind) & (count <= rules::SET_SIZE);
     if !whole {
-        return Found::Refused(rules::UNSOUND);
+        return Err(Refusal::Unsound);
     }
     let f = start_read_fields(s);
     if is_sound_start_read(f) {
-        return Found::Message(Message::StartRead(f));
+        return Ok(Message::StartRead(f));
     }
-    Found::Refused(rules::UNSOUND)
+    Err(Refusal::Unsound)
 }

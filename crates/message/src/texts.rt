@@ -4,8 +4,9 @@ ghost use Rattle.message.specs.declared.Message.TheVariants as variants;
 ghost use Rattle.message.specs.Found.{IsType, FieldsIn, Finds, decoded_as};
 
 use crate::spans::rest_from;
-use crate::{Found, LAST_COMPLETION_CODE, LAST_FIX, Message, ReadDataFields, WriteFields, sizes};
+use crate::{LAST_COMPLETION_CODE, LAST_FIX, Message, ReadDataFields, WriteFields, sizes};
 use fields::{byte_at, word_at};
+use rules::refusals::Refusal;
 use rules::{bits, forms};
 
 // Where the fields of a Read Data stand.
@@ -48,18 +49,18 @@ fn read_data_fields(s: &[u8]) -> ReadDataFields
     }
 }
 
-pub(crate) fn decode_read_data(s: &[u8]) -> Found
+pub(crate) fn decode_read_data(s: &[u8]) -> Result<Message, Refusal>
     requires { IsType forms.read_data s.now }
     ensures { Finds s.now (decoded_as forms.read_data s.now) result }
 {
     if s.len() < sizes::READ_DATA_HEADER {
-        return Found::Refused(rules::UNSOUND);
+        return Err(Refusal::Unsound);
     }
     let f = read_data_fields(s);
     if LAST_COMPLETION_CODE < f.code {
-        return Found::Refused(rules::UNSOUND);
+        return Err(Refusal::Unsound);
     }
-    Found::Message(Message::ReadData(f))
+    Ok(Message::ReadData(f))
 }
 
 fn write_fields(s: &[u8]) -> WriteFields
@@ -94,16 +95,16 @@ fn write_fields(s: &[u8]) -> WriteFields
     }
 }
 
-pub(crate) fn decode_write(s: &[u8]) -> Found
+pub(crate) fn decode_write(s: &[u8]) -> Result<Message, Refusal>
     requires { IsType forms.write s.now }
     ensures { Finds s.now (decoded_as forms.write s.now) result }
 {
     if s.len() < sizes::WRITE_HEADER {
-        return Found::Refused(rules::UNSOUND);
+        return Err(Refusal::Unsound);
     }
     let f = write_fields(s);
     if (f.prefix <= LAST_FIX) & (f.postfix <= LAST_FIX) {
-        return Found::Message(Message::Write(f));
+        return Ok(Message::Write(f));
     }
-    Found::Refused(rules::UNSOUND)
+    Err(Refusal::Unsound)
 }

@@ -1,2 +1,3 @@
 -- What the promises of this crate say, in the words of the rules.
 pub mod Lists
+pub mod Walks

@@ -10,9 +10,11 @@ use crate::limits::{defined_selector, limits_at};
 use fields::{byte_at, word_at};
 use rules::{forms, selectors};
 
+mod each;
 mod limits;
 mod put;
 
+pub use crate::each::Parameters;
 pub use crate::put::put_setting;
 
 // Bytes in front of a parameter's value: SELECTOR, or PARMTYPE and a count. Bytes of the longest value: CHARACTER, MASK and ATTRIBUTES.

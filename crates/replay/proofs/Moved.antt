@@ -8,12 +8,13 @@ use Rattle.rules.specs.Messages.Codec.{Outcome, refused, sound, all_bytes}
 use Rattle.rules.specs.Settings.{is_form, meaning_of}
 use Rattle.rules.specs.Settings.Moving.{move}
 use Rattle.rules.proofs.Settings.Moving.{keeps_meaning, refused_number}
-use Rattle.areas.specs.declared.Written.{Written}
+use Rattle.std.specs.Prelude.{Result}
+use Rattle.rules.specs.declared.refusals.Refusal.{Refusal}
 use Rattle.areas.specs.InFront.{number_in, InFront}
 use Rattle.areas.proofs.InFront.{answers_as_lem, front_bytes_lem}
 use Rattle.replay.specs.Moved.{SaysTheSame}
 
-module _ (form : ℕ) (known : is_form form ≡ true) (bytes : List ℕ) (are_bytes : all_bytes bytes ≡ true) {before after : List ℕ} {r : Written} where
+module _ (form : ℕ) (known : is_form form ≡ true) (bytes : List ℕ) (are_bytes : all_bytes bytes ≡ true) {before after : List ℕ} {r : Result ℕ Refusal} where
   pub says_the_same : InFront (move form (length before) bytes) before r after → SaysTheSame bytes r after
   unfolding number_in
   says_the_same w = by_outcome (move form (length before) bytes) refl

@@ -1,10 +1,10 @@
 // Moving a settings record, by the form that the script names.
 ghost use Rattle.replay.specs.Moved.{SaysTheSame};
 
-use areas::Written;
+use rules::refusals::Refusal;
 
 // What is written says what the record says.
-pub(crate) fn moved(form: u8, record: &[u8], area: &mut [u8]) -> Written
+pub(crate) fn moved(form: u8, record: &[u8], area: &mut [u8]) -> Result<usize, Refusal>
     ensures { SaysTheSame «record».now result area.new }
 {
     if form == settings::FORM_1 {

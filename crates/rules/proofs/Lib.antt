@@ -13,3 +13,4 @@ pub mod Settings
 mod Erasure
 pub mod TwoRuns
 pub mod Area
+pub mod RefusalNumbers

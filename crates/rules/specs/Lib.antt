@@ -20,3 +20,4 @@ pub mod Bounds
 pub mod Bench
 pub mod TwoRuns
 pub mod Whole
+pub mod Refusals

@@ -5,6 +5,7 @@ pub mod bits;
 pub mod characters;
 pub mod forms;
 pub mod out_of_band;
+pub mod refusals;
 pub mod selectors;
 
 pub const INPUT_SIZE: usize = 1024;
@@ -34,25 +35,9 @@ pub const TOP_COLUMN: u16 = 999;
 
 pub const TOP_DROPPED: u16 = 65535;
 
-// The numbers that a call answers, as in specs/Numbers.antt.
+// The number of a call that is accepted, as in specs/Numbers.antt; of each refusal `refusals` has it.
 
 pub const ACCEPTED: u8 = 0;
-
-pub const SMALL_AREA: u8 = 1;
-
-pub const WRONG_LENGTH: u8 = 2;
-
-pub const WRONG_TYPE: u8 = 3;
-
-pub const WRONG_TIME: u8 = 4;
-
-pub const UNSOUND: u8 = 5;
-
-pub const NOT_CARRIED: u8 = 6;
-
-pub const UNSOUND_RECORD: u8 = 7;
-
-pub const TOO_LARGE: u8 = 8;
 
 // MSGTYPE, as in specs/Messages/Forms.antt.
 

@@ -2,7 +2,7 @@
 use mathlib.Core.Path.{◌≡◌, refl, sym, ap, ◌∙◌}
 use Prim.Native.Nat.{ℕ, suc, ◌+◌, ◌-◌, ◌≤◌, ◌<◌}
 use mathlib.Core.Bool.{Bool, ◌&&◌}
-use mathlib.Core.List.{List, [], ◌∷◌}
+use mathlib.Core.List.{List, [], ◌∷◌, ◌++◌}
 use native.Mathlib.Omega.{arith}
 use native.Mathlib.Numerals.{add-one}
 use lib.Dec.{leb, eqb}
@@ -21,21 +21,21 @@ pair_at s i h =
     ap (λ l. byte_at s i ∷ l) (drop-cons s (i + 1) 0 (omega arith)) ∙
     ap (λ n. byte_at s i ∷ byte_at s (i + 1) ∷ drop n s) two
 
--- Taking a pair into the table.
-pub table_goes_on : (s : List ℕ) (i : ℕ) (table : List ℕ) → 2 ≤ length s - i →
-    with_pairs (drop (i + 2) s) (set table (byte_at s i) (byte_at s (i + 1))) ≡ with_pairs (drop i s) table
+-- Taking a pair into the table, by a walk that takes a pair of the list at a time.
+pub table_turn : (pair rest table : List ℕ) {all : List ℕ} → all ≡ pair ++ rest → length pair ≡ 2 →
+    with_pairs rest (set table (byte_at pair 0) (byte_at pair 1)) ≡ with_pairs all table
 unfolding with_pairs
-table_goes_on s i table h = sym (ap (λ l. with_pairs l table) (pair_at s i h))
+table_turn [] rest table e h = absurd (omega arith)
+table_turn (a ∷ []) rest table e h = absurd (omega arith)
+table_turn (a ∷ b ∷ []) rest table e h = sym (ap (λ l. with_pairs l table) e)
+table_turn (a ∷ b ∷ c ∷ pair) rest table e h = absurd (omega arith)
 
 -- fewer than two bytes are left
-short_table : (s table : List ℕ) → length s < 2 → table ≡ with_pairs s table
+pub short_table : (s table : List ℕ) → length s < 2 → table ≡ with_pairs s table
 unfolding with_pairs
 short_table [] table h = refl
 short_table (a ∷ []) table h = refl
 short_table (a ∷ b ∷ s) table h = absurd (omega arith)
-
-pub table_end : (s : List ℕ) (i : ℕ) (table : List ℕ) → length s - i < 2 → table ≡ with_pairs (drop i s) table
-table_end s i table h = let d = length-drop i s in short_table (drop i s) table (omega arith)
 
 -- Judging a pair: a turn's test, and what is left to judge.
 pub pairs_turn : (s : List ℕ) (i least : ℕ) {listed test : Bool} → 2 ≤ length s - i → listed ≡ is_listed (byte_at s (i + 1)) → leb least (byte_at s i) && listed ≡ test →

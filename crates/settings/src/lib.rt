@@ -71,11 +71,8 @@ pub fn table_of(section: &[u8]) -> [u8; rules::CODE_COUNT]
     ensures { result ≡ table_in section.now }
 {
     let mut table = [0u8; rules::CODE_COUNT];
-    let mut i = 0;
-    while PAIR_SIZE <= section.len() - i {
-        let code = section[i] as usize;
-        table[code] = section[i + 1];
-        i += PAIR_SIZE;
+    for pair in section.chunks_exact(PAIR_SIZE) {
+        table[pair[0] as usize] = pair[1];
     }
     table
 }

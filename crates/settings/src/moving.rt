@@ -12,7 +12,8 @@ use crate::{
     ATTRIBUTES_SECTION, CHARACTERISTICS_SECTION, FORM_1, FORM_2, LARGEST_READ_SECTION, SET_SECTION,
     is_sound,
 };
-use areas::{Written, put_byte, put_bytes, put_number, put_word};
+use areas::{put_byte, put_bytes, put_number, put_word};
+use rules::refusals::Refusal;
 
 fn other_form(form: u8) -> u8
     ensures { result ≡ rules.other_form form }
@@ -71,43 +72,30 @@ fn put_moved(form: u8, record: &[u8], area: &mut [u8]) -> usize
 }
 
 // The first refusal that applies, with the area untouched, else the record in the form.
-fn move_to(form: u8, record: &[u8], area: &mut [u8]) -> Written
+fn move_to(form: u8, record: &[u8], area: &mut [u8]) -> Result<usize, Refusal>
     ensures { InFront (rules.move form (length area.old) «record».now) area.old result area.new }
 {
     if area.len() < rules::MOVING_AREA {
-        return Written {
-            number: rules::SMALL_AREA,
-            len: 0,
-        };
+        return Err(Refusal::SmallArea);
     }
     if !is_movable(form, record) {
-        return Written {
-            number: rules::UNSOUND_RECORD,
-            len: 0,
-        };
+        return Err(Refusal::UnsoundRecord);
     }
     if top_largest_read(form) < largest_read_of(record) {
-        return Written {
-            number: rules::TOO_LARGE,
-            len: 0,
-        };
+        return Err(Refusal::TooLarge);
     }
-    let len = put_moved(form, record, area);
-    Written {
-        number: rules::ACCEPTED,
-        len,
-    }
+    Ok(put_moved(form, record, area))
 }
 
 // A record of form 2, in form 1.
-pub fn to_form_1(record: &[u8], area: &mut [u8]) -> Written
+pub fn to_form_1(record: &[u8], area: &mut [u8]) -> Result<usize, Refusal>
     ensures { InFront (rules.move form1 (length area.old) «record».now) area.old result area.new }
 {
     move_to(FORM_1, record, area)
 }
 
 // A record of form 1, in form 2.
-pub fn to_form_2(record: &[u8], area: &mut [u8]) -> Written
+pub fn to_form_2(record: &[u8], area: &mut [u8]) -> Result<usize, Refusal>
     ensures { InFront (rules.move form2 (length area.old) «record».now) area.old result area.new }
 {
     move_to(FORM_2, record, area)

@@ -53,16 +53,14 @@ pub(crate) fn are_whole(n: u8, sections: &[u8]) -> bool
     ensures { result ≡ are_whole n sections.now }
 {
     let mut rest = sections;
-    let mut left = n;
-    while 0 < left {
+    for _ in 0..n {
         let end = front_end(rest);
         if rest.len() < end {
             return false;
         }
         rest = &rest[end..];
-        left -= 1;
     }
-    rest.len() == 0
+    rest.is_empty()
 }
 
 // The section behind so many others.
@@ -70,11 +68,9 @@ fn section_behind(n: u8, sections: &[u8]) -> &[u8]
     ensures { result.now ≡ section_behind n sections.now }
 {
     let mut rest = sections;
-    let mut left = n;
-    while 0 < left {
+    for _ in 0..n {
         let end = kept_end(rest);
         rest = &rest[end..];
-        left -= 1;
     }
     front(rest)
 }

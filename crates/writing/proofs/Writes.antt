@@ -27,14 +27,15 @@ use Rattle.message.specs.declared.StartReadFields.{StartReadFields}
 use Rattle.message.specs.declared.Message.TheVariants.{Initiate, StartRead, ReadData, OutOfBand, Unread, ClearInput, Write}
 use Rattle.message.specs.declared.Message.TheVariants.{WriteCompletion, DiscardState, ReadCharacteristics, Characteristics}
 use Rattle.message.specs.declared.Message.TheVariants.{CheckInput, InputCount, InputState, Other}
-use Rattle.message.specs.declared.Found.{Found}
-use Rattle.message.specs.declared.Found.TheVariants as variants
 use Rattle.fields.specs.Spans.{span_of}
 use Rattle.message.specs.Found.{Finds, parameters_of, start_read_in, held_in, as_held, found_in, found_inside}
 use Rattle.parameters.specs.Lists.{sound_from}
 use Rattle.parameters.proofs.Shapes.{is_setting}
 use Rattle.message.proofs.Lists.{list_from}
-use Rattle.areas.specs.declared.Written.{Written}
+use Rattle.std.specs.Prelude.{Result, Ok}
+use Rattle.rules.specs.declared.refusals.Refusal.{Refusal}
+use Rattle.rules.specs.Refusals.{answered}
+use Rattle.areas.specs.InFront.{written as length_said}
 use Rattle.areas.specs.InFront.{InFront}
 use Rattle.areas.proofs.InFront.{answers_as_lem, answer_accepted, front_bytes_lem}
 use Rattle.fronts.specs.Front.{front_tail, front_bytes}
@@ -312,22 +313,22 @@ module _ (area : ℕ) (s : List ℕ) where
 
 -- What reading promises and what writing promises, together: the answer is that of copying, and what was written reads back as
 -- the same fields.
-module _ {s : List ℕ} {f : Found} (found : Finds s (as_held (read s)) f) {m : Message} (e : f ≡ variants.Message m) where
+module _ {s : List ℕ} {f : Result Message Refusal} (found : Finds s (as_held (read s)) f) {m : Message} (e : f ≡ Ok m) where
   writes_found : (area : ℕ) → copied area s ≡ writing area s m
   unfolding found_in found_inside
   writes_found area =
       copy_found area s (ap (found_in s) (sym e) ∙ found.fields) ∙
       sym (writing-inside area s m (all_inside (length s) m (ap (found_inside (length s)) (sym e) ∙ found.inside)))
 
-  module _ {before after : List ℕ} {r : Written} (w : InFront (writing (length before) s m) before r after) where
+  module _ {before after : List ℕ} {r : Result ℕ Refusal} (w : InFront (writing (length before) s m) before r after) where
     pub answers_again : InFront (copied (length before) s) before r after
     answers_again = answers_as_lem (writes_found (length before)) w
 
     abbrev wrote : List ℕ
-    wrote = take r.len after
+    wrote = take (length_said r) after
 
     abbrev Back : Type 0
-    Back = (r.number ≡ accepted) × ((g : Found) → Finds wrote (as_held (read wrote)) g → found_in wrote g ≡ found_in s f)
+    Back = (answered r ≡ accepted) × ((g : Result Message Refusal) → Finds wrote (as_held (read wrote)) g → found_in wrote g ≡ found_in s f)
 
     pub reads_back : all_bytes s ≡ true → message_area ≤ length before → Back
     unfolding found_in as_held

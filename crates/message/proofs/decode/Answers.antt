@@ -4,7 +4,9 @@ use mathlib.Core.Bool.{true, ◌&&◌}
 use lib.Dec.{leb}
 use Rattle.rules.specs.Messages.Codec.{read}
 use Rattle.rules.proofs.Numbers.{message_size_lem}
-use Rattle.message.specs.declared.Found.{Found}
+use Rattle.std.specs.Prelude.{Result}
+use Rattle.rules.specs.declared.refusals.Refusal.{Refusal}
+use Rattle.message.specs.declared.Message.{Message}
 use Rattle.message.specs.Found.{IsType, Finds, as_held, decoded_as}
 use Rattle.message.proofs.Decoding.{finds_refusal}
 use Rattle.message.proofs.Types.{undefined_kind, wrong_length_lem, wrong_type_lem, is_type, as_type}
@@ -16,7 +18,7 @@ module _ (b : After-byte_at-kind) {n : ℕ} (t : b.byte_at-kind.result ≡ n) wh
   of_type : IsType n b.args.s.now
   of_type = is_type b.args.s.now message_size_lem b.if-not-sized.false b.byte_at-kind.ensures t
 
-  as_read : leb 1 n && leb n 14 ≡ true → {f : Found} →
+  as_read : leb 1 n && leb n 14 ≡ true → {f : Result Message Refusal} →
       Finds b.args.s.now (decoded_as n b.args.s.now) f →
       Finds b.args.s.now (as_held (read b.args.s.now)) f
   as_read d found =

@@ -1,11 +1,11 @@
-use mathlib.Core.Path.{◌≡◌}
-use Prim.Native.Nat.{◌-◌, ◌≤◌}
-use lib.ListN.{length, drop}
+use Rattle.std.proofs.Common.{◌≡◌}
+use Rattle.std.specs.Slice.Iter.{chunks_exact_rest, chunks_exact_size}
 use Rattle.rules.specs.Settings.{table_in, with_pairs}
 use Rattle.settings.proofs.table_of.Given as goal
 
-abbrev pub invariant-loop-i : goal.invariant-loop-i
-invariant-loop-i l = (l.i ≤ length l.section) × (with_pairs (drop l.i l.section) l.table ≡ table_in l.section)
-
-abbrev pub decreases-loop-i : goal.decreases-loop-i
-decreases-loop-i l = length l.section - l.i
+abbrev pub invariant-loop-pair : goal.invariant-loop-pair
+invariant-loop-pair l =
+    (goal.iterator-loop-pair).can_next l.pair-iterator ×
+    (goal.iterator-loop-pair).is_finite l.pair-iterator ×
+    (chunks_exact_size l.pair-iterator ≡ 2) ×
+    (with_pairs (chunks_exact_rest l.pair-iterator) l.table ≡ table_in l.section)

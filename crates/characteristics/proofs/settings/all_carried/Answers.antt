@@ -1,20 +1,20 @@
-use mathlib.Core.Path.{sym, ◌∙◌}
-use native.Mathlib.Omega.{arith}
-use Rattle.characteristics.proofs.AllCarried.{all_stops, all_goes_on, all_end}
+use Rattle.std.proofs.Common.{sym, ◌∙◌}
+use Rattle.parameters.specs.Lists.{parameters_from}
+use Rattle.characteristics.proofs.AllCarried.{all_carried, all_stops, all_goes_on, all_end}
 use Rattle.characteristics.proofs.settings.all_carried.Goals as goal
 
 pub returns-then-not-is_carried : goal.returns-then-not-is_carried
 returns-then-not-is_carried c =
-    sym (all_stops c.parameter_at-p.ensures c.loop-at-test.true c.is_carried.ensures c.if-not-is_carried.true) ∙ c.loop-at.invariant
+    let step = c.in-Some.ensures.steps in
+    sym (all_stops step.2.1 step.2.0 c.is_carried.ensures c.if-not-is_carried.true) ∙ c.loop-p.invariant.2
 
-pub loop-at-smaller : goal.loop-at-smaller
-loop-at-smaller c = omega (arith, c.parameter_at-p.ensures.further c.loop-at-test.true)
-
-pub loop-at-preserved : goal.loop-at-preserved
-loop-at-preserved c =
-    all_goes_on c.parameter_at-p.ensures c.loop-at-test.true c.is_carried.ensures c.if-not-is_carried.false ∙ c.loop-at.invariant
+pub loop-p-preserved : goal.loop-p-preserved
+loop-p-preserved c =
+    let step = c.in-Some.ensures.steps in
+    let on = all_goes_on step.2.1 step.2.0 c.is_carried.ensures c.if-not-is_carried.false ∙ c.loop-p.invariant.2 in
+    (tt, tt, (λ i. all_carried (parameters_from (step.0 i) (step.2.2 i) (step.1 i))) ∙ on)
 
 pub returns : goal.returns
 returns c =
-    let a = c.args in
-    sym (all_end a.kind c.loop-at.at a.list.now c.loop-at-test.false) ∙ c.loop-at.invariant
+    let it = c.loop-p.p-iterator in
+    sym (all_end it.kind it.at it.list.now c.in-None.ensures.steps.2.0) ∙ c.loop-p.invariant.2

@@ -1,12 +1,11 @@
-use mathlib.Core.Path.{◌≡◌}
-use Prim.Native.Nat.{◌-◌}
-use lib.ListN.{length}
+use Rattle.std.proofs.Common.{◌≡◌}
 use Rattle.parameters.specs.Lists.{parameters_from}
 use Rattle.characteristics.proofs.AllCarried.{all_carried}
 use Rattle.characteristics.proofs.settings.all_carried.Given as goal
 
-abbrev pub invariant-loop-at : goal.invariant-loop-at
-invariant-loop-at l = all_carried (parameters_from l.kind l.at l.list) ≡ all_carried (parameters_from l.kind 0 l.list)
-
-abbrev pub decreases-loop-at : goal.decreases-loop-at
-decreases-loop-at l = length l.list - l.at
+abbrev pub invariant-loop-p : goal.invariant-loop-p
+invariant-loop-p l =
+    let it = l.p-iterator in
+    (goal.iterator-loop-p).can_next it ×
+    (goal.iterator-loop-p).is_finite it ×
+    (all_carried (parameters_from it.kind it.at it.list.now) ≡ all_carried (parameters_from l.kind 0 l.list))

@@ -1,4 +1,4 @@
-use mathlib.Core.Path.{sym, ap}
+use mathlib.Core.Path.{sym, ap, ◌∙◌}
 use mathlib.Core.Bool.{not}
 use Rattle.rules.specs.Choice.{first_row_answer}
 use Rattle.rules.proofs.Choice.{pick_true, pick-false}
@@ -11,4 +11,4 @@ returns-then-roomy c = sym (pick-false _ _ (ap not c.if-roomy.true))
 
 pub returns : goal.returns
 unfolding row_of first_row_answer
-returns c = sym (pick_true _ _ (ap not c.if-roomy.false))
+returns c = c.number.ensures ∙ sym (pick_true _ _ (ap not c.if-roomy.false))

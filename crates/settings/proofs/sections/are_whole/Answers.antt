@@ -1,18 +1,17 @@
-use mathlib.Core.Path.{sym, ◌∙◌}
-use native.Mathlib.Omega.{arith}
+use Rattle.std.proofs.Common.{◌≡◌, ◌-◌, ◌+◌, sym, ◌∙◌, arith}
 use Rattle.settings.proofs.Walk.{whole_stops, whole_goes_on, whole_end}
 use Rattle.settings.proofs.sections.are_whole.Goals as goal
 
 pub returns-then-rest-end : goal.returns-then-rest-end
 returns-then-rest-end c =
-    sym (whole_stops c.loop-left.left c.loop-left.rest.now c.loop-left-test.true c.front_end-end.ensures c.if-rest-end.true) ∙
-    c.loop-left.invariant
+    let left = c.args.n - c.loop.counter in
+    sym (whole_stops left c.loop.rest.now (omega arith) c.front_end-end.ensures c.if-rest-end.true) ∙ c.loop.invariant
 
-pub loop-left-preserved : goal.loop-left-preserved
-loop-left-preserved c =
-    whole_goes_on c.loop-left.left c.loop-left.rest.now (omega arith) c.front_end-end.ensures c.if-rest-end.false ∙
-    c.loop-left.invariant
+pub loop-preserved : goal.loop-preserved
+loop-preserved c =
+    let left = c.args.n - c.loop.counter in
+    let one : c.args.n - (c.loop.counter + 1) ≡ left - 1 = omega arith in
+    rw one (whole_goes_on left c.loop.rest.now (omega arith) c.front_end-end.ensures c.if-rest-end.false ∙ c.loop.invariant)
 
 pub returns : goal.returns
-returns c =
-    whole_end c.loop-left.left c.loop-left.rest.now (omega arith) ∙ c.loop-left.invariant
+returns c = c.is_empty.ensures ∙ whole_end (c.args.n - c.loop.counter) c.loop.rest.now (omega arith) ∙ c.loop.invariant

@@ -1,12 +1,12 @@
-use mathlib.Core.Path.{◌∙◌}
-use native.Mathlib.Omega.{arith}
+use Rattle.std.proofs.Common.{◌≡◌, ◌-◌, ◌+◌, ◌∙◌, arith}
 use Rattle.settings.proofs.Walk.{section_goes_on, section_end}
 use Rattle.settings.proofs.sections.section_behind.Goals as goal
 
-pub loop-left-preserved : goal.loop-left-preserved
-loop-left-preserved c =
-    section_goes_on c.loop-left.left c.loop-left.rest.now (omega arith) c.kept_end-end.ensures ∙ c.loop-left.invariant
+pub loop-preserved : goal.loop-preserved
+loop-preserved c =
+    let left = c.args.n - c.loop.counter in
+    let one : c.args.n - (c.loop.counter + 1) ≡ left - 1 = omega arith in
+    rw one (section_goes_on left c.loop.rest.now (omega arith) c.kept_end-end.ensures ∙ c.loop.invariant)
 
 pub returns : goal.returns
-returns c =
-    c.front.ensures ∙ section_end c.loop-left.left c.loop-left.rest.now (omega arith) ∙ c.loop-left.invariant
+returns c = c.front.ensures ∙ section_end (c.args.n - c.loop.counter) c.loop.rest.now (omega arith) ∙ c.loop.invariant

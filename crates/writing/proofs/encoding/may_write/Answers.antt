@@ -8,7 +8,7 @@ use Rattle.rules.specs.Messages.Codec.{write_refusals}
 use Rattle.rules.proofs.Choice.{pick_true, pick-false}
 use Rattle.rules.proofs.Numbers.{message_area_lem, message_size_lem}
 use Rattle.writing.specs.Writing.{first_refusal}
-use Rattle.writing.proofs.encoding.first_refusal.Goals as goal
+use Rattle.writing.proofs.encoding.may_write.Goals as goal
 
 pub returns-then-room-lt-MESSAGE_AREA : goal.returns-then-room-lt-MESSAGE_AREA
 unfolding first_refusal write_refusals first_row_answer
