@@ -9,8 +9,10 @@ use Rattle.rules.specs.State.{State, codes, with_terminal, with_screen}
 use Rattle.rules.specs.Turns.{Fate, Turn, Rule, still, writes, tells, changes, behind, ◌then◌, only}
 use Rattle.rules.specs.Calls.{message_bytes}
 use Rattle.rules.specs.Area.{puts, spot}
-use Rattle.screen.specs.declared.Shown.{Shown}
-use Rattle.screen.specs.View.{Writes}
+use Rattle.screen.specs.declared.display.Display.{Display}
+use Rattle.screen.specs.View.{Shows, screen_view}
+use Rattle.rules.specs.Screen.{shown_all}
+use lib.ListN.{length}
 use Rattle.rules.proofs.Area.{puts_append}
 use Rattle.line.specs.declared.Line.{Line}
 use Rattle.line.specs.declared.Work.{Work}
@@ -45,21 +47,27 @@ module _ {f g : Rule ℕ} {w v r : Progress} {t₀ t₁ t₂ m₀ m₁ m₂ : Li
         messages_length = b.messages_length ∙ a.messages_length;
       }
 
--- what was shown, as a rule
-module _ (w : Work) (s : Shown) {bs t t' : List ℕ} (c : CountedFlow w.flow) (h : Writes bs t w.at w.flow.terminal.screen s t') where
-  shown_does : (l : Line) (m : List ℕ) → Does (writes bs) (on l w) t m (on l (after_shown s w)) t' m
+-- what was shown, bytes by the column that it began at, as a rule
+module _ (w : Work) (bytes : ℕ → List ℕ) {old new : Display} {t t' : List ℕ} (c : CountedFlow w.flow)
+    (area : old.area.now ≡ t) (at : old.at ≡ w.at) (screen : old.screen ≡ w.flow.terminal.screen)
+    (h : Shows (bytes old.screen.column) old new) (last : new.area.now ≡ t') where
+  abbrev shown_bytes : List ℕ
+  shown_bytes = bytes w.flow.terminal.screen.column
+
+  shown_does : (l : Line) (m : List ℕ) → Does (writes shown_bytes) (on l w) t m (on l (after_shown new.at new.screen w)) t' m
   unfolding writes message_bytes joined puts
   shown_does l m =
+      let shown = h.screen ∙ ap (λ s. shown_all (screen_view s) (bytes s.column)) screen in
       record {
-        state = λ i. with_terminal (with_screen (h.screen i) (terminal_of w.flow.terminal)) (view (on_flow w.flow l));
-        shows = h.area;
+        state = λ i. with_terminal (with_screen (shown i) (terminal_of w.flow.terminal)) (view (on_flow w.flow l));
+        shows = ap (λ l. spot l new.at) (sym last) ∙ h.area ∙ ap₂ puts (ap (λ s. bytes s.column) screen) (ap₂ spot area at);
         sends = refl;
-        terminal_length = h.same;
+        terminal_length = ap length (sym last) ∙ h.same ∙ ap length area;
         messages_length = refl;
       }
 
-  pub writes_does : {r : Work} → r ≡ after_shown s w →
-      CountedFlow r.flow × ((l : Line) (m : List ℕ) → Does (writes bs) (on l w) t m (on l r) t' m)
+  pub writes_does : {r : Work} → r ≡ after_shown new.at new.screen w →
+      CountedFlow r.flow × ((l : Line) (m : List ℕ) → Does (writes shown_bytes) (on l w) t m (on l r) t' m)
   writes_does e = rw e (record { typed = c.typed; within = c.within }, shown_does)
 
 -- What a rule tells of fates does not show.
