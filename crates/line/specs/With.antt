@@ -1,6 +1,8 @@
 -- A line, or a call on its way, with one part changed, as the program changes it.
 use Rattle.std.specs.Prelude.{ℕ, true, false, List}
+use Rattle.std.specs.Borrow.{MutBor}
 use Rattle.screen.specs.declared.Screen.{Screen}
+use Rattle.screen.specs.declared.display.Display.{Display}
 use Rattle.line.specs.declared.Terminal.{Terminal}
 use Rattle.line.specs.declared.Terms.{Terms}
 use Rattle.line.specs.declared.Reading.{Reading}
@@ -32,6 +34,10 @@ on_read r f = record { terminal = f.terminal; typed = f.typed; pending = true; r
 
 abbrev pub off_read : Flow → Flow
 off_read f = record { terminal = f.terminal; typed = f.typed; pending = false; reading = f.reading }
+
+-- the terminal's area from a call's place on, with its screen
+abbrev pub display_of : MutBor (List ℕ) → Work → Display
+display_of area w = record { area = area; at = w.at; screen = w.flow.terminal.screen }
 
 -- the call goes on with another flow, behind what was shown, and behind what was sent
 abbrev pub goes_on : Flow → Work → Work

@@ -2,7 +2,7 @@
 ghost use Rattle.std.specs.Prelude.{ℕ, List, [], ◌∷◌, ◌≡◌};
 ghost use Rattle.rules.specs.Screen as rules;
 ghost use Rattle.rules.specs.Turns.{writes};
-ghost use Rattle.line.specs.With.{after_shown};
+ghost use Rattle.line.specs.With.{display_of, after_shown};
 ghost use Rattle.line.specs.declared.Line.{Line};
 ghost use Rattle.line.specs.Bounded.{CountedFlow};
 ghost use Rattle.line.specs.Promise.{on, Does};
@@ -14,10 +14,7 @@ use screen::display::Display;
 impl Work {
     // The terminal's area from here on, with the screen as it is.
     fn display<'a>(self, terminal: &'a mut [u8]) -> Display<'a>
-        ensures same_reference { result.area.ghost_name ≡ terminal.entry.ghost_name }
-        ensures area { result.area.now ≡ terminal.old }
-        ensures at { result.at ≡ self.at }
-        ensures screen { result.screen ≡ self.flow.terminal.screen }
+        ensures { result ≡ display_of terminal.entry self }
     {
         Display {
             area: terminal,
