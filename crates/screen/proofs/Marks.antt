@@ -1,5 +1,5 @@
 -- Marks and spaces: what they do to the column, and how many of them stand behind a text's first characters.
-use mathlib.Core.Path.{◌≡◌, refl, sym, ap, ap₂, ◌∙◌}
+use mathlib.Core.Path.{◌≡◌, refl, sym, ap, ◌∙◌}
 use Prim.Native.Nat.{ℕ, zero, suc, ◌+◌, ◌^◌, min, ◌≤◌, ◌<◌}
 use native.Mathlib.Omega.{arith}
 use mathlib.Core.Bool.{true, false}
@@ -7,6 +7,8 @@ use mathlib.Core.List.{List, [], ◌∷◌, ◌++◌, map}
 use lib.Dec.{eqb, eqb-suc-zero}
 use lib.ListN.{length, get_or, take, drop, replicate}
 use lib.ListN.{length-append, length-drop, take-append-drop}
+use lib.Seq.{take_all}
+use Rattle.std.proofs.lemmas.List.{drop_min, take_min}
 use borrow.Author.Tests.{leb-true}
 use Rattle.rules.specs.Choice.{pick, all_are, any_is}
 use Rattle.rules.specs.Numbers.{top_column}
@@ -116,26 +118,41 @@ pub first_kept : (kept : ℕ) (ns : List ℕ) → any_is is_tab (drop kept ns) �
 unfolding first_worked_out
 first_kept kept ns none = pick-false 0 kept none
 
--- What a count finds that starts behind the kept characters where a tab is deleted, and else at the text's own column.
-module _ (kept column : ℕ) (ns : List ℕ) {cursor marks : ℕ} {replayed deleted : List ℕ} (d : deleted ≡ drop kept ns)
-    (r : cursor ≡ reached column replayed) (m : marks ≡ capped (length (echo_all cursor deleted))) where
-  pub finds_replayed : any_is is_tab deleted ≡ true → replayed ≡ take kept ns →
-      Finds kept column ns (record { marks = marks; columns = length replayed + length deleted })
-  unfolding first_worked_out marks_behind
-  finds_replayed tab whole =
-      let first = pick_true 0 kept (sym (ap (any_is is_tab) d) ∙ tab) in
-      let at = r ∙ ap (reached column) whole in
-      let all = sym (length-append (take kept ns) (drop kept ns)) ∙ ap length (take-append-drop kept ns) in
-      record { marks = m ∙ ap₂ (λ k l. capped (length (echo_all k l))) at d; columns = omega (arith, ap length whole, ap length d) }
+-- What a count of the deleted characters' marks finds. It starts behind the kept characters where a tab is deleted, and else at the
+-- text's own column.
+module _ (kept column : ℕ) (ns : List ℕ) (cursor : ℕ) {at marks i : ℕ} {deleted : List ℕ} (a : at ≡ min kept (length ns))
+    (d : deleted ≡ drop at ns) (m : marks ≡ capped (length (echo_all cursor (take i deleted)))) (end : length deleted ≤ i) where
+  behind : deleted ≡ drop kept ns
+  behind = d ∙ ap (λ k. drop k ns) a ∙ drop_min kept ns
 
-  pub finds_skipped : any_is is_tab deleted ≡ false → replayed ≡ [] →
+  counted : (start : ℕ) → echo_all cursor deleted ≡ echo_all start deleted → marks ≡ capped (length (echo_all start (drop kept ns)))
+  counted start e =
+      m
+      ∙ ap (λ l. capped (length (echo_all cursor l))) (take_all i deleted end)
+      ∙ ap (λ l. capped (length l)) e
+      ∙ ap (λ l. capped (length (echo_all start l))) behind
+
+  pub finds_replayed : {replayed : List ℕ} → cursor ≡ reached column replayed → any_is is_tab deleted ≡ true →
+      replayed ≡ take at ns → Finds kept column ns (record { marks = marks; columns = length replayed + length deleted })
+  unfolding first_worked_out marks_behind
+  finds_replayed r tab front =
+      let first = pick_true 0 kept (sym (ap (any_is is_tab) behind) ∙ tab) in
+      let kept_text = front ∙ ap (λ k. take k ns) a ∙ take_min kept ns in
+      let all = sym (length-append (take kept ns) (drop kept ns)) ∙ ap length (take-append-drop kept ns) in
+      record {
+        marks = counted (reached column (take kept ns)) (ap (λ k. echo_all k deleted) (r ∙ ap (reached column) kept_text));
+        columns = omega (arith, ap length kept_text, ap length behind);
+      }
+
+  pub finds_skipped : {replayed : List ℕ} → any_is is_tab deleted ≡ false → replayed ≡ [] →
       Finds kept column ns (record { marks = marks; columns = length replayed + length deleted })
   unfolding marks_behind echo_all column_after_all
   finds_skipped none empty =
-      let first = first_kept kept ns (sym (ap (any_is is_tab) d) ∙ none) in
-      let same = echo_all_anywhere deleted none cursor (reached column (take kept ns)) in
-      let behind = ap (λ l. length (echo_all (reached column (take kept ns)) l)) d in
-      record { marks = m ∙ ap (λ l. capped (length l)) same ∙ ap capped behind; columns = omega (arith, ap length empty, ap length d, length-drop kept ns) }
+      let first = first_kept kept ns (sym (ap (any_is is_tab) behind) ∙ none) in
+      record {
+        marks = counted (reached column (take kept ns)) (echo_all_anywhere deleted none cursor (reached column (take kept ns)));
+        columns = omega (arith, ap length empty, ap length behind, length-drop kept ns);
+      }
 
 -- computed, because with every character called a tab all other laws would hold: a tab between two characters, 0 to 4 of them kept
 first_by_tab : map (λ kept. first_worked_out kept (0x61 ∷ HT ∷ 0x62 ∷ [])) (0 ∷ 1 ∷ 2 ∷ 3 ∷ 4 ∷ []) ≡ 0 ∷ 0 ∷ 2 ∷ 3 ∷ 4 ∷ []

@@ -17,7 +17,7 @@ pub struct Screen {
 
 // Marks and spaces to rub out, and how many columns were worked out to find them: one for each character whose width was
 // asked for.
-#[derive(Clone, Copy, PartialEq, Eq)]
+#[derive(Clone, Copy)]
 pub struct RubOut {
     pub marks: usize,
     pub columns: usize,

@@ -1,7 +1,5 @@
-use Rattle.std.proofs.Common.{◌≡◌, take, drop, refl, sym, ap, ◌∙◌, length}
-use Rattle.std.proofs.lemmas.List.{drop_min, take_min, take_all}
+use Rattle.std.proofs.Common.{refl, sym, ap, ◌∙◌, length}
 use Rattle.rules.specs.Screen.{column_after_all, echo_all}
-use Rattle.screen.specs.Marks.{capped}
 use Rattle.screen.proofs.Marks.{column_turn, marks_turn, finds_replayed, finds_skipped}
 use Rattle.screen.proofs.rub.find_marks.Goals as goal
 use Rattle.screen.proofs.rub.find_marks.Goals.{then-holds_tab, else-holds_tab}
@@ -24,16 +22,18 @@ loop-n-preserved c =
 
 pub returns : goal.returns
 returns c =
-    let text = c.args.text.now in
-    let found = c.column_behind_text-cursor.ensures in
-    let deleted : c.split_at.result.1.now ≡ drop c.args.kept text =
-    c.split_at.ensures.back ∙ ap (λ k. drop k text) c.min.ensures ∙ drop_min c.args.kept text in
-    let front : c.split_at.result.0.now ≡ take c.args.kept text =
-    c.split_at.ensures.front ∙ ap (λ k. take k text) c.min.ensures ∙ take_min c.args.kept text in
-    let marks = c.loop-n.invariant.1 ∙ ap (λ l. capped (length (echo_all c.column_behind_text-cursor.result l))) (take_all _ _ c.loop-n-test.false) in
+    let a = c.args in
+    let at = c.min.ensures in
+    let parts = c.split_at.ensures in
+    let cursor = c.column_behind_text-cursor in
+    let marks = c.loop-n.invariant.1 in
+    let end = c.loop-n-test.false in
+    let tab = sym c.holds_tab.ensures in
     elim c.if-holds_tab.branch [
       | then-holds_tab w ↦
-          finds_replayed c.args.kept c.args.column text deleted found marks (sym c.holds_tab.ensures ∙ w.if-holds_tab.true) (ap (λ s. s.now) w.replayed-is ∙ front)
+          let front = ap (λ s. s.now) w.replayed-is ∙ parts.front in
+          finds_replayed a.kept a.column a.text.now cursor.result at parts.back marks end cursor.ensures (tab ∙ w.if-holds_tab.true) front
       | else-holds_tab w ↦
-          finds_skipped c.args.kept c.args.column text deleted found marks (sym c.holds_tab.ensures ∙ w.if-holds_tab.false) (ap (λ s. s.now) w.replayed-is)
+          let none = ap (λ s. s.now) w.replayed-is in
+          finds_skipped a.kept a.column a.text.now cursor.result at parts.back marks end (tab ∙ w.if-holds_tab.false) none
     ]
