@@ -1,6 +1,7 @@
 -- Rules done one after the other, and what a rule that writes does.
 use mathlib.Core.Path.{◌≡◌, refl, sym, ap, ap₂, ◌∙◌}
 use Prim.Native.Nat.{ℕ}
+use Rattle.std.specs.Borrow.{MutBor}
 use mathlib.Core.List.{List, [], ◌∷◌, ◌++◌, map-append, append_assoc}
 use mathlib.Core.Bool.{Bool, true, false}
 use Rattle.rules.specs.Choice.{pick, joined}
@@ -9,14 +10,15 @@ use Rattle.rules.specs.State.{State, codes, with_terminal, with_screen}
 use Rattle.rules.specs.Turns.{Fate, Turn, Rule, still, writes, tells, changes, behind, ◌then◌, only}
 use Rattle.rules.specs.Calls.{message_bytes}
 use Rattle.rules.specs.Area.{puts, spot}
-use Rattle.screen.specs.declared.Shown.{Shown}
-use Rattle.screen.specs.View.{Writes}
+use Rattle.screen.specs.declared.display.Display.{Display}
+use Rattle.screen.specs.View.{Shows}
+use lib.ListN.{length}
 use Rattle.rules.proofs.Area.{puts_append}
 use Rattle.line.specs.declared.Line.{Line}
 use Rattle.line.specs.declared.Work.{Work}
 use Rattle.line.specs.View.{view, terminal_of}
 use Rattle.line.specs.Bounded.{CountedFlow}
-use Rattle.line.specs.With.{after_shown, on_flow}
+use Rattle.line.specs.With.{display_of, after_shown, on_flow}
 use Rattle.line.specs.Promise.{Progress, on, Does}
 
 joined_append : (xs ys : List (List ℕ)) → joined (xs ++ ys) ≡ joined xs ++ joined ys
@@ -45,22 +47,27 @@ module _ {f g : Rule ℕ} {w v r : Progress} {t₀ t₁ t₂ m₀ m₁ m₂ : Li
         messages_length = b.messages_length ∙ a.messages_length;
       }
 
--- what was shown, as a rule
-module _ (w : Work) (s : Shown) {bs t t' : List ℕ} (c : CountedFlow w.flow) (h : Writes bs t w.at w.flow.terminal.screen s t') where
-  shown_does : (l : Line) (m : List ℕ) → Does (writes bs) (on l w) t m (on l (after_shown s w)) t' m
+-- what was shown, bytes that go by the column they begin at, as a rule
+module _ (w : Work) (bytes : ℕ → List ℕ) {area : MutBor (List ℕ)} {old new : Display} {t : List ℕ} (c : CountedFlow w.flow)
+    (e : old ≡ display_of area w) (h : Shows (bytes old.screen.column) old new) (last : new.area.now ≡ t) where
+  abbrev shown_bytes : List ℕ
+  shown_bytes = bytes w.flow.terminal.screen.column
+
+  shown_does : (l : Line) (m : List ℕ) → Does (writes shown_bytes) (on l w) area.now m (on l (after_shown new.at new.screen w)) t m
   unfolding writes message_bytes joined puts
   shown_does l m =
+      let shown : Shows shown_bytes (display_of area w) new = rw e at h in
       record {
-        state = λ i. with_terminal (with_screen (h.screen i) (terminal_of w.flow.terminal)) (view (on_flow w.flow l));
-        shows = h.area;
+        state = λ i. with_terminal (with_screen (shown.screen i) (terminal_of w.flow.terminal)) (view (on_flow w.flow l));
+        shows = ap (λ l. spot l new.at) (sym last) ∙ shown.area;
         sends = refl;
-        terminal_length = h.same;
+        terminal_length = ap length (sym last) ∙ shown.same;
         messages_length = refl;
       }
 
-  pub writes_does : {r : Work} → r ≡ after_shown s w →
-      CountedFlow r.flow × ((l : Line) (m : List ℕ) → Does (writes bs) (on l w) t m (on l r) t' m)
-  writes_does e = rw e (record { typed = c.typed; within = c.within }, shown_does)
+  pub writes_does : {r : Work} → r ≡ after_shown new.at new.screen w →
+      CountedFlow r.flow × ((l : Line) (m : List ℕ) → Does (writes shown_bytes) (on l w) area.now m (on l r) t m)
+  writes_does s = rw s (record { typed = c.typed; within = c.within }, shown_does)
 
 -- What a rule tells of fates does not show.
 module _ {g : Rule ℕ} {w r : Progress} {t t' m m' : List ℕ} where

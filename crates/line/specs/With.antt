@@ -1,7 +1,8 @@
 -- A line, or a call on its way, with one part changed, as the program changes it.
 use Rattle.std.specs.Prelude.{ℕ, true, false, List}
+use Rattle.std.specs.Borrow.{MutBor}
 use Rattle.screen.specs.declared.Screen.{Screen}
-use Rattle.screen.specs.declared.Shown.{Shown}
+use Rattle.screen.specs.declared.display.Display.{Display}
 use Rattle.line.specs.declared.Terminal.{Terminal}
 use Rattle.line.specs.declared.Terms.{Terms}
 use Rattle.line.specs.declared.Reading.{Reading}
@@ -34,13 +35,17 @@ on_read r f = record { terminal = f.terminal; typed = f.typed; pending = true; r
 abbrev pub off_read : Flow → Flow
 off_read f = record { terminal = f.terminal; typed = f.typed; pending = false; reading = f.reading }
 
+-- the terminal's area from a call's place on, with its screen
+abbrev pub display_of : MutBor (List ℕ) → Work → Display
+display_of area w = record { area = area; at = w.at; screen = w.flow.terminal.screen }
+
 -- the call goes on with another flow, behind what was shown, and behind what was sent
 abbrev pub goes_on : Flow → Work → Work
 goes_on f w = record { flow = f; at = w.at; sent = w.sent }
 
-abbrev pub after_shown : Shown → Work → Work
-after_shown s w =
-    record { flow = on_terminal (on_screen s.screen w.flow.terminal) w.flow; at = s.at; sent = w.sent }
+abbrev pub after_shown : ℕ → Screen → Work → Work
+after_shown at s w =
+    record { flow = on_terminal (on_screen s w.flow.terminal) w.flow; at = at; sent = w.sent }
 
 abbrev pub after_sent : ℕ → Work → Work
 after_sent n w = record { flow = w.flow; at = w.at; sent = n }

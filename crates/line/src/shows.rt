@@ -2,29 +2,34 @@
 ghost use Rattle.std.specs.Prelude.{ℕ, List, [], ◌∷◌, ◌≡◌};
 ghost use Rattle.rules.specs.Screen as rules;
 ghost use Rattle.rules.specs.Turns.{writes};
-ghost use Rattle.line.specs.With.{after_shown};
+ghost use Rattle.line.specs.With.{display_of, after_shown};
 ghost use Rattle.line.specs.declared.Line.{Line};
 ghost use Rattle.line.specs.Bounded.{CountedFlow};
 ghost use Rattle.line.specs.Promise.{on, Does};
 
 use crate::Work;
-use screen::Shown;
+use screen::Screen;
+use screen::display::Display;
 
 impl Work {
-    // With the screen as it then is.
-    fn showing(self, s: Shown) -> Work
-        ensures { result ≡ after_shown s self }
+    // The terminal's area from here on, with the screen as it is.
+    fn display<'a>(self, terminal: &'a mut [u8]) -> Display<'a>
+        ensures { result ≡ display_of terminal.entry self }
+    {
+        Display {
+            area: terminal,
+            at: self.at,
+            screen: self.flow.terminal.screen,
+        }
+    }
+
+    // Behind what was shown, with the screen as it then is.
+    fn showing(self, at: usize, screen: Screen) -> Work
+        ensures { result ≡ after_shown at screen self }
     {
         let mut flow = self.flow;
-        let mut terminal = flow.terminal;
-        let screen = s.screen;
-        terminal.screen = screen;
-        flow.terminal = terminal;
-        Work {
-            flow,
-            at: s.at,
-            sent: self.sent,
-        }
+        flow.terminal.screen = screen;
+        Work { flow, at, ..self }
     }
 
     // The bytes of a text, raw.
@@ -33,12 +38,9 @@ impl Work {
         ensures counted { CountedFlow result.flow }
         ensures rule { (l : Line) (m : List ℕ) → Does (writes text.now) (on l self) terminal.old m (on l result) terminal.new m }
     {
-        let flow = self.flow;
-        let known = flow.terminal;
-        let screen = known.screen;
-        let at = self.at;
-        let shown = screen::put::write(screen, terminal, at, text);
-        self.showing(shown)
+        let mut display = self.display(terminal);
+        display.write(text);
+        self.showing(display.at, display.screen)
     }
 
     // One byte.
@@ -47,12 +49,9 @@ impl Work {
         ensures counted { CountedFlow result.flow }
         ensures rule { (l : Line) (m : List ℕ) → Does (writes (b ∷ [])) (on l self) terminal.old m (on l result) terminal.new m }
     {
-        let flow = self.flow;
-        let known = flow.terminal;
-        let screen = known.screen;
-        let at = self.at;
-        let shown = screen::put::put(screen, terminal, at, b);
-        self.showing(shown)
+        let mut display = self.display(terminal);
+        display.put(b);
+        self.showing(display.at, display.screen)
     }
 
     // A character's echo.
@@ -62,12 +61,9 @@ impl Work {
         ensures rule { (l : Line) (m : List ℕ) →
             Does (writes (rules.echo self.flow.terminal.screen.column n)) (on l self) terminal.old m (on l result) terminal.new m }
     {
-        let flow = self.flow;
-        let known = flow.terminal;
-        let screen = known.screen;
-        let at = self.at;
-        let shown = screen::echo::echo(screen, terminal, at, n);
-        self.showing(shown)
+        let mut display = self.display(terminal);
+        display.echo(n);
+        self.showing(display.at, display.screen)
     }
 
     // A terminator's echo.
@@ -77,12 +73,9 @@ impl Work {
         ensures rule { (l : Line) (m : List ℕ) →
             Does (writes (rules.echo_terminator self.flow.terminal.screen.column n)) (on l self) terminal.old m (on l result) terminal.new m }
     {
-        let flow = self.flow;
-        let known = flow.terminal;
-        let screen = known.screen;
-        let at = self.at;
-        let shown = screen::echo::echo_terminator(screen, terminal, at, n);
-        self.showing(shown)
+        let mut display = self.display(terminal);
+        display.echo_terminator(n);
+        self.showing(display.at, display.screen)
     }
 
     // A text's echo.
@@ -93,12 +86,9 @@ impl Work {
             Does (writes (rules.echo_all self.flow.terminal.screen.column text.now)) (on l self) terminal.old m (on l result)
             terminal.new m }
     {
-        let flow = self.flow;
-        let known = flow.terminal;
-        let screen = known.screen;
-        let at = self.at;
-        let shown = screen::echo::echo_all(screen, terminal, at, text);
-        self.showing(shown)
+        let mut display = self.display(terminal);
+        display.echo_all(text);
+        self.showing(display.at, display.screen)
     }
 
     // Blanks over so many marks.
@@ -107,11 +97,8 @@ impl Work {
         ensures counted { CountedFlow result.flow }
         ensures rule { (l : Line) (m : List ℕ) → Does (writes (rules.rub_out marks)) (on l self) terminal.old m (on l result) terminal.new m }
     {
-        let flow = self.flow;
-        let known = flow.terminal;
-        let screen = known.screen;
-        let at = self.at;
-        let shown = screen::rub::rub_out(screen, terminal, at, marks);
-        self.showing(shown)
+        let mut display = self.display(terminal);
+        display.rub_out(marks);
+        self.showing(display.at, display.screen)
     }
 }

@@ -3,3 +3,4 @@ mod Cases
 pub mod Echoes
 mod Written
 pub mod Marks
+mod AnyOf

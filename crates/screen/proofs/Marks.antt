@@ -1,22 +1,23 @@
 -- Marks and spaces: what they do to the column, and how many of them stand behind a text's first characters.
 use mathlib.Core.Path.{◌≡◌, refl, sym, ap, ◌∙◌}
-use Prim.Native.Nat.{ℕ, zero, suc, ◌+◌, ◌-◌, ◌^◌, min, ◌≤◌, ◌<◌}
+use Prim.Native.Nat.{ℕ, zero, suc, ◌+◌, ◌^◌, min, ◌≤◌, ◌<◌}
 use native.Mathlib.Omega.{arith}
 use mathlib.Core.Bool.{true, false}
 use mathlib.Core.List.{List, [], ◌∷◌, ◌++◌, map}
 use lib.Dec.{eqb, eqb-suc-zero}
 use lib.ListN.{length, get_or, take, drop, replicate}
-use lib.ListN.{length-append, length-take, length-drop, take-append-drop, drop_of_length-le}
-use lib.Seq.{take-take}
+use lib.ListN.{length-append, length-drop, take-append-drop}
+use lib.Seq.{take_all}
+use Rattle.std.proofs.lemmas.List.{drop_min, take_min}
 use borrow.Author.Tests.{leb-true}
 use Rattle.rules.specs.Choice.{pick, all_are, any_is}
 use Rattle.rules.specs.Numbers.{top_column}
 use Rattle.rules.specs.Screen.{HT, SP, is_mark, to_tab, column_after, column_after_all, echo, echo_all, marks_behind}
 use Rattle.rules.proofs.Choice.{pick_true, pick-false, pick_case, within-true, both, or_none, all_cons}
 use Rattle.rules.proofs.Bounds.Screen.{echo_all-length}
-use Rattle.screen.specs.Marks.{capped, is_tab, first_worked_out}
+use Rattle.screen.specs.Marks.{capped, is_tab, first_worked_out, Finds}
 use Rattle.screen.proofs.Cases.{column_mark}
-use Rattle.screen.proofs.Echoes.{column_after_all_append, echo_all_append, echo_all_more}
+use Rattle.screen.proofs.Echoes.{column_after_all_append, echo_all_more}
 
 -- An echo is marks and spaces.
 low_mark : (b : ℕ) → 32 ≤ b → b ≤ 126 → is_mark b ≡ true
@@ -70,23 +71,7 @@ echo_column column n width e = rw e (marks_after column (echo column n) (echo_ma
 abbrev pub reached : ℕ → List ℕ → ℕ
 reached column ns = column_after_all column (echo_all column ns)
 
--- the marks of a text are those of its first characters and those behind them
-marks_split : (kept column : ℕ) (ns : List ℕ) →
-    length (echo_all column ns) ≡ length (echo_all column (take kept ns)) + marks_behind kept column ns
-unfolding marks_behind
-marks_split kept column ns =
-    ap (λ l. length (echo_all column l)) (sym (take-append-drop kept ns))
-    ∙ ap length (echo_all_append (take kept ns) (drop kept ns) column)
-    ∙ length-append (echo_all column (take kept ns)) (echo_all (reached column (take kept ns)) (drop kept ns))
-
--- none stands behind the first characters of a text that has no more
-pub marks_none : (kept column : ℕ) (text : List ℕ) (i : ℕ) → i ≤ kept → marks_behind kept column (take i text) ≡ 0
-unfolding marks_behind echo_all
-marks_none kept column text i h =
-    let short : length (take i text) ≤ kept = omega (arith, length-take i text) in
-    rw (drop_of_length-le (take i text) short)
-
--- A turn of the count, over one more character: the column behind it, and the marks where it is not kept and where it is.
+-- A turn of the count, over one more character: the column behind it, and the marks.
 module _ (column : ℕ) (text : List ℕ) (i : ℕ) (inside : i < length text) where
   abbrev here : ℕ
   here = reached column (take i text)
@@ -104,25 +89,13 @@ module _ (column : ℕ) (text : List ℕ) (i : ℕ) (inside : i < length text) w
         ∙ sym (ap (column_after_all column) (echo_all_more column text i inside)
         ∙ column_after_all_append (echo_all column (take i text)) (echo here next) column)
 
-    pub marks_turn : (kept : ℕ) {marks after : ℕ} → kept ≤ i → marks ≡ capped (marks_behind kept column (take i text)) →
-        after ≡ capped (marks + more) → after ≡ capped (marks_behind kept column (take (i + 1) text))
-    marks_turn kept k m e =
-        let before = marks_split kept column (take i text) in
-        let behind = marks_split kept column (take (i + 1) text) in
-        let front = take-take kept (i + 1) text (omega arith) ∙ sym (take-take kept i text k) in
-        let fronts = ap (λ l. length (echo_all column l)) front in
+    pub marks_turn : {marks after : ℕ} → marks ≡ capped (length (echo_all column (take i text))) → after ≡ capped (marks + more) →
+        after ≡ capped (length (echo_all column (take (i + 1) text)))
+    marks_turn m e =
         let whole = ap length (echo_all_more column text i inside) in
         let parts = length-append (echo_all column (take i text)) (echo here next) in
         let width = w ∙ ap (λ c. length (echo c next)) n in
         omega arith
-
-pub kept_turn : (kept column : ℕ) (text : List ℕ) (i : ℕ) {marks after : ℕ} → i < kept →
-    marks ≡ capped (marks_behind kept column (take i text)) → after ≡ marks →
-    after ≡ capped (marks_behind kept column (take (i + 1) text))
-kept_turn kept column text i k m e =
-    let before = marks_none kept column text i (omega arith) in
-    let still = marks_none kept column text (i + 1) (omega arith) in
-    omega arith
 
 -- Only a tab's echo depends on its column: a text without one echoes the same at any column.
 echo_anywhere : (c d n : ℕ) → is_tab n ≡ false → echo c n ≡ echo d n
@@ -137,19 +110,6 @@ echo_all_anywhere (n ∷ ns) none c d =
     ap (λ l. l ++ echo_all (column_after_all c (echo c n)) ns) (echo_anywhere c d n h.0)
     ∙ ap (λ l. echo d n ++ l) (echo_all_anywhere ns h.1 (column_after_all c (echo c n)) (column_after_all d (echo d n)))
 
--- so the marks from the first character on whose column is worked out are all the marks
-pub found_behind : (kept column : ℕ) (ns : List ℕ) →
-    marks_behind (kept - first_worked_out kept ns) column (drop (first_worked_out kept ns) ns) ≡ marks_behind kept column ns
-unfolding first_worked_out marks_behind
-found_behind kept column ns =
-    let zero_left : kept - 0 ≡ kept = omega arith in
-    let none_left : kept - kept ≡ 0 = omega arith in
-    pick_case (λ first. marks_behind (kept - first) column (drop first ns) ≡ marks_behind kept column ns) _ {a = 0} {b = kept}
-    (λ _. ap (λ k. marks_behind k column ns) zero_left)
-    (λ none.
-    ap (λ k. marks_behind k column (drop kept ns)) none_left
-    ∙ ap length (echo_all_anywhere (drop kept ns) none (reached column []) (reached column (take kept ns))))
-
 pub first_within : (kept : ℕ) (ns : List ℕ) → first_worked_out kept ns ≤ kept
 unfolding first_worked_out
 first_within kept ns = pick_case (λ first. first ≤ kept) _ (λ _. omega arith) (λ _. omega arith)
@@ -157,6 +117,42 @@ first_within kept ns = pick_case (λ first. first ≤ kept) _ (λ _. omega arith
 pub first_kept : (kept : ℕ) (ns : List ℕ) → any_is is_tab (drop kept ns) ≡ false → first_worked_out kept ns ≡ kept
 unfolding first_worked_out
 first_kept kept ns none = pick-false 0 kept none
+
+-- What a count of the deleted characters' marks finds. It starts behind the kept characters where a tab is deleted, and else at the
+-- text's own column.
+module _ (kept column : ℕ) (ns : List ℕ) (cursor : ℕ) {at marks i : ℕ} {deleted : List ℕ} (a : at ≡ min kept (length ns))
+    (d : deleted ≡ drop at ns) (m : marks ≡ capped (length (echo_all cursor (take i deleted)))) (end : length deleted ≤ i) where
+  behind : deleted ≡ drop kept ns
+  behind = d ∙ ap (λ k. drop k ns) a ∙ drop_min kept ns
+
+  counted : (start : ℕ) → echo_all cursor deleted ≡ echo_all start deleted → marks ≡ capped (length (echo_all start (drop kept ns)))
+  counted start e =
+      m
+      ∙ ap (λ l. capped (length (echo_all cursor l))) (take_all i deleted end)
+      ∙ ap (λ l. capped (length l)) e
+      ∙ ap (λ l. capped (length (echo_all start l))) behind
+
+  pub finds_replayed : {replayed : List ℕ} → cursor ≡ reached column replayed → any_is is_tab deleted ≡ true →
+      replayed ≡ take at ns → Finds kept column ns (record { marks = marks; columns = length replayed + length deleted })
+  unfolding first_worked_out marks_behind
+  finds_replayed r tab front =
+      let first = pick_true 0 kept (sym (ap (any_is is_tab) behind) ∙ tab) in
+      let kept_text = front ∙ ap (λ k. take k ns) a ∙ take_min kept ns in
+      let all = sym (length-append (take kept ns) (drop kept ns)) ∙ ap length (take-append-drop kept ns) in
+      record {
+        marks = counted (reached column (take kept ns)) (ap (λ k. echo_all k deleted) (r ∙ ap (reached column) kept_text));
+        columns = omega (arith, ap length kept_text, ap length behind);
+      }
+
+  pub finds_skipped : {replayed : List ℕ} → any_is is_tab deleted ≡ false → replayed ≡ [] →
+      Finds kept column ns (record { marks = marks; columns = length replayed + length deleted })
+  unfolding marks_behind echo_all column_after_all
+  finds_skipped none empty =
+      let first = first_kept kept ns (sym (ap (any_is is_tab) behind) ∙ none) in
+      record {
+        marks = counted (reached column (take kept ns)) (echo_all_anywhere deleted none cursor (reached column (take kept ns)));
+        columns = omega (arith, ap length empty, ap length behind, length-drop kept ns);
+      }
 
 -- computed, because with every character called a tab all other laws would hold: a tab between two characters, 0 to 4 of them kept
 first_by_tab : map (λ kept. first_worked_out kept (0x61 ∷ HT ∷ 0x62 ∷ [])) (0 ∷ 1 ∷ 2 ∷ 3 ∷ 4 ∷ []) ≡ 0 ∷ 0 ∷ 2 ∷ 3 ∷ 4 ∷ []

@@ -1,6 +1,10 @@
+use Rattle.std.proofs.Common.{rules, ℕ}
+use Rattle.rules.specs.Screen.{echo_all}
 use Rattle.line.proofs.Turns.{writes_does}
 use Rattle.line.proofs.Work.echo_all.Goals as goal
 
 pub returns : goal.returns
 returns c =
-    let whole = writes_does c.args.self c.echo_all-shown.result c.requires c.echo_all-shown.ensures c.showing.ensures in record { counted = whole.0; rule = whole.1 }
+    let shown = λ (k : ℕ). echo_all k c.args.text.now in
+    let whole = writes_does c.args.self shown c.requires c.display-display.ensures c.echo_all.ensures (search rules) c.showing.ensures in
+    record { counted = whole.0; rule = whole.1 }

@@ -1,6 +1,10 @@
+use Rattle.std.proofs.Common.{rules, ℕ}
+use Rattle.rules.specs.Screen.{echo_terminator}
 use Rattle.line.proofs.Turns.{writes_does}
 use Rattle.line.proofs.Work.echo_terminator.Goals as goal
 
 pub returns : goal.returns
 returns c =
-    let whole = writes_does c.args.self c.echo_terminator-shown.result c.requires c.echo_terminator-shown.ensures c.showing.ensures in record { counted = whole.0; rule = whole.1 }
+    let shown = λ (k : ℕ). echo_terminator k c.args.n in
+    let whole = writes_does c.args.self shown c.requires c.display-display.ensures c.echo_terminator.ensures (search rules) c.showing.ensures in
+    record { counted = whole.0; rule = whole.1 }

@@ -1,6 +1,10 @@
+use Rattle.std.proofs.Common.{rules, ℕ}
+use Rattle.rules.specs.Screen.{rub_out}
 use Rattle.line.proofs.Turns.{writes_does}
 use Rattle.line.proofs.Work.rub_out.Goals as goal
 
 pub returns : goal.returns
 returns c =
-    let whole = writes_does c.args.self c.rub_out-shown.result c.requires c.rub_out-shown.ensures c.showing.ensures in record { counted = whole.0; rule = whole.1 }
+    let shown = λ (_ : ℕ). rub_out c.args.marks in
+    let whole = writes_does c.args.self shown c.requires c.display-display.ensures c.rub_out.ensures (search rules) c.showing.ensures in
+    record { counted = whole.0; rule = whole.1 }
