@@ -21,7 +21,6 @@ use Rattle.rules.proofs.Bounds.Sent.{framed-length}
 use Rattle.parameters.specs.declared.Parameter.{Parameter}
 use Rattle.parameters.specs.Lists.{ParameterIs, shape_of, parameter_at, parameters_from, used_at}
 use Rattle.parameters.proofs.Shapes.{parameters_end}
-use Rattle.parameters.specs.Lists.{setting_bytes}
 use Rattle.writing.proofs.Settings.{selector_bytes}
 use Rattle.characteristics.specs.Lists.{questions_in, answers_from, answer_to}
 use Rattle.characteristics.proofs.AllCarried.{all_carried}
@@ -46,15 +45,13 @@ module _ {at : ℕ} {s : List ℕ} {p : Parameter} (is : ParameterIs 10 at s p) 
   own_selector = ap (bytes_of 2) is.selected ∙ selector_bytes (shape_of 10) (parameter_at 10 at s)
 
   pub attribute_answer : p.selector ≡ character_attributes → {a : ℕ} → a ≡ get_or h.attributes p.first 0 →
-      setting_bytes p.selector p.first 127 a 3 ≡ reported h here
-  unfolding setting_bytes
+      bytes_of 2 p.selector ++ (p.first ∷ 127 ∷ a ∷ []) ≡ reported h here
   attribute_answer n {a} e =
       let a' = e ∙ ap (λ k. get_or h.attributes k 0) is.one in
       (λ i. own_selector i ++ (is.one i ∷ 127 ∷ a' i ∷ [])) ∙ sym (reports_attribute h here (sym is.selected ∙ n))
 
   pub switch_answer : (p.selector ≡ character_attributes → ⊥) → {v : ℕ} → v ≡ bit (switch_of p.selector h.switches) →
-      setting_bytes p.selector v 0 0 1 ≡ reported h here
-  unfolding setting_bytes
+      bytes_of 2 p.selector ++ (v ∷ []) ≡ reported h here
   switch_answer n e =
       let v' = e ∙ ap (λ k. bit (switch_of k h.switches)) is.selected in
       (λ i. own_selector i ++ (v' i ∷ [])) ∙ sym (reports_switch h here (λ k. n (is.selected ∙ k)))

@@ -8,15 +8,16 @@ ghost use Rattle.rules.specs.State.{State, with_host};
 ghost use Rattle.rules.specs.Characteristics.{switch_of, reported};
 ghost use Rattle.rules.specs.Calls.{carries_questions};
 ghost use Rattle.parameters.specs.Lists.{ParameterIs, used_at};
-ghost use Rattle.areas.specs.Puts.{Puts};
+ghost use Rattle.areas.specs.Writes.{Writes};
 ghost use Rattle.characteristics.specs.View.{switches_of, host_view};
 ghost use Rattle.characteristics.specs.Lists.{longest_answer, questions_in, answers_from, answer_to, report_bytes};
 
 use crate::settings::{all_carried, chosen};
 use crate::{Host, Switches};
+use areas::Writer;
 use fields::Span;
 use message::Message;
-use parameters::Parameter;
+use parameters::{Parameter, Parameters, put_setting};
 use rules::{bits, forms, selectors};
 
 // Bytes of an answer for character attributes, and of a switch.
@@ -24,10 +25,8 @@ const ATTRIBUTE_ANSWER: usize = parameters::HEAD + parameters::LONGEST_VALUE;
 
 const SWITCH_ANSWER: usize = parameters::HEAD + SWITCH_VALUE;
 
-// A switch's value has one byte; the others are handed on as 0.
+// A switch's value has one byte.
 const SWITCH_VALUE: usize = 1;
-
-const NO_BYTE: u8 = 0;
 
 // Bytes in front of the answers: the message's length, MSGTYPE and FLAGS.
 const FRAMED_HEADER: usize = forms::WORD_BYTES as usize + forms::BARE_HEADER as usize;
@@ -47,14 +46,11 @@ fn report_size(list: &[u8]) -> usize
     ensures { (h : rules.Host) → result ≡ min (message_area + 1) (length (answer_to list.now h)) }
 {
     let mut size = FRAMED_HEADER;
-    let mut at = 0;
-    while at < list.len() {
-        let p = parameters::parameter_at(rules::READ_CHARACTERISTICS, list, at);
+    for p in Parameters::new(rules::READ_CHARACTERISTICS, list) {
         size += size_of_one(p.selector);
         if rules::MESSAGE_AREA < size {
             return rules::MESSAGE_AREA + 1;
         }
-        at = p.next;
     }
     size
 }
@@ -86,54 +82,40 @@ impl Host {
     }
 
     // The answer to one question: CHARACTER, a MASK of the seven used bits and ATTRIBUTES, or a switch.
-    fn put_answer(self, p: Parameter, area: &mut [u8], at: usize) -> usize
+    fn put_answer(self, p: Parameter, w: &mut Writer)
         ensures { (i : ℕ) (s : List ℕ) → ParameterIs read_characteristics i s p →
-            Puts (reported (host_view self) (used_at read_characteristics i s)) area.old at result area.new }
+            Writes (reported (host_view self) (used_at read_characteristics i s)) w.old w.new }
     {
         if p.selector == selectors::CHARACTER_ATTRIBUTES {
             let attributes = self.attribute(p.first);
-            return parameters::put_setting(
-                p.selector,
-                p.first,
-                bits::WHOLE_MASK,
-                attributes,
-                parameters::LONGEST_VALUE,
-                area,
-                at,
-            );
+            return put_setting(p.selector, &[p.first, bits::WHOLE_MASK, attributes], w);
         }
-        let switches = self.switches;
-        let value = fields::bit_of(switches.value(p.selector));
-        parameters::put_setting(p.selector, value, NO_BYTE, NO_BYTE, SWITCH_VALUE, area, at)
+        let value = fields::bit_of(self.switches.value(p.selector));
+        put_setting(p.selector, &[value], w);
     }
 
     // The answers to all questions, in order.
-    fn put_answers(self, list: &[u8], area: &mut [u8], at: usize) -> usize
-        ensures { Puts (answers_from 0 list.now (host_view self)) area.old at result area.new }
+    fn put_answers(self, list: &[u8], w: &mut Writer)
+        ensures { Writes (answers_from 0 list.now (host_view self)) w.old w.new }
     {
-        let mut next = at;
-        let mut i = 0;
-        while i < list.len() {
-            let p = parameters::parameter_at(rules::READ_CHARACTERISTICS, list, i);
-            next = self.put_answer(p, area, next);
-            i = p.next;
+        for p in Parameters::new(rules::READ_CHARACTERISTICS, list) {
+            self.put_answer(p, w);
         }
-        next
     }
 
     // The answer behind its length where it is carried; else nothing.
-    pub fn put_report(self, list: &[u8], area: &mut [u8], at: usize) -> usize
-        ensures { Puts (report_bytes (host_view self) list.now) area.old at result area.new }
+    pub fn put_report(self, list: &[u8], w: &mut Writer)
+        ensures { Writes (report_bytes (host_view self) list.now) w.old w.new }
     {
         if !self.carries_questions(list) {
-            return at;
+            return;
         }
         let size = report_size(list);
         let parameters = Span {
             start: 0,
             len: (size - FRAMED_HEADER) as u16,
         };
-        let next = writing::put_framed(Message::Characteristics { parameters }, list, area, at);
-        self.put_answers(list, area, next)
+        writing::put_framed(Message::Characteristics { parameters }, list, w);
+        self.put_answers(list, w);
     }
 }

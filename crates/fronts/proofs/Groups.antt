@@ -9,7 +9,8 @@ use Rattle.rules.specs.Messages.Layout.{Group, flags, byte, byte_at, fields_in, 
 use Rattle.message.specs.declared.Message.{Message}
 use Rattle.message.specs.Found.{held_in}
 use Rattle.fields.proofs.Numbers.{byte_behind}
-use Rattle.areas.specs.Puts.{Puts}
+use Rattle.areas.specs.Writes.{Writes}
+use Rattle.areas.specs.declared.Writer.{Writer}
 use Rattle.fronts.specs.Front.{front_bytes}
 use Rattle.areas.proofs.Putting.{equals, one_byte}
 
@@ -47,13 +48,13 @@ unfolding write_groups
 flags_first n ws v e h = record { same = ap₂ (λ k r. bytes_of n k ++ r) (sym e) h.same }
 
 -- a type, its head and what follows
-pub headed : (kind : ℕ) (tail : List ℕ) {gs : List Group} {vs bytes before after : List ℕ} {at next : ℕ} → Head gs vs bytes →
-    Puts (kind ∷ (bytes ++ tail)) before at next after → Puts (kind ∷ (write_groups gs vs ++ tail)) before at next after
+pub headed : (kind : ℕ) (tail : List ℕ) {gs : List Group} {vs bytes : List ℕ} {old new : Writer} → Head gs vs bytes →
+    Writes (kind ∷ (bytes ++ tail)) old new → Writes (kind ∷ (write_groups gs vs ++ tail)) old new
 headed kind tail h w = equals (ap (λ b. kind ∷ (b ++ tail)) (sym h.same)) w
 
 -- the bytes that a message of one case has are those of the message
-pub held_as : (s : List ℕ) {m n : Message} {before after : List ℕ} {at next : ℕ} → m ≡ n →
-    Puts (front_bytes (held_in s n)) before at next after → Puts (front_bytes (held_in s m)) before at next after
+pub held_as : (s : List ℕ) {m n : Message} {old new : Writer} → m ≡ n →
+    Writes (front_bytes (held_in s n)) old new → Writes (front_bytes (held_in s m)) old new
 held_as s e w = equals (ap (λ m. front_bytes (held_in s m)) (sym e)) w
 
 -- A run of bytes, from a place on.

@@ -1,16 +1,16 @@
 // Each message but Start Read, up to its parameter list.
-ghost use Rattle.std.specs.Prelude.{◌≡◌, ◌+◌, ◌*◌, replicate};
+ghost use Rattle.std.specs.Prelude.{◌≡◌, ◌+◌, ◌*◌, ℕ, List, replicate};
 ghost use Rattle.rules.specs.Messages.Layout.{byte, number_of, write_groups};
 ghost use Rattle.rules.specs.Messages.Forms.{revision_size, write_widths};
 ghost use Rattle.message.specs.declared.Message.TheVariants as variants;
 ghost use Rattle.fields.specs.Spans.{span_of};
 ghost use Rattle.message.specs.Found.{held_in};
-ghost use Rattle.areas.specs.Puts.{Puts};
+ghost use Rattle.areas.specs.Writes.{Writes};
 ghost use Rattle.fronts.specs.Front.{front_bytes, write_flags};
 
 use crate::put::put_span;
 use crate::start_read::{LOW_FLAGS, low_flags};
-use areas::{put_byte, put_number, put_pair, put_word};
+use areas::Writer;
 use fields::Span;
 use message::{InitiateFields, ReadDataFields, WriteFields};
 use rules::{bits, forms};
@@ -26,53 +26,41 @@ const ONE_BIT: u16 = bits::ONE_BIT as u16;
 const TWO_BITS: u16 = bits::TWO_BITS as u16;
 
 // REVISION out of a span; 0 for each byte that it does not have.
-fn put_revision(s: &[u8], p: Span, area: &mut [u8], at: usize) -> usize
-    ensures { Puts (write_groups (replicate revision_size byte) (span_of s.now p)) area.old at result area.new }
+fn put_revision(s: &[u8], p: Span, w: &mut Writer)
+    ensures { Writes (write_groups (replicate revision_size byte) (span_of s.now p)) w.old w.new }
 {
     let t = fields::span_of(s, p);
-    let mut next = at;
-    let mut i = 0;
-    while i < REVISION_SIZE {
-        next = put_byte(fields::byte_at(t, i), area, next);
-        i += 1;
+    for i in 0..REVISION_SIZE {
+        w.put(fields::byte_at(t, i));
     }
-    next
 }
 
-pub(crate) fn put_initiate(f: InitiateFields, s: &[u8], area: &mut [u8], at: usize) -> usize
-    ensures { Puts (front_bytes (held_in s.now (variants.Initiate f))) area.old at result area.new }
+pub(crate) fn put_initiate(f: InitiateFields, s: &[u8], w: &mut Writer)
+    ensures { Writes (front_bytes (held_in s.now (variants.Initiate f))) w.old w.new }
 {
-    let revision = f.revision;
-    let next = put_pair(rules::INITIATE, forms::NO_FLAGS, area, at);
-    let next = put_pair(f.version, f.eco, area, next);
-    let next = put_number(forms::BYTE, f.modification as u32, area, next);
-    put_revision(s, revision, area, next)
+    w.put_pair(rules::INITIATE, forms::NO_FLAGS);
+    w.put_pair(f.version, f.eco);
+    w.put(f.modification);
+    put_revision(s, f.revision, w);
 }
 
-pub(crate) fn put_read_data(f: ReadDataFields, s: &[u8], area: &mut [u8], at: usize) -> usize
-    ensures { Puts (front_bytes (held_in s.now (variants.ReadData f))) area.old at result area.new }
+pub(crate) fn put_read_data(f: ReadDataFields, s: &[u8], w: &mut Writer)
+    ensures { Writes (front_bytes (held_in s.now (variants.ReadData f))) w.old w.new }
 {
-    let text = f.text;
     let flags = f.code as u32 + FOUR_BITS * (f.more as u32);
-    let next = put_byte(rules::READ_DATA, area, at);
-    let next = put_number(forms::FLAG_BYTES, flags, area, next);
-    let next = put_word(f.low_water, area, next);
-    let next = put_pair(f.vertical, f.horizontal, area, next);
-    let next = put_word(f.terminator, area, next);
-    put_span(s, text, area, next)
+    w.put(rules::READ_DATA);
+    w.put_number(forms::FLAG_BYTES, flags);
+    w.put_word(f.low_water);
+    w.put_pair(f.vertical, f.horizontal);
+    w.put_word(f.terminator);
+    put_span(s, f.text, w);
 }
 
-pub(crate) fn put_out_of_band(
-    discard: u8,
-    character: u8,
-    s: &[u8],
-    area: &mut [u8],
-    at: usize,
-) -> usize
-    ensures { Puts (front_bytes (held_in s.now (variants.OutOfBand discard character))) area.old at result area.new }
+pub(crate) fn put_out_of_band(discard: u8, character: u8, w: &mut Writer)
+    ensures { (s : List ℕ) → Writes (front_bytes (held_in s (variants.OutOfBand discard character))) w.old w.new }
 {
-    let next = put_byte(rules::OUT_OF_BAND, area, at);
-    put_pair(discard, character, area, next)
+    w.put(rules::OUT_OF_BAND);
+    w.put_pair(discard, character);
 }
 
 // The flags of a Write behind the first four.
@@ -97,37 +85,27 @@ fn write_flags(f: WriteFields) -> u32
     low as u32 + LOW_FLAGS * (high as u32)
 }
 
-pub(crate) fn put_write(f: WriteFields, s: &[u8], area: &mut [u8], at: usize) -> usize
-    ensures { Puts (front_bytes (held_in s.now (variants.Write f))) area.old at result area.new }
+pub(crate) fn put_write(f: WriteFields, s: &[u8], w: &mut Writer)
+    ensures { Writes (front_bytes (held_in s.now (variants.Write f))) w.old w.new }
 {
-    let text = f.text;
-    let flags = write_flags(f);
-    let next = put_byte(rules::WRITE, area, at);
-    let next = put_number(forms::WRITE_FLAG_BYTES, flags, area, next);
-    let next = put_pair(f.prefix_value, f.postfix_value, area, next);
-    put_span(s, text, area, next)
+    w.put(rules::WRITE);
+    w.put_number(forms::WRITE_FLAG_BYTES, write_flags(f));
+    w.put_pair(f.prefix_value, f.postfix_value);
+    put_span(s, f.text, w);
 }
 
-pub(crate) fn put_write_completion(
-    lost: u8,
-    horizontal: u16,
-    vertical: u16,
-    s: &[u8],
-    area: &mut [u8],
-    at: usize,
-) -> usize
-    ensures { Puts
-        (front_bytes (held_in s.now (variants.WriteCompletion lost horizontal vertical)))
-        area.old at result area.new }
+pub(crate) fn put_write_completion(lost: u8, horizontal: u16, vertical: u16, w: &mut Writer)
+    ensures { (s : List ℕ) →
+        Writes (front_bytes (held_in s (variants.WriteCompletion lost horizontal vertical))) w.old w.new }
 {
-    let next = put_pair(rules::WRITE_COMPLETION, lost, area, at);
-    let next = put_word(horizontal, area, next);
-    put_word(vertical, area, next)
+    w.put_pair(rules::WRITE_COMPLETION, lost);
+    w.put_word(horizontal);
+    w.put_word(vertical);
 }
 
-pub(crate) fn put_input_count(count: u16, s: &[u8], area: &mut [u8], at: usize) -> usize
-    ensures { Puts (front_bytes (held_in s.now (variants.InputCount count))) area.old at result area.new }
+pub(crate) fn put_input_count(count: u16, w: &mut Writer)
+    ensures { (s : List ℕ) → Writes (front_bytes (held_in s (variants.InputCount count))) w.old w.new }
 {
-    let next = put_pair(rules::INPUT_COUNT, forms::NO_FLAGS, area, at);
-    put_word(count, area, next)
+    w.put_pair(rules::INPUT_COUNT, forms::NO_FLAGS);
+    w.put_word(count);
 }

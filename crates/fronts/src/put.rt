@@ -1,13 +1,12 @@
 // The bytes of a span of a slice into an area.
 ghost use Rattle.fields.specs.Spans.{span_of};
-ghost use Rattle.areas.specs.Puts.{Puts};
+ghost use Rattle.areas.specs.Writes.{Writes};
 
-use areas::put_bytes;
+use areas::Writer;
 use fields::Span;
 
-pub(crate) fn put_span(s: &[u8], p: Span, area: &mut [u8], at: usize) -> usize
-    ensures { Puts (span_of s.now p) area.old at result area.new }
+pub(crate) fn put_span(s: &[u8], p: Span, w: &mut Writer)
+    ensures { Writes (span_of s.now p) w.old w.new }
 {
-    let t = fields::span_of(s, p);
-    put_bytes(t, area, at)
+    w.put_all(fields::span_of(s, p));
 }

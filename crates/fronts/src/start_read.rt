@@ -4,11 +4,11 @@ ghost use Rattle.rules.specs.Messages.Layout.{number_of};
 ghost use Rattle.rules.specs.Messages.Forms.{start_read_widths};
 ghost use Rattle.message.specs.declared.Message.TheVariants as variants;
 ghost use Rattle.message.specs.Found.{held_in, flags_of};
-ghost use Rattle.areas.specs.Puts.{Puts};
+ghost use Rattle.areas.specs.Writes.{Writes};
 ghost use Rattle.fronts.specs.Front.{front_bytes, start_read_words};
 
 use crate::put::put_span;
-use areas::{put_byte, put_number, put_word};
+use areas::Writer;
 use message::StartReadFields;
 use rules::{bits, forms};
 
@@ -58,29 +58,25 @@ fn start_read_flags(f: StartReadFields) -> u32
 }
 
 // The words of the head.
-fn put_words(f: StartReadFields, area: &mut [u8], at: usize) -> usize
-    ensures { Puts (start_read_words f) area.old at result area.new }
+fn put_words(f: StartReadFields, w: &mut Writer)
+    ensures { Writes (start_read_words f) w.old w.new }
 {
-    let next = put_word(f.max_length, area, at);
-    let next = put_word(f.end_of_data, area, next);
-    let next = put_word(f.timeout, area, next);
-    let next = put_word(f.end_of_prompt, area, next);
-    let next = put_word(f.start_of_display, area, next);
-    put_word(f.low_water, area, next)
+    w.put_word(f.max_length);
+    w.put_word(f.end_of_data);
+    w.put_word(f.timeout);
+    w.put_word(f.end_of_prompt);
+    w.put_word(f.start_of_display);
+    w.put_word(f.low_water);
 }
 
-pub(crate) fn put_start_read(f: StartReadFields, s: &[u8], area: &mut [u8], at: usize) -> usize
-    ensures { Puts (front_bytes (held_in s.now (variants.StartRead f))) area.old at result area.new }
+pub(crate) fn put_start_read(f: StartReadFields, s: &[u8], w: &mut Writer)
+    ensures { Writes (front_bytes (held_in s.now (variants.StartRead f))) w.old w.new }
 {
-    let set = f.set;
-    let text = f.text;
-    let flags = start_read_flags(f);
-    let bytes = fields::span_of(s, set);
-    let count = (bytes.len() % BYTE_VALUES) as u8;
-    let next = put_byte(rules::START_READ, area, at);
-    let next = put_number(forms::START_READ_FLAG_BYTES, flags, area, next);
-    let next = put_words(f, area, next);
-    let next = put_byte(count, area, next);
-    let next = put_span(s, set, area, next);
-    put_span(s, text, area, next)
+    let set = fields::span_of(s, f.set);
+    w.put(rules::START_READ);
+    w.put_number(forms::START_READ_FLAG_BYTES, start_read_flags(f));
+    put_words(f, w);
+    w.put((set.len() % BYTE_VALUES) as u8);
+    w.put_all(set);
+    put_span(s, f.text, w);
 }

@@ -27,7 +27,6 @@ use Rattle.message.specs.declared.StartReadFields.{StartReadFields}
 use Rattle.fields.specs.Spans.{span_of}
 use Rattle.message.specs.Found.{start_read_in, held_in}
 use Rattle.areas.specs.Puts.{Puts}
-use Rattle.areas.proofs.Putting.{equals}
 use Rattle.sets.specs.declared.Set.{Set}
 use Rattle.line.specs.declared.Terms.{Terms}
 use Rattle.characteristics.specs.Lists.{answer_to, report_bytes, questions_in, settings_in}
@@ -233,7 +232,7 @@ module _ (s t before mid t' m' text' : List ℕ) (l next : Line) (place : ℕ) (
       let bytes = report_carried (host_of next) (span_of s p) (view next) known in
       subst (λ z. Does (reports (questions_in (span_of s p))) (begun z) t before (on (lent next.terms text' next) r) t' m') e
       (here_rule refl
-      (still_behind (sent_does {w = work_on next 0 0} {v = work_on next 0 place} _ (equals bytes puts) refl next t) d))
+      (still_behind (sent_does {w = work_on next 0 0} {v = work_on next 0 place} _ (subst (λ bs. Puts bs before 0 place mid) bytes puts) refl next t) d))
 
   settings_turns : (p : Span) → Sets (span_of s p) l next → NoReport before place mid →
       Does still (on next (work_on next 0 place)) t mid (on (lent next.terms text' next) r) t' m' →

@@ -13,6 +13,7 @@ ghost use Rattle.line.specs.With.{after_sent};
 ghost use Rattle.line.specs.Promise.{on, Does};
 
 use crate::Work;
+use areas::Writer;
 use message::Message;
 
 impl Work {
@@ -35,9 +36,9 @@ impl Work {
         ensures rule { (x : forms.Message ℕ) → Sendable s.now m x → (l : Line) (t : List ℕ) →
             Does (sends x) (on l self) t messages.old (on l result) t messages.new }
     {
-        let at = self.sent;
-        let sent = writing::put_framed(m, s, messages, at);
-        self.sent_up_to(sent)
+        let mut w = Writer { area: messages, at: self.sent };
+        writing::put_framed(m, s, &mut w);
+        self.sent_up_to(w.at)
     }
 
     // A message that has numbers alone.

@@ -6,6 +6,7 @@ ghost use Rattle.line.specs.Host.{StartableMessage, on_initiated, on_host, Sets,
 
 use crate::Line;
 use crate::events::HostMessage;
+use areas::Writer;
 use characteristics::Host;
 use fields::Span;
 
@@ -83,7 +84,9 @@ impl Line {
             HostMessage::ReadCharacteristics(parameters) => {
                 let host = self.host_in();
                 let list = fields::span_of(s, parameters);
-                host.put_report(list, messages, 0)
+                let mut w = Writer { area: messages, at: 0 };
+                host.put_report(list, &mut w);
+                w.at
             }
             _ => 0,
         }

@@ -3,7 +3,7 @@ ghost use Rattle.std.specs.Prelude.{◌≡◌, ◌≤◌, length};
 ghost use Rattle.rules.specs.Messages.Layout.{framed};
 ghost use Rattle.rules.specs.Settings.{form1, form2, largest_read_section, section_in};
 ghost use Rattle.rules.specs.Settings.Moving as rules;
-ghost use Rattle.areas.specs.Puts.{Puts};
+ghost use Rattle.areas.specs.Writes.{Writes};
 ghost use Rattle.areas.specs.InFront.{InFront};
 
 use crate::sections::section_in;
@@ -12,7 +12,7 @@ use crate::{
     ATTRIBUTES_SECTION, CHARACTERISTICS_SECTION, FORM_1, FORM_2, LARGEST_READ_SECTION, SET_SECTION,
     is_sound,
 };
-use areas::{put_byte, put_bytes, put_number, put_word};
+use areas::Writer;
 use rules::refusals::Refusal;
 
 fn other_form(form: u8) -> u8
@@ -39,36 +39,36 @@ fn largest_read_of(record: &[u8]) -> u16
 }
 
 // A section behind its length.
-fn put_section(n: u8, record: &[u8], area: &mut [u8], at: usize) -> usize
+fn put_section(n: u8, record: &[u8], w: &mut Writer)
     requires { 1 ≤ n }
-    ensures { Puts (framed (section_in n «record».now)) area.old at result area.new }
+    ensures { Writes (framed (section_in n «record».now)) w.old w.new }
 {
     let section = section_in(n, record);
-    let next = put_word(section.len() as u16, area, at);
-    put_bytes(section, area, next)
+    w.put_word(section.len() as u16);
+    w.put_all(section);
 }
 
 // The section of the largest read, as another form has it.
-fn put_largest_read(form: u8, record: &[u8], area: &mut [u8], at: usize) -> usize
-    ensures { Puts (framed (rules.largest_read_as form (section_in largest_read_section «record».now))) area.old at result area.new }
+fn put_largest_read(form: u8, record: &[u8], w: &mut Writer)
+    ensures { Writes (framed (rules.largest_read_as form (section_in largest_read_section «record».now))) w.old w.new }
 {
     let section = section_in(LARGEST_READ_SECTION, record);
     if section.len() == 0 {
-        return put_word(0, area, at);
+        return w.put_word(0);
     }
     let width = largest_read_bytes(form);
-    let next = put_word(width as u16, area, at);
-    put_number(width, fields::word_at(section, 0) as u32, area, next)
+    w.put_word(width as u16);
+    w.put_number(width, fields::word_at(section, 0) as u32);
 }
 
-fn put_moved(form: u8, record: &[u8], area: &mut [u8]) -> usize
-    ensures { Puts (rules.moved form «record».now) area.old 0 result area.new }
+fn put_moved(form: u8, record: &[u8], w: &mut Writer)
+    ensures { Writes (rules.moved form «record».now) w.old w.new }
 {
-    let first = put_byte(form, area, 0);
-    let second = put_section(CHARACTERISTICS_SECTION, record, area, first);
-    let third = put_section(ATTRIBUTES_SECTION, record, area, second);
-    let fourth = put_section(SET_SECTION, record, area, third);
-    put_largest_read(form, record, area, fourth)
+    w.put(form);
+    put_section(CHARACTERISTICS_SECTION, record, w);
+    put_section(ATTRIBUTES_SECTION, record, w);
+    put_section(SET_SECTION, record, w);
+    put_largest_read(form, record, w);
 }
 
 // The first refusal that applies, with the area untouched, else the record in the form.
@@ -84,7 +84,9 @@ fn move_to(form: u8, record: &[u8], area: &mut [u8]) -> Result<usize, Refusal>
     if top_largest_read(form) < largest_read_of(record) {
         return Err(Refusal::TooLarge);
     }
-    Ok(put_moved(form, record, area))
+    let mut w = Writer { area, at: 0 };
+    put_moved(form, record, &mut w);
+    Ok(w.at)
 }
 
 // A record of form 2, in form 1.

@@ -17,9 +17,7 @@ use Rattle.parameters.specs.declared.Parameter.{Parameter}
 use Rattle.parameters.specs.Lists.{ParameterIs, shape_of, parameter_at, sound_from, parameters_from, used_at}
 use Rattle.parameters.proofs.Walk.{cleaned_byte, size_least, size-here}
 use Rattle.parameters.proofs.Shapes.{sound_step, parameters_end, next_inside}
-use Rattle.areas.specs.Puts.{Puts}
 use Rattle.parameters.specs.Lists.{setting_bytes}
-use Rattle.areas.proofs.Putting.{Left, turn}
 
 -- A selector is its two bytes.
 two_bytes : {x y : ℕ} → x < 256 → y < 256 → bytes_of 2 (x + 256 * y) ≡ x ∷ y ∷ []
@@ -88,6 +86,9 @@ module _ (t : List ℕ) (i : ℕ) (h : i < length t) (e : sound_from 11 i t ≡ 
   pub behind_two : i + 2 ≤ p.next
   behind_two = omega (arith, behind, size_least (shape_of 11) (drop i t))
 
+  pub within_five : p.next ≤ i + 5
+  within_five = omega (arith, behind, few)
+
   used : used_at 11 i t ≡ setting_bytes p.selector p.first p.second p.third (p.next - i - 2)
   used =
       let least = size_least (shape_of 11) (drop i t) in
@@ -97,16 +98,11 @@ module _ (t : List ℕ) (i : ℕ) (h : i < length t) (e : sound_from 11 i t ≡ 
       apart (used_at 11 i t) (omega arith) (omega arith) (selector_bytes (shape_of 11) here) ∙
       (λ k. setting_bytes (sym is.selected k) (sym is.one k) (sym is.two k) (sym is.three k) (count k))
 
-  first_setting : joined (parameters_from 11 i t) ≡
+  -- the first of the settings that are left
+  pub first_setting : joined (parameters_from 11 i t) ≡
       setting_bytes p.selector p.first p.second p.third (p.next - i - 2) ++ joined (parameters_from 11 p.next t)
   unfolding joined
   first_setting = ap joined (is.list h) ∙ ap (λ u. u ++ joined (parameters_from 11 p.next t)) used
-
-  -- a turn of the loop
-  pub setting_put : {all before area after : List ℕ} {at next end : ℕ} → Left all before at (joined (parameters_from 11 i t)) area next →
-      Puts (setting_bytes p.selector p.first p.second p.third (p.next - i - 2)) area next end after →
-      Left all before at (joined (parameters_from 11 p.next t)) after end
-  setting_put l w = turn first_setting l w
 
 pub no_settings : (t : List ℕ) (i : ℕ) → length t ≤ i → joined (parameters_from 11 i t) ≡ []
 unfolding joined

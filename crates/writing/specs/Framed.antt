@@ -6,7 +6,8 @@ use Rattle.rules.specs.Messages.Forms as forms
 use Rattle.rules.specs.Messages.Codec.{message, set_size}
 use Rattle.message.specs.declared.Message.{Message}
 use Rattle.message.specs.Found.{held_in}
-use Rattle.areas.specs.Puts.{Puts}
+use Rattle.areas.specs.Writes.{Writes}
+use Rattle.areas.specs.declared.Writer.{Writer}
 use Rattle.fronts.specs.Front.{front_bytes}
 use Rattle.writing.specs.Spans.{spans_of, spanned_size, inside}
 
@@ -19,6 +20,6 @@ pub record Sendable (s : List ℕ) (m : Message) (x : forms.Message ℕ) : Type 
 
 -- Such a message was put as the rules send it. Of any message its length was put, by the lengths of its spans, and its bytes up to
 -- its parameter list, which the caller puts behind them.
-pub record Frames (s : List ℕ) (m : Message) (before : List ℕ) (at next : ℕ) (after : List ℕ) : Type 0 where
-  pub sent : (x : forms.Message ℕ) → Sendable s m x → Puts (framed (sent_bytes x)) before at next after
-  pub front : Puts (bytes_of word_bytes (spanned_size (spans_of m)) ++ front_bytes (held_in s m)) before at next after
+pub record Frames (s : List ℕ) (m : Message) (old new : Writer) : Type 0 where
+  pub sent : (x : forms.Message ℕ) → Sendable s m x → Writes (framed (sent_bytes x)) old new
+  pub front : Writes (bytes_of word_bytes (spanned_size (spans_of m)) ++ front_bytes (held_in s m)) old new

@@ -8,6 +8,7 @@ ghost use Rattle.writing.specs.Writing.{first_refusal, writing, copied};
 use crate::fits::fits_message;
 use crate::lists::put_list;
 use crate::spans::{inside, size_of, spans_of};
+use areas::Writer;
 use fronts::put_message;
 use message::Message;
 use rules::refusals::Refusal;
@@ -48,8 +49,10 @@ pub fn encode(m: Message, s: &[u8], area: &mut [u8]) -> Result<usize, Refusal>
     let lies = inside(p, s.len());
     let fits = fits_message(m, s);
     may_write(area.len(), size, kind, lies & fits)?;
-    let next = put_message(m, s, area, 0);
-    Ok(put_list(kind, list, s, area, next))
+    let mut w = Writer { area, at: 0 };
+    put_message(m, s, &mut w);
+    put_list(kind, list, s, &mut w);
+    Ok(w.at)
 }
 
 // Decodes a message and encodes it again.

@@ -4,37 +4,35 @@ ghost use Rattle.rules.specs.Choice.{joined};
 ghost use Rattle.rules.specs.Messages.Forms.{characteristics};
 ghost use Rattle.fields.specs.Spans.{span_of};
 ghost use Rattle.parameters.specs.Lists.{sound_from, parameters_from};
-ghost use Rattle.areas.specs.Puts.{Puts};
+ghost use Rattle.areas.specs.Writes.{Writes};
 ghost use Rattle.writing.specs.Spans.{list_bytes};
 
-use areas::put_bytes;
+use areas::Writer;
 use fields::Span;
-use parameters::put_setting;
+use parameters::{Parameters, put_setting};
 
 // The parameters of a Characteristics, unused bits set to 0.
-fn put_settings(t: &[u8], area: &mut [u8], at: usize) -> usize
+fn put_settings(t: &[u8], w: &mut Writer)
     requires { sound_from characteristics 0 t.now ≡ true }
-    ensures { Puts (joined (parameters_from characteristics 0 t.now)) area.old at result area.new }
+    ensures { Writes (joined (parameters_from characteristics 0 t.now)) w.old w.new }
 {
-    let mut next = at;
-    let mut i = 0;
-    while i < t.len() {
-        let p = parameters::parameter_at(rules::CHARACTERISTICS, t, i);
-        let count = p.next - i - parameters::HEAD;
-        next = put_setting(p.selector, p.first, p.second, p.third, count, area, next);
-        i = p.next;
+    let mut at = 0;
+    for p in Parameters::new(rules::CHARACTERISTICS, t) {
+        let value = [p.first, p.second, p.third];
+        let count = p.next - at - parameters::HEAD;
+        put_setting(p.selector, &value[..count], w);
+        at = p.next;
     }
-    next
 }
 
 // The list of a message; in the others every bit is used.
-pub(crate) fn put_list(kind: u8, list: Span, s: &[u8], area: &mut [u8], at: usize) -> usize
+pub(crate) fn put_list(kind: u8, list: Span, s: &[u8], w: &mut Writer)
     requires { kind ≡ characteristics → sound_from characteristics 0 (span_of s.now list) ≡ true }
-    ensures { Puts (list_bytes kind (span_of s.now list)) area.old at result area.new }
+    ensures { Writes (list_bytes kind (span_of s.now list)) w.old w.new }
 {
     let t = fields::span_of(s, list);
     if kind == rules::CHARACTERISTICS {
-        return put_settings(t, area, at);
+        return put_settings(t, w);
     }
-    put_bytes(t, area, at)
+    w.put_all(t);
 }

@@ -17,7 +17,7 @@ pub returns-in-ReadData : goal.returns-in-ReadData
 returns-in-ReadData c = held_as c.args.s.now c.in-ReadData.is c.put_read_data.ensures
 
 pub returns-in-OutOfBand : goal.returns-in-OutOfBand
-returns-in-OutOfBand c = held_as c.args.s.now c.in-OutOfBand.is c.put_out_of_band.ensures
+returns-in-OutOfBand c = held_as c.args.s.now c.in-OutOfBand.is (c.put_out_of_band.ensures _)
 
 pub returns-in-Unread : goal.returns-in-Unread
 unfolding front_bytes held_in form_of forms front_tail fields_in
@@ -31,7 +31,7 @@ pub returns-in-Write : goal.returns-in-Write
 returns-in-Write c = held_as c.args.s.now c.in-Write.is c.put_write.ensures
 
 pub returns-in-WriteCompletion : goal.returns-in-WriteCompletion
-returns-in-WriteCompletion c = held_as c.args.s.now c.in-WriteCompletion.is c.put_write_completion.ensures
+returns-in-WriteCompletion c = held_as c.args.s.now c.in-WriteCompletion.is (c.put_write_completion.ensures _)
 
 pub returns-in-DiscardState : goal.returns-in-DiscardState
 unfolding front_bytes held_in form_of forms front_tail fields_in
@@ -50,7 +50,7 @@ unfolding front_bytes held_in form_of forms front_tail fields_in
 returns-in-CheckInput c = held_as c.args.s.now c.in-CheckInput.is (headed 12 [] (none_first no_more) c.put_pair-in-CheckInput.ensures)
 
 pub returns-in-InputCount : goal.returns-in-InputCount
-returns-in-InputCount c = held_as c.args.s.now c.in-InputCount.is c.put_input_count.ensures
+returns-in-InputCount c = held_as c.args.s.now c.in-InputCount.is (c.put_input_count.ensures _)
 
 pub returns-in-InputState : goal.returns-in-InputState
 unfolding front_bytes held_in form_of forms front_tail fields_in

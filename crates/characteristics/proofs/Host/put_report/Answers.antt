@@ -44,4 +44,4 @@ returns c =
     equals
     (answer_bytes args.list.now (host_view args.self) (2 + (c.report_size-size.result - 4) + 0 + 0) (omega (arith, (sized (goal.at.returns c).After-report_size-size).0)) ∙
     sym (pick_true _ _ (sym (c.carries_questions.ensures fresh) ∙ c.if-not-carries_questions.false)))
-    (joins c.put_framed-next.ensures.front c.put_answers.ensures)
+    (joins c.put_framed.ensures.front c.put_answers.ensures)

@@ -9,7 +9,7 @@ use Rattle.fronts.proofs.heads.put_input_count.Goals as goal
 
 pub returns : goal.returns
 unfolding front_bytes held_in form_of forms front_tail fields_in
-returns c =
+returns c s =
     let a = c.args in
     headed 13 [] (none_first (field_first 2 16 a.count no_more))
-    (joins c.put_pair-next.ensures c.put_word.ensures)
+    (joins c.put_pair.ensures c.put_word.ensures)

@@ -11,7 +11,7 @@ pub returns : goal.returns
 unfolding front_bytes held_in form_of forms front_tail fields_in number_of
 returns c =
     let a = c.args in
-    let w = c.write_flags-flags in
+    let w = c.write_flags in
     headed 7 (span_of a.s.now a.f.text)
     (flags_first 2 write_widths w.result w.ensures (field_first 1 8 a.f.prefix_value (field_first 1 8 a.f.postfix_value no_more)))
-    (joins c.put_byte-next.ensures (joins c.put_number-next.ensures (joins c.put_pair-next.ensures c.put_span.ensures)))
+    (joins c.put.ensures (joins c.put_number.ensures (joins c.put_pair.ensures c.put_span.ensures)))

@@ -9,7 +9,7 @@ use Rattle.fronts.proofs.heads.put_write_completion.Goals as goal
 
 pub returns : goal.returns
 unfolding front_bytes held_in form_of forms front_tail fields_in
-returns c =
+returns c s =
     let a = c.args in
     headed 8 [] (field_first 1 1 a.lost (field_first 2 16 a.horizontal (field_first 2 16 a.vertical no_more)))
-    (joins c.put_pair-next.ensures (joins c.put_word-next.ensures c.put_word.ensures))
+    (joins c.put_pair.ensures (joins c.put_word.ensures c.put_word-2.ensures))

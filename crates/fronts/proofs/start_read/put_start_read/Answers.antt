@@ -16,8 +16,8 @@ pub returns : goal.returns
 unfolding front_bytes held_in form_of forms front_tail fields_in number_of start_read_in
 returns c =
     let a = c.args in
-    let w = c.start_read_flags-flags in
-    let bytes = c.span_of-bytes in
+    let w = c.start_read_flags in
+    let bytes = c.span_of-set in
     let numbers = (start_read_in a.s.now a.f).numbers in
     let rest = span_of a.s.now a.f.set ++ span_of a.s.now a.f.text in
     equals (ap (λ b. 2 ∷ (write_groups (form_of 2).head numbers ++ length b % 256 ∷ rest)) bytes.ensures)
@@ -25,4 +25,4 @@ returns c =
     (flags_first 3 start_read_widths w.result w.ensures
     (field_first 2 16 a.f.max_length (field_first 2 16 a.f.end_of_data (field_first 2 16 a.f.timeout
     (field_first 2 16 a.f.end_of_prompt (field_first 2 16 a.f.start_of_display (field_first 2 16 a.f.low_water no_more)))))))
-    (joins c.put_byte-next.ensures (joins c.put_number-next.ensures (joins c.put_words-next.ensures (joins c.put_byte-next-2.ensures (joins c.put_span-next.ensures c.put_span.ensures))))))
+    (joins c.put.ensures (joins c.put_number.ensures (joins c.put_words.ensures (joins c.put-2.ensures (joins (equals bytes.ensures c.put_all.ensures) c.put_span.ensures))))))

@@ -1,3 +1,4 @@
+use Rattle.std.proofs.Common.{rules}
 use mathlib.Core.Path.{ap₂}
 use Rattle.characteristics.specs.View as host
 use Rattle.characteristics.specs.Lists.{report_bytes}
@@ -10,7 +11,8 @@ pub returns-in-ReadCharacteristics : goal.returns-in-ReadCharacteristics
 returns-in-ReadCharacteristics c =
     let a = c.args in
     let bytes = ap₂ (λ h bs. report_bytes (host.host_view h) bs) c.host_in-host.ensures c.span_of-list.ensures in
-    reported_as a.s.now a.self a.messages.now _ _ c.in-ReadCharacteristics.is (equals bytes c.put_report.ensures)
+    let report = equals bytes c.put_report.ensures in
+    reported_as a.s.now a.self a.messages.now _ _ c.in-ReadCharacteristics.is (search rules)
 
 pub returns-in_default : goal.returns-in_default
 returns-in_default c = let a = c.args in nothing_reported a.s.now a.self a.m a.messages.now (opened c.in_default.in_default-own.keys2)

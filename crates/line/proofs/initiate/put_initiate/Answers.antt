@@ -9,5 +9,5 @@ returns c =
     let message = ap (parameter 0x0201) (sym message_size_lem) in
     let input = ap (parameter 0x0202) (sym input_size_lem) in
     equals our_bytes
-    (joins c.put_framed-next.ensures.front
-    (joins (equals message c.put_parameter-next.ensures) (joins (equals input c.put_parameter-next-2.ensures) c.put_parameter.ensures)))
+    (joins c.put_framed.ensures.front
+    (joins (equals message c.put_parameter.ensures) (joins (equals input c.put_parameter-2.ensures) c.put_parameter-3.ensures)))

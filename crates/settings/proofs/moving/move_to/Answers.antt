@@ -1,3 +1,4 @@
+use Rattle.std.proofs.Common.{rules}
 use mathlib.Core.Path.{sym, ◌∙◌}
 use native.Mathlib.Omega.{arith}
 use lib.ListN.{length}
@@ -37,4 +38,4 @@ returns c =
     (move-sound a.form (length a.area.now) bytes (omega (arith, moving_area_lem, c.if-area-lt-MOVING_AREA.false)) movable
     (omega (arith, c.top_largest_read.ensures, c.largest_read_of.ensures, c.if-top_largest_read-largest_read_of.false)))
     (omega (arith, moving_area_lem, moved_fits a.form bytes are_bytes (movable_parts a.form bytes movable).0, c.if-area-lt-MOVING_AREA.false))
-    c.put_moved.ensures
+    (search rules)

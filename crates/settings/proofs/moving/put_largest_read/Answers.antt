@@ -17,4 +17,4 @@ returns c =
     equals
     (read_framed form c.section_in-section.result.now c.if-section-eq0.false c.largest_read_bytes-width.ensures c.word_at.ensures ∙
     ap (λ s. framed (largest_read_as form s)) c.section_in-section.ensures)
-    (joins c.put_word-next.ensures c.put_number.ensures)
+    (joins c.put_word-2.ensures c.put_number.ensures)

@@ -8,8 +8,8 @@ use Rattle.settings.proofs.moving.put_moved.Goals as goal
 pub returns : goal.returns
 unfolding moved moved_sections joined
 returns c =
-    joins c.put_byte-first.ensures
-    (joins c.put_section-second.ensures
-    (joins c.put_section-third.ensures
-    (joins c.put_section-fourth.ensures
+    joins c.put.ensures
+    (joins c.put_section.ensures
+    (joins c.put_section-2.ensures
+    (joins c.put_section-3.ensures
     (equals (sym (append-nil _)) c.put_largest_read.ensures))))

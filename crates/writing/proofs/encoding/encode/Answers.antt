@@ -48,5 +48,5 @@ returns c =
     let number = c.may_write.ensures in
     let none = ap answered was in
     let list = equals (ap (λ q. list_bytes q.kind (span_of s q.list)) is) c.put_list.ensures in
-    put_in_front (encode_sound _ s a.m is size lies fit number none) (encode_room _ s a.m is size lies fit number none)
-    (equals (whole_bytes s bytes a.m (encode_fits _ s a.m is size lies fit number none)) (joins c.put_message-next.ensures list))
+    let whole = equals (whole_bytes s bytes a.m (encode_fits _ s a.m is size lies fit number none)) (joins c.put_message.ensures list) in
+    put_in_front (encode_sound _ s a.m is size lies fit number none) (encode_room _ s a.m is size lies fit number none) (search rules)
