@@ -1,31 +1,26 @@
 -- The three kinds of parameter lists, by the type of their message.
-use mathlib.Core.Path.{◌≡◌, refl, sym, ap, ap₂, ◌∙◌, subst}
-use Prim.Native.Nat.{ℕ, ◌+◌, ◌*◌, ◌%◌, ◌<◌, ◌≤◌}
+use mathlib.Core.Path.{◌≡◌, refl, sym, ap, ap₂, ◌∙◌}
+use Prim.Native.Nat.{ℕ, zero, suc, ◌+◌, ◌*◌, ◌/◌, ◌%◌, ◌^◌, ◌<◌, ◌≤◌}
 use native.Mathlib.Omega.{arith}
 use mathlib.Core.Bool.{Bool, true, false, ◌&&◌}
 use mathlib.Core.List.{List, [], ◌∷◌, map, zip_with}
-use lib.Dec.{ltb, eqb}
-use lib.ListN.{length, get_or, take, drop}
-use lib.Seq.{get_or-take, get_or-drop}
-use borrow.Author.Tests.{eq-eqb, ne_eqb, eqb-true, ltb-true, lt-ltb, le-ltb}
-use Rattle.rules.specs.Choice.{pick, within, all_are}
+use lib.Dec.{ltb, leb, eqb}
+use lib.Bits.{bit_and, and_mask}
+use lib.ListN.{length, get_or, take, drop, replicate}
+use borrow.Author.Tests.{eq-eqb, ne_eqb, eqb-true, leb-true, leb-false, lt-ltb, le-ltb}
+use Rattle.std.proofs.lemmas.List.{length-map}
+use Rattle.rules.specs.Choice.{within, all_are}
 use Rattle.rules.specs.Messages.Layout.{byte_at, number_at}
 use Rattle.rules.specs.Messages.Parameters.{Shape, initiation, question, setting, selector, input_count_state, defined_selector, defined_value}
-use Rattle.rules.specs.Messages.Parameters.{value_limits, limits_of, parameter_size, sound_parameter, cleaned}
-use Rattle.rules.proofs.Choice.{pick_true, pick-false, pick_case, all_at}
-use Rattle.rules.proofs.Parameters.{Cleanable, positive, initiation_cleanable, question_cleanable, setting_cleanable}
-use Rattle.parameters.specs.declared.limits.Limits.{Limits}
-use Rattle.parameters.specs.Lists.{LimitsAre, ParameterIs, shape_of, parameter_at, sound_from, parameters_from, used_at, next_from}
-use Rattle.fields.proofs.Numbers.{byte_behind, number_two}
+use Rattle.rules.specs.Messages.Codec.{all_bytes}
+use Rattle.rules.specs.Messages.Parameters.{question_limits, value_limits, limits_of, parameter_size, sound_parameter, cleaned}
+use Rattle.rules.proofs.Choice.{pick_true, pick-false, pick_case, pick_same, all_split}
+use Rattle.rules.proofs.Parameters.{selector-cleaned, count_cleaned}
+use Rattle.parameters.specs.declared.Parameter.{Parameter}
+use Rattle.parameters.specs.Lists.{ParameterIs, shape_of, mask, known_bytes, parameter_at, sound_from, parameters_from, used_at, next_from}
+use Rattle.fields.proofs.Numbers.{number_two}
 use Rattle.fields.proofs.Pieces.{none_behind}
-use Rattle.parameters.proofs.Walk.{limits_here, size_least, used_here, selected_here, cut-here, cut_end}
-
--- The limits, as the code has them.
-abbrev pub limits_in : List ℕ → Limits
-limits_in ls = (length ls, get_or ls 0 1, get_or ls 1 1, get_or ls 2 1)
-
-pub limits_are : (ls : List ℕ) {ls' : List ℕ} → ls' ≡ ls → LimitsAre ls' (limits_in ls)
-limits_are ls e = rw e (record { counted = refl; one = refl; two = refl; three = refl })
+use Rattle.parameters.proofs.Walk.{limits_here, sound_cut, sound_whole, used_here, selected_here, cut-here, cut_end}
 
 -- which kind
 module _ {kind : ℕ} where
@@ -46,102 +41,82 @@ pub each_shape : (P : Shape → Type 0) (kind : ℕ) → P initiation → P ques
 unfolding shape_of
 each_shape P kind p q r = pick_case P _ (λ e. p) (λ e. pick_case P _ (λ e. q) (λ e. r))
 
--- The bytes that `defined` looks at are the parameter's own.
-selector_taken : (n : ℕ) (p : List ℕ) → 2 ≤ n → selector (take n p) ≡ selector p
-selector_taken n p h = ap₂ (λ low high. low + 256 * high) (get_or-take n p 0 0 (omega arith)) (get_or-take n p 1 0 (omega arith))
+-- A byte under the mask of its limit is the byte modulo the limit; where there is no limit, and so no mask, it is 0.
+abbrev Masked : List ℕ → Type 0
+Masked ls = (b i : ℕ) → bit_and b (get_or (map mask ls) i 0) ≡ b % get_or ls i 1
 
-abbrev LooksWithin : Shape → Type 0
-LooksWithin shape = (p : List ℕ) → shape.defined (take (parameter_size shape p) p) ≡ shape.defined p
+none_masked : Masked []
+none_masked b i = and_mask b 0
 
-question_within : LooksWithin question
-question_within p = ap defined_selector (selector_taken (parameter_size question p) p (size_least question p))
+one_masked : (width : ℕ) (ls : List ℕ) {limit : ℕ} → 2 ^ width ≡ limit → Masked ls → Masked (limit ∷ ls)
+one_masked width ls e h b zero = rw (← e) (and_mask b width)
+one_masked width ls e h b (suc i) = h b i
 
-count_size : (p : List ℕ) → selector p ≡ input_count_state → parameter_size setting p ≡ 4
-unfolding parameter_size limits_of value_limits pick
-count_size p e = ap (λ n. 2 + length (value_limits n)) e
+bytes_masked : (count : ℕ) → Masked (replicate count 256)
+bytes_masked zero = none_masked
+bytes_masked (suc count) = one_masked 8 _ refl (bytes_masked count)
 
-setting_within : LooksWithin setting
-unfolding defined_value pick
-setting_within p = rw (selector_taken (parameter_size setting p) p (size_least setting p)) (by_selector (eqb (selector p) input_count_state) refl)
-  where
-    own : List ℕ
-    own = take (parameter_size setting p) p
+pub whole_masks : (count : ℕ) → replicate count 255 ≡ map mask (replicate count 256)
+whole_masks zero = refl
+whole_masks (suc count) = ap (λ ms. 255 ∷ ms) (whole_masks count)
 
-    by_selector : (t : Bool) → eqb (selector p) input_count_state ≡ t →
-        pick t (within 1 3 (byte_at own 2 + 256 * byte_at own 3)) (defined_selector (selector p)) ≡
-        pick t (within 1 3 (byte_at p 2 + 256 * byte_at p 3)) (defined_selector (selector p))
-    by_selector true e =
-        let n = count_size p (eqb-true (selector p) input_count_state e) in
-        let size = parameter_size setting p in
-        ap₂ (λ low high. within 1 3 (low + 256 * high)) (get_or-take size p 2 0 (omega arith)) (get_or-take size p 3 0 (omega arith))
-    by_selector false e = refl
+question_masked : (n : ℕ) → Masked (question_limits n)
+unfolding question_limits
+question_masked n = pick_case Masked _ (λ e. one_masked 8 [] refl none_masked) (λ e. none_masked)
 
-pub defined_within : (kind : ℕ) → LooksWithin (shape_of kind)
-defined_within kind = each_shape LooksWithin kind (λ p. refl) question_within setting_within
+value_masked : (n : ℕ) → Masked (value_limits n)
+unfolding value_limits
+value_masked n =
+    pick_case Masked _ (λ e. one_masked 8 (256 ∷ 128 ∷ []) refl (one_masked 8 (128 ∷ []) refl (one_masked 7 [] refl none_masked))) λ e.
+    pick_case Masked _ (λ e. one_masked 8 (256 ∷ []) refl (one_masked 8 [] refl none_masked)) λ e.
+    pick_case Masked _ (λ e. one_masked 4 [] refl none_masked) λ e.
+    pick_case Masked _ (λ e. one_masked 1 [] refl none_masked) (λ e. none_masked)
+
+masked : (kind low high : ℕ) → Masked ((shape_of kind).limits low high)
+masked kind low high =
+    each_shape (λ shape. Masked (shape.limits low high)) kind
+    (bytes_masked high) (question_masked (low + 256 * high)) (value_masked (low + 256 * high))
+
+-- a number of two bytes from its halves
+pub both_halves : (n : ℕ) → n % 256 + 256 * (n / 256) ≡ n
+both_halves n = omega arith
+
+-- The bytes that `defined` looks at are known: of bytes, cleaning leaves them as they are.
+abbrev Known : Shape → Type 0
+Known shape =
+    (p : List ℕ) → all_bytes p ≡ true → (q : List ℕ) → selector q ≡ selector (cleaned shape p) →
+    byte_at q 2 ≡ byte_at (cleaned shape p) 2 → byte_at q 3 ≡ byte_at (cleaned shape p) 3 → shape.defined q ≡ shape.defined p
+
+question_known : Known question
+question_known p bytes q s one two = ap defined_selector (s ∙ selector-cleaned question p bytes)
+
+setting_known : Known setting
+unfolding defined_value
+setting_known p bytes q s one two =
+    let own = s ∙ selector-cleaned setting p bytes in
+    rw own
+    (pick_same (eqb (selector p) input_count_state) (defined_selector (selector p)) λ e.
+    let n = eqb-true (selector p) input_count_state e in
+    ap₂ (λ low high. within 1 3 (low + 256 * high))
+    (one ∙ count_cleaned p 2 bytes n refl) (two ∙ count_cleaned p 3 bytes n refl))
+
+known : (kind : ℕ) → Known (shape_of kind)
+known kind = each_shape Known kind (λ p bytes q s one two. refl) question_known setting_known
+
+-- The masks by the first two bytes.
+pub masks_by : (at : ℕ) (s : List ℕ) {own shape : Shape} → own ≡ shape → {ls : List ℕ} → ls ≡ shape.limits (byte_at s at) (byte_at s (at + 1)) →
+    map mask ls ≡ map mask (limits_of own (drop at s))
+masks_by at s e l = ap (map mask) (l ∙ sym (ap (λ sh. limits_of sh (drop at s)) e ∙ limits_here _ at s))
 
 module _ (kind at : ℕ) (s : List ℕ) where
   abbrev rest : List ℕ
   rest = drop at s
-
-  -- Limits and tests, by the first bytes.
-  pub limits_by : {shape : Shape} → shape_of kind ≡ shape → {ls : List ℕ} → ls ≡ shape.limits (byte_at s at) (byte_at s (at + 1)) →
-      {l : Limits} → LimitsAre ls l → LimitsAre (limits_of (shape_of kind) rest) l
-  limits_by e {ls} p {l} h = subst (λ ls'. LimitsAre ls' l) (p ∙ sym (ap (λ sh. limits_of sh rest) e ∙ limits_here _ at s)) h
-
-  selector_here : selector rest ≡ number_at 2 at s
-  selector_here = ap₂ (λ low high. low + 256 * high) (byte_behind s at) (get_or-drop at s 1 0) ∙ sym (number_two at s)
-
-  value_here : byte_at rest 2 + 256 * byte_at rest 3 ≡ number_at 2 (at + 2) s
-  value_here =
-      let next : at + 3 ≡ at + 2 + 1 = omega arith in
-      ap₂ (λ low high. low + 256 * high) (get_or-drop at s 2 0) (get_or-drop at s 3 0 ∙ ap (byte_at s) next) ∙ sym (number_two (at + 2) s)
-
-  module _ {n : ℕ} (e : n ≡ number_at 2 at s) where
-    pub question-defined : shape_of kind ≡ question → defined_selector n ≡ (shape_of kind).defined rest
-    question-defined q = ap defined_selector (e ∙ sym selector_here) ∙ sym (ap (λ sh. sh.defined rest) q)
-
-    pub value_defined : shape_of kind ≡ setting → (n ≡ input_count_state → ⊥) → defined_selector n ≡ (shape_of kind).defined rest
-    unfolding defined_value
-    value_defined q m =
-        let own = e ∙ sym selector_here in
-        ap defined_selector own ∙
-        sym (ap (λ sh. sh.defined rest) q ∙ pick-false _ _ (ne_eqb (selector rest) input_count_state (λ k. m (own ∙ k))))
-
-    pub count_defined : shape_of kind ≡ setting → n ≡ input_count_state → {v : ℕ} → v ≡ number_at 2 (at + 2) s →
-        within 1 3 v ≡ (shape_of kind).defined rest
-    unfolding defined_value
-    count_defined q m w =
-        ap (within 1 3) (w ∙ sym value_here) ∙
-        sym (ap (λ sh. sh.defined rest) q ∙ pick_true _ _ (eq-eqb (selector rest) input_count_state (selector_here ∙ sym e ∙ m)))
-
-  pub limit_some : (i : ℕ) → 0 < get_or (limits_of (shape_of kind) rest) i 1
-  unfolding limits_of positive
-  limit_some i = ltb-true 0 _ (all_at (λ l. ltb 0 l) (limits_of (shape_of kind) rest) 1 (clean.values _ _) refl i)
-    where
-      clean : Cleanable (shape_of kind)
-      clean = each_shape Cleanable kind initiation_cleanable question_cleanable setting_cleanable
-
-  pub size_by : {l : Limits} → LimitsAre (limits_of (shape_of kind) rest) l → 2 + l.0 ≡ parameter_size (shape_of kind) rest
-  unfolding parameter_size
-  size_by h = ap (λ n. 2 + n) h.counted
 
   -- The list from here on.
   pub sound_step : at < length s →
       sound_from kind at s ≡ sound_parameter (shape_of kind) (parameter_at kind at s) && sound_from kind (at + parameter_size (shape_of kind) rest) s
   unfolding sound_from parameter_at all_are
   sound_step h = ap (all_are (sound_parameter (shape_of kind))) (cut-here (shape_of kind) at s h)
-
-  pub sound_stops : at < length s → {t : Bool} → t ≡ sound_parameter (shape_of kind) (parameter_at kind at s) → t ≡ false →
-      sound_from kind at s ≡ false
-  sound_stops h e f = sound_step h ∙ rw (sym e ∙ f)
-
-  pub sound_goes_on : at < length s → {t : Bool} → t ≡ sound_parameter (shape_of kind) (parameter_at kind at s) → t ≡ true →
-      {n : ℕ} → n ≡ parameter_size (shape_of kind) rest → sound_from kind (at + n) s ≡ sound_from kind at s
-  sound_goes_on h e f size = sym (sound_step h ∙ rw (sym e ∙ f, ← size))
-
-  pub sound_end : length s ≤ at → sound_from kind at s ≡ true
-  unfolding sound_from all_are
-  sound_end h = ap (all_are (sound_parameter (shape_of kind))) (cut_end (shape_of kind) at s h)
 
   pub parameters_step : at < length s → parameters_from kind at s ≡ used_at kind at s ∷ parameters_from kind (at + parameter_size (shape_of kind) rest) s
   unfolding parameters_from parameter_at
@@ -165,35 +140,66 @@ module _ (kind at : ℕ) (s : List ℕ) where
   used_past h = sym (ap (cleaned (shape_of kind)) (none_behind s at (parameter_size (shape_of kind) rest) h))
 
   -- What the code finds at a place.
-  pub nothing_is : length s ≤ at → ParameterIs kind at s (record { selector = 0; first = 0; second = 0; third = 0; next = at })
-  nothing_is h =
+  pub nothing_is : length s ≤ at → {n first second third : ℕ} → n ≡ 0 → first ≡ 0 → second ≡ 0 → third ≡ 0 →
+      ParameterIs kind at s (record { selector = n; first = first; second = second; third = third; next = at })
+  nothing_is h n one two three =
       let none = used_past h in
       record {
-        selected = ap selector none;
-        one = ap (λ u. byte_at u 2) none;
-        two = ap (λ u. byte_at u 3) none;
-        three = ap (λ u. byte_at u 4) none;
+        selected = n ∙ ap selector none;
+        one = one ∙ ap (λ u. byte_at u 2) none;
+        two = two ∙ ap (λ u. byte_at u 3) none;
+        three = three ∙ ap (λ u. byte_at u 4) none;
         behind = sym (next_past h);
         further = λ l. omega arith;
         list = λ l. absurd (omega arith);
       }
 
-  pub parameter_is : at < length s → {l : Limits} → LimitsAre (limits_of (shape_of kind) rest) l →
-      {low high : ℕ} → low ≡ byte_at s at → low < 256 → high ≡ byte_at s (at + 1) → high < 256 →
-      {first second third : ℕ} → first ≡ byte_at s (at + 2) % l.1 → second ≡ byte_at s (at + 3) % l.2 →
-      third ≡ byte_at s (at + 4) % l.3 →
-      ParameterIs kind at s (record { selector = low + 256 * high; first = first; second = second; third = third; next = at + 2 + l.0 })
-  unfolding parameter_at
-  parameter_is h {l} limits low low< high high< first second third =
-      let shape = shape_of kind in
-      let size = size_by limits in
-      let next : at + 2 + l.0 ≡ at + parameter_size shape rest = omega arith in
-      record {
-        selected = selected_here shape at s low low< high high<;
-        one = first ∙ ap (λ k. byte_at s (at + 2) % k) limits.one ∙ sym (used_here shape at s 0);
-        two = second ∙ ap (λ k. byte_at s (at + 3) % k) limits.two ∙ sym (used_here shape at s 1);
-        three = third ∙ ap (λ k. byte_at s (at + 4) % k) limits.three ∙ sym (used_here shape at s 2);
-        behind = next ∙ sym (next_inside h);
-        further = λ _. omega arith;
-        list = λ _. parameters_step h ∙ ap (λ n. used_at kind at s ∷ parameters_from kind n s) (sym next);
-      }
+  module _ {masks : List ℕ} (own : masks ≡ map mask (limits_of (shape_of kind) rest)) where
+    size_by : 2 + length masks ≡ parameter_size (shape_of kind) rest
+    unfolding parameter_size
+    size_by = ap (λ n. 2 + n) (ap (λ ms. length ms) own ∙ length-map _ mask)
+
+    -- a byte of the value under its mask
+    used_by : (i : ℕ) → {b : ℕ} → b ≡ bit_and (byte_at s (at + suc (suc i))) (byte_at masks i) → b ≡ byte_at (used_at kind at s) (suc (suc i))
+    unfolding limits_of parameter_at
+    used_by i e =
+        e ∙
+        ap (λ ms. bit_and (byte_at s (at + suc (suc i))) (byte_at ms i)) own ∙
+        masked kind _ _ (byte_at s (at + suc (suc i))) i ∙
+        sym (used_here (shape_of kind) at s i)
+
+    pub parameter_is : at < length s → ((i : ℕ) → byte_at s i < 256) → {n : ℕ} → n ≡ number_at 2 at s →
+        {first second third : ℕ} → first ≡ bit_and (byte_at s (at + 2)) (byte_at masks 0) →
+        second ≡ bit_and (byte_at s (at + 3)) (byte_at masks 1) → third ≡ bit_and (byte_at s (at + 4)) (byte_at masks 2) →
+        ParameterIs kind at s (record { selector = n; first = first; second = second; third = third; next = at + 2 + length masks })
+    unfolding parameter_at
+    parameter_is h small n one two three =
+        let size = size_by in
+        let next : at + 2 + length masks ≡ at + parameter_size (shape_of kind) rest = omega arith in
+        record {
+          selected = n ∙ number_two at s ∙ selected_here (shape_of kind) at s refl (small at) refl (small (at + 1));
+          one = used_by 0 one;
+          two = used_by 1 two;
+          three = used_by 2 three;
+          behind = next ∙ sym (next_inside h);
+          further = λ _. omega arith;
+          list = λ _. parameters_step h ∙ ap (λ n. used_at kind at s ∷ parameters_from kind n s) (sym next);
+        }
+
+  -- The parameter is whole and defined where the next one begins inside and its known bytes are defined.
+  pub sound_known : all_bytes s ≡ true → at < length s → {p : Parameter} → ParameterIs kind at s p →
+      leb p.next (length s) && (shape_of kind).defined (known_bytes p) ≡ sound_parameter (shape_of kind) (parameter_at kind at s)
+  unfolding parameter_at all_bytes
+  sound_known bytes h {p} is =
+      let size = parameter_size (shape_of kind) rest in
+      let next : p.next ≡ at + size = is.behind ∙ next_inside h in
+      let own = (all_split (λ b. ltb b 256) size rest (all_split (λ b. ltb b 256) at s bytes).1).0 in
+      ap (λ n. leb n (length s) && (shape_of kind).defined (known_bytes p)) next ∙
+      ap (λ t. leb (at + size) (length s) && t) (known kind (take size rest) own (known_bytes p) (both_halves p.selector ∙ is.selected) is.one is.two) ∙
+      by_end (leb (at + size) (length s)) refl
+    where
+      by_end : (t : Bool) → leb (at + parameter_size (shape_of kind) rest) (length s) ≡ t →
+          t && (shape_of kind).defined (take (parameter_size (shape_of kind) rest) rest) ≡
+          sound_parameter (shape_of kind) (take (parameter_size (shape_of kind) rest) rest)
+      by_end true e = sym (sound_whole (shape_of kind) at s (leb-true _ _ e))
+      by_end false e = sym (sound_cut (shape_of kind) at s (leb-false _ _ e))

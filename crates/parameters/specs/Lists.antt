@@ -1,15 +1,22 @@
 -- Parameter lists in a slice. `kind` is the type of the message that the list stands in.
-use Rattle.std.specs.Prelude.{◌≡◌, ℕ, zero, ◌+◌, ◌-◌, ◌<◌, Bool, List, [], ◌∷◌, ◌++◌, map, ltb, eqb, length, get_or, take, drop}
+use Rattle.std.specs.Prelude.{◌≡◌, ℕ, zero, ◌+◌, ◌-◌, ◌/◌, ◌%◌, ◌<◌, Bool, List, [], ◌∷◌, ◌++◌, map, ltb, eqb, length, take, drop}
 use Rattle.rules.specs.Choice.{pick, all_are}
 use Rattle.rules.specs.Messages.Layout.{word_bytes, byte_values, byte_at, bytes_of}
 use Rattle.rules.specs.Messages.Parameters.{Shape, initiation, question, setting, parameter_head, first_value_at, second_value_at, third_value_at, selector, parameter_size, sound_parameter, cleaned, cut}
 use Rattle.rules.specs.Messages.Forms as forms
 use Rattle.parameters.specs.declared.Parameter.{Parameter}
-use Rattle.parameters.specs.declared.limits.Limits.{Limits}
+use Rattle.parameters.specs.declared.kinds.ListKind.{ListKind}
+use Rattle.parameters.specs.declared.kinds.ListKind.TheVariants.{Initiation, Question, Setting}
 
 -- the kind of list that a type of message has
 unfoldable pub shape_of : ℕ → Shape
 shape_of kind = pick (eqb kind forms.initiate) initiation (pick (eqb kind forms.read_characteristics) question setting)
+
+-- the three kinds
+unfoldable pub kind_shape : ListKind → Shape
+kind_shape Initiation = initiation
+kind_shape Question = question
+kind_shape Setting = setting
 
 -- the parameter that begins at a place, or what is there of it
 unfoldable pub parameter_at : ℕ → ℕ → List ℕ → List ℕ
@@ -27,16 +34,9 @@ parameters_from kind at s = map (cleaned (shape_of kind)) (cut (shape_of kind) z
 abbrev pub longest_parameter : ℕ
 longest_parameter = parameter_head + (byte_values - 1)
 
--- a limit under which only 0 is: none of a byte's bits are used
-abbrev pub no_bits : ℕ
-no_bits = 1
-
--- how many limits these are, and the first three; no_bits for one that is not there
-pub record LimitsAre (ls : List ℕ) (l : Limits) : Type 0 where
-  pub counted : l.0 ≡ length ls
-  pub one : l.1 ≡ get_or ls 0 no_bits
-  pub two : l.2 ≡ get_or ls 1 no_bits
-  pub three : l.3 ≡ get_or ls 2 no_bits
+-- a byte's limit as a mask of the bits below it
+abbrev pub mask : ℕ → ℕ
+mask limit = limit - 1
 
 -- the parameter at a place, unused bits set to 0
 abbrev pub used_at : ℕ → ℕ → List ℕ → List ℕ
@@ -45,6 +45,10 @@ used_at kind at s = cleaned (shape_of kind) (parameter_at kind at s)
 -- where the parameter behind the one at a place begins; from the end on, the place itself
 unfoldable pub next_from : ℕ → ℕ → List ℕ → ℕ
 next_from kind at s = pick (ltb at (length s)) (at + parameter_size (shape_of kind) (drop at s)) at
+
+-- the bytes that a parameter is known by
+abbrev pub known_bytes : Parameter → List ℕ
+known_bytes p = p.selector % byte_values ∷ p.selector / byte_values ∷ p.first ∷ p.second ∷ p.third ∷ []
 
 -- one parameter of a list: its selector, the three bytes behind it that a line looks at, and where the next one begins; from
 -- the end on it is empty, so that its selector and bytes are 0

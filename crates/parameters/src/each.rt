@@ -5,20 +5,32 @@ ghost use Rattle.parameters.specs.Walks.{parameter_steps};
 
 use crate::{Parameter, parameter_at};
 
+// The parameters of a list that are left, in order. A last one that is cut short is one of them, its missing bytes 0.
 #[derive(Drop)]
 pub struct Parameters<'a> {
-    pub kind: u8,
-    pub list: &'a [u8],
-    pub at: usize,
+    kind: u8,
+    list: &'a [u8],
+    // where the next one begins
+    at: usize,
 }
 
 impl<'a> Parameters<'a> {
+    // All parameters of a list, which stands in a message of this type.
     pub fn new(kind: u8, list: &'a [u8]) -> Parameters<'a>
         ensures kind { result.kind ≡ kind }
         ensures list { result.list.now ≡ list.now }
         ensures at { result.at ≡ 0 }
     {
-        Parameters { kind, list, at: 0 }
+        Parameters::starting_at(kind, list, 0)
+    }
+
+    // Those from a place on.
+    pub(crate) fn starting_at(kind: u8, list: &'a [u8], at: usize) -> Parameters<'a>
+        ensures kind { result.kind ≡ kind }
+        ensures list { result.list.now ≡ list.now }
+        ensures at { result.at ≡ at }
+    {
+        Parameters { kind, list, at }
     }
 }
 

@@ -1,22 +1,26 @@
-use mathlib.Core.Path.{sym, ◌∙◌}
+use Rattle.std.proofs.Common.{rules, ap, ◌∙◌, length, drop, ◌&&◌}
 use native.Mathlib.Omega.{arith}
-use Rattle.parameters.proofs.Shapes.{sound_stops, sound_goes_on, sound_end}
+use borrow.Author.Tests.{tests}
+use lib.Dec.{leb}
+use Rattle.std.proofs.lemmas.Iterator.Search.{all_from_yields_List}
+use Rattle.rules.specs.Messages.Parameters.{sound_parameter, cut}
+use Rattle.rules.proofs.Bounds.Bytes.{bytes_all}
+use Rattle.parameters.specs.Lists.{shape_of, kind_shape, known_bytes, sound_from}
+use Rattle.parameters.proofs.Shapes.{sound_known}
+use Rattle.parameters.proofs.Walks.{walk_tests, all_tests}
 use Rattle.parameters.proofs.is_sound_list.Goals as goal
 
-pub returns-then-not-sound_at : goal.returns-then-not-sound_at
-returns-then-not-sound_at c =
-    let a = c.args in
-    sym (sound_stops a.kind c.loop-at.at a.s.now (omega arith) c.sound_at.ensures c.if-not-sound_at.true) ∙
-    c.loop-at.invariant
-
-pub loop-at-preserved : goal.loop-at-preserved
-loop-at-preserved c =
-    let a = c.args in
-    sound_goes_on a.kind c.loop-at.at a.s.now (omega arith) c.sound_at.ensures
-    c.if-not-sound_at.false c.size_at-at.ensures.0 ∙
-    c.loop-at.invariant
-
 pub returns : goal.returns
+unfolding sound_from
 returns c =
     let a = c.args in
-    sym (sound_end a.kind c.loop-at.at a.s.now (omega arith)) ∙ c.loop-at.invariant
+    let shape = shape_of a.kind in
+    let bytes = bytes_all a.s.now (λ i. omega (arith, c.type_inv.s i)) in
+    let walk = c.starting_at.ensures in
+    all_from_yields_List (λ t. t) _ _ _ c.all.ensures.ran
+    (walk_tests a.kind a.s.now (λ p. leb p.next (length a.s.now) && (kind_shape c.of-list.result).defined (known_bytes p)) (sound_parameter shape)
+    (λ at p h is.
+    ap (λ own. leb p.next (length a.s.now) && own.defined (known_bytes p)) c.of-list.ensures ∙ sound_known a.kind at a.s.now bytes h is)
+    walk.kind walk.list walk.at)
+    (λ p b q k. search (rules, tests)) ∙
+    all_tests (sound_parameter shape) (cut shape 0 (drop a.from a.s.now))
