@@ -1,9 +1,9 @@
 -- Numbers in a slice, a byte at a time.
-use mathlib.Core.Path.{◌≡◌, refl, sym, ap, ap₂, ◌∙◌}
-use Prim.Native.Nat.{ℕ, zero, suc, ◌+◌, ◌*◌, ◌≤◌}
+use mathlib.Core.Path.{◌≡◌, refl, ap, ap₂, ◌∙◌}
+use Prim.Native.Nat.{ℕ, suc, ◌+◌, ◌*◌}
 use native.Mathlib.Nat.{add-zero}
-use mathlib.Core.List.{List, []}
-use lib.ListN.{length, drop, replicate, drop_of_length-le}
+use mathlib.Core.List.{List}
+use lib.ListN.{drop, replicate}
 use lib.Seq.{get_or-drop, drop-drop}
 use native.Mathlib.Omega.{arith}
 use Rattle.rules.specs.Messages.Layout.{byte_at, number_of, number_at}
@@ -25,19 +25,3 @@ number_one at s = number_more 0 at s ∙ (let z = number_none (at + 1) s in omeg
 
 pub number_two : (at : ℕ) (s : List ℕ) → number_at 2 at s ≡ byte_at s at + 256 * byte_at s (at + 1)
 number_two at s = number_more 1 at s ∙ ap (λ r. byte_at s at + 256 * r) (number_one (at + 1) s)
-
--- past the end stands 0
-none_there : (n : ℕ) → number_of (replicate n 8) [] ≡ 0
-unfolding number_of
-none_there zero = refl
-none_there (suc n) = ap (λ r. 0 + 256 * r) (none_there n)
-
-pub number_past : (n at : ℕ) (s : List ℕ) → length s ≤ at → 0 ≡ number_at n at s
-number_past n at s h = sym (ap (number_of (replicate n 8)) (drop_of_length-le s h) ∙ none_there n)
-
--- what the readers of two and three bytes return
-pub two_bytes : (at : ℕ) (s : List ℕ) {low high : ℕ} → low ≡ byte_at s at → high ≡ byte_at s (at + 1) → low + 256 * high ≡ number_at 2 at s
-two_bytes at s p q = ap₂ (λ l h. l + 256 * h) p q ∙ sym (number_two at s)
-
-pub three_bytes : (at : ℕ) (s : List ℕ) {low high : ℕ} → low ≡ byte_at s at → high ≡ number_at 2 (at + 1) s → low + 256 * high ≡ number_at 3 at s
-three_bytes at s p q = ap₂ (λ l h. l + 256 * h) p q ∙ sym (number_more 2 at s)

@@ -12,8 +12,8 @@ use rules::bits;
 // Codes that a byte of a set holds, from its lowest bit on.
 const CODES_A_BYTE: u8 = 8;
 
-// Bytes of the universal set: the others would be 0.
-const UNIVERSAL: u8 = 4;
+// The bytes of the universal set: the others would be 0.
+const UNIVERSAL: [u8; 4] = [0b1111_1111, 0b1111_1100, 0b0101_1011, 0b1111_1111];
 
 // Its first `len` bytes were given; codes behind them are not in it.
 #[derive(Clone, Copy)]
@@ -22,22 +22,12 @@ pub struct Set {
     pub len: u8,
 }
 
-// As many bytes as a set can have.
-fn front(given: &[u8]) -> &[u8]
-    ensures { (result.now ≡ take set_size given.now) × (length result.now ≤ set_size) }
-{
-    if given.len() <= rules::SET_SIZE {
-        return given;
-    }
-    &given[..rules::SET_SIZE]
-}
-
 impl Set {
     // The set that these bytes are.
     pub fn of(given: &[u8]) -> Set
         ensures { (set_of result ≡ take set_size given.now) × CountedSet result }
     {
-        let kept = front(given);
+        let kept = &given[..given.len().min(rules::SET_SIZE)];
         let mut held = [0u8; rules::SET_SIZE];
         held[..kept.len()].copy_from_slice(kept);
         let len = kept.len() as u8;
@@ -48,15 +38,7 @@ impl Set {
     pub fn universal() -> Set
         ensures { (set_of result ≡ sets.universal) × CountedSet result }
     {
-        let mut bytes = [0u8; rules::SET_SIZE];
-        bytes[0] = 0b1111_1111;
-        bytes[1] = 0b1111_1100;
-        bytes[2] = 0b0101_1011;
-        bytes[3] = 0b1111_1111;
-        Set {
-            bytes,
-            len: UNIVERSAL,
-        }
+        Set::of(&UNIVERSAL)
     }
 
     // A code is in the set: its bit is 1, in a byte that the set has.

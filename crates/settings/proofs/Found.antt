@@ -3,9 +3,9 @@ use mathlib.Core.Path.{◌≡◌, sym, ap, ◌∙◌}
 use Prim.Native.Nat.{ℕ, ◌≤◌}
 use mathlib.Core.Bool.{Bool, true, false, ◌&&◌}
 use mathlib.Core.List.{List, []}
-use lib.Dec.{leb}
+use lib.Dec.{leb, eqb}
 use lib.ListN.{length}
-use borrow.Author.Tests.{leb-true, eq-eqb, ne_eqb}
+use borrow.Author.Tests.{leb-true}
 use Rattle.rules.specs.Choice.{within, is_empty}
 use Rattle.rules.specs.Settings.{section_in, is_sound, are_sound, found_section}
 use Rattle.rules.proofs.Choice.{pick_true, pick-false, thirds, empty_length}
@@ -29,17 +29,17 @@ module _ (n : ℕ) (own site : List ℕ) {a b : Bool} (p : a ≡ is_sound own) (
   not_found t = sym (pick-false _ _ (same_test ∙ t))
 
   module _ {s : List ℕ} (t : asked n a b ≡ true) (e : s ≡ section_in n own) where
-    pub from_site : length s ≡ 0 → section_in n site ≡ found_section n own site
+    pub from_site : eqb (length s) 0 ≡ true → section_in n site ≡ found_section n own site
     unfolding found_section
     from_site z =
         sym
         (pick_true _ _ (same_test ∙ t) ∙
-        pick_true _ _ (ap is_empty (sym e) ∙ empty_length s ∙ eq-eqb (length s) 0 z))
+        pick_true _ _ (ap is_empty (sym e) ∙ empty_length s ∙ z))
 
-    pub from_own : (length s ≡ 0 → ⊥) → s ≡ found_section n own site
+    pub from_own : eqb (length s) 0 ≡ false → s ≡ found_section n own site
     unfolding found_section
     from_own z =
         e ∙
         sym
         (pick_true _ _ (same_test ∙ t) ∙
-        pick-false _ _ (ap is_empty (sym e) ∙ empty_length s ∙ ne_eqb (length s) 0 z))
+        pick-false _ _ (ap is_empty (sym e) ∙ empty_length s ∙ z))

@@ -4,13 +4,14 @@
 ghost use Rattle.std.specs.Prelude.{◌≡◌};
 ghost use Rattle.rules.specs.Settings.{is_sound, found_section, table_in};
 
+mod forms;
 mod moving;
 mod sections;
 mod sound;
 
+use crate::forms::Form;
 pub use crate::moving::{to_form_1, to_form_2};
 use crate::sections::section_in;
-use rules::forms;
 
 // The forms: the first byte of a record.
 pub const FORM_1: u8 = 1;
@@ -31,7 +32,7 @@ const SECTION_COUNT: u8 = LARGEST_READ_SECTION;
 // Characteristics: selector and value of each.
 pub const SWITCH_SIZE: usize = 3;
 
-pub const SELECTOR_BYTES: usize = forms::WORD_BYTES as usize;
+pub const SELECTOR_BYTES: usize = rules::forms::WORD_BYTES as usize;
 
 const SWITCH_COUNT: usize = 4;
 
@@ -42,9 +43,10 @@ const PAIR_SIZE: usize = 2;
 pub fn is_sound(record: &[u8]) -> bool
     ensures { result ≡ is_sound «record».now }
 {
-    let form = fields::byte_at(record, 0);
-    ((form == FORM_1) | (form == FORM_2))
-        & sections::are_whole(SECTION_COUNT, sections::behind_form(record))
+    let Some(form) = Form::of(fields::byte_at(record, 0)) else {
+        return false;
+    };
+    sections::are_whole(SECTION_COUNT, sections::behind_form(record))
         & sound::switches(section_in(CHARACTERISTICS_SECTION, record))
         & sound::pairs(section_in(ATTRIBUTES_SECTION, record))
         & sound::set(section_in(SET_SECTION, record))
@@ -55,12 +57,13 @@ pub fn is_sound(record: &[u8]) -> bool
 pub fn section<'a>(n: u8, own: &'a [u8], site: &'a [u8]) -> &'a [u8]
     ensures { result.now ≡ found_section n own.now site.now }
 {
+    let is_one = (CHARACTERISTICS_SECTION <= n) & (n <= SECTION_COUNT);
     let both = is_sound(own) & is_sound(site);
-    if !((CHARACTERISTICS_SECTION <= n) & (n <= SECTION_COUNT) & both) {
-        return &own[..0];
+    if !(is_one & both) {
+        return &[];
     }
     let found = section_in(n, own);
-    if found.len() == 0 {
+    if found.is_empty() {
         return section_in(n, site);
     }
     found

@@ -3,32 +3,23 @@ ghost use Rattle.std.specs.Prelude.{◌≡◌, ◌≤◌, length};
 ghost use Rattle.rules.specs.Messages.Layout.{framed};
 ghost use Rattle.rules.specs.Settings.{form1, form2, largest_read_section, section_in};
 ghost use Rattle.rules.specs.Settings.Moving as rules;
+ghost use Rattle.settings.specs.Forms.{code_of};
 ghost use Rattle.areas.specs.Writes.{Writes};
 ghost use Rattle.areas.specs.InFront.{InFront};
 
+use crate::forms::Form;
 use crate::sections::section_in;
-use crate::sound::{largest_read_bytes, top_largest_read};
 use crate::{
-    ATTRIBUTES_SECTION, CHARACTERISTICS_SECTION, FORM_1, FORM_2, LARGEST_READ_SECTION, SET_SECTION,
-    is_sound,
+    ATTRIBUTES_SECTION, CHARACTERISTICS_SECTION, LARGEST_READ_SECTION, SET_SECTION, is_sound,
 };
 use areas::Writer;
 use rules::refusals::Refusal;
 
-fn other_form(form: u8) -> u8
-    ensures { result ≡ rules.other_form form }
-{
-    if form == FORM_1 {
-        return FORM_2;
-    }
-    FORM_1
-}
-
 // A sound record of the other form.
-fn is_movable(form: u8, record: &[u8]) -> bool
-    ensures { result ≡ rules.is_movable form «record».now }
+fn is_movable(form: Form, record: &[u8]) -> bool
+    ensures { result ≡ rules.is_movable (code_of form) «record».now }
 {
-    is_sound(record) & (fields::byte_at(record, 0) == other_form(form))
+    is_sound(record) & (fields::byte_at(record, 0) == form.other().code())
 }
 
 // Its largest read, 0 where it has none.
@@ -49,22 +40,22 @@ fn put_section(n: u8, record: &[u8], w: &mut Writer)
 }
 
 // The section of the largest read, as another form has it.
-fn put_largest_read(form: u8, record: &[u8], w: &mut Writer)
-    ensures { Writes (framed (rules.largest_read_as form (section_in largest_read_section «record».now))) w.old w.new }
+fn put_largest_read(form: Form, record: &[u8], w: &mut Writer)
+    ensures { Writes (framed (rules.largest_read_as (code_of form) (section_in largest_read_section «record».now))) w.old w.new }
 {
     let section = section_in(LARGEST_READ_SECTION, record);
-    if section.len() == 0 {
+    if section.is_empty() {
         return w.put_word(0);
     }
-    let width = largest_read_bytes(form);
+    let width = form.largest_read_bytes();
     w.put_word(width as u16);
     w.put_number(width, fields::word_at(section, 0) as u32);
 }
 
-fn put_moved(form: u8, record: &[u8], w: &mut Writer)
-    ensures { Writes (rules.moved form «record».now) w.old w.new }
+fn put_moved(form: Form, record: &[u8], w: &mut Writer)
+    ensures { Writes (rules.moved (code_of form) «record».now) w.old w.new }
 {
-    w.put(form);
+    w.put(form.code());
     put_section(CHARACTERISTICS_SECTION, record, w);
     put_section(ATTRIBUTES_SECTION, record, w);
     put_section(SET_SECTION, record, w);
@@ -72,8 +63,8 @@ fn put_moved(form: u8, record: &[u8], w: &mut Writer)
 }
 
 // The first refusal that applies, with the area untouched, else the record in the form.
-fn move_to(form: u8, record: &[u8], area: &mut [u8]) -> Result<usize, Refusal>
-    ensures { InFront (rules.move form (length area.old) «record».now) area.old result area.new }
+fn move_to(form: Form, record: &[u8], area: &mut [u8]) -> Result<usize, Refusal>
+    ensures { InFront (rules.move (code_of form) (length area.old) «record».now) area.old result area.new }
 {
     if area.len() < rules::MOVING_AREA {
         return Err(Refusal::SmallArea);
@@ -81,7 +72,7 @@ fn move_to(form: u8, record: &[u8], area: &mut [u8]) -> Result<usize, Refusal>
     if !is_movable(form, record) {
         return Err(Refusal::UnsoundRecord);
     }
-    if top_largest_read(form) < largest_read_of(record) {
+    if form.top_largest_read() < largest_read_of(record) {
         return Err(Refusal::TooLarge);
     }
     let mut w = Writer { area, at: 0 };
@@ -93,12 +84,12 @@ fn move_to(form: u8, record: &[u8], area: &mut [u8]) -> Result<usize, Refusal>
 pub fn to_form_1(record: &[u8], area: &mut [u8]) -> Result<usize, Refusal>
     ensures { InFront (rules.move form1 (length area.old) «record».now) area.old result area.new }
 {
-    move_to(FORM_1, record, area)
+    move_to(Form::One, record, area)
 }
 
 // A record of form 1, in form 2.
 pub fn to_form_2(record: &[u8], area: &mut [u8]) -> Result<usize, Refusal>
     ensures { InFront (rules.move form2 (length area.old) «record».now) area.old result area.new }
 {
-    move_to(FORM_2, record, area)
+    move_to(Form::Two, record, area)
 }

@@ -13,10 +13,7 @@ const WORD_BYTES: usize = forms::WORD_BYTES as usize;
 pub(crate) fn behind_form(record: &[u8]) -> &[u8]
     ensures { result.now ≡ behind_form «record».now }
 {
-    if record.len() < FORM_BYTES {
-        return record;
-    }
-    &record[FORM_BYTES..]
+    &record[record.len().min(FORM_BYTES)..]
 }
 
 // How far the next section reaches, its length included.
@@ -30,22 +27,14 @@ fn front_end(rest: &[u8]) -> usize
 fn kept_end(rest: &[u8]) -> usize
     ensures { result ≡ min (length rest.now) (word_bytes + section_length rest.now) }
 {
-    let end = front_end(rest);
-    if rest.len() < end {
-        return rest.len();
-    }
-    end
+    rest.len().min(front_end(rest))
 }
 
 // The next section.
 fn front(rest: &[u8]) -> &[u8]
     ensures { result.now ≡ front_section rest.now }
 {
-    let end = kept_end(rest);
-    if end < WORD_BYTES {
-        return &rest[..0];
-    }
-    &rest[WORD_BYTES..end]
+    &rest[rest.len().min(WORD_BYTES)..kept_end(rest)]
 }
 
 // So many sections, none cut short, and nothing behind the last.
@@ -75,7 +64,7 @@ fn section_behind(n: u8, sections: &[u8]) -> &[u8]
     front(rest)
 }
 
-// Section n, counted from 1.
+// Section n, counted from 1: a number, as in the public `section`, which takes any.
 pub(crate) fn section_in(n: u8, record: &[u8]) -> &[u8]
     requires { 1 ≤ n }
     ensures { result.now ≡ section_in n «record».now }

@@ -1,18 +1,11 @@
 // What each section may hold.
 ghost use Rattle.std.specs.Prelude.{◌≡◌};
 ghost use Rattle.rules.specs.Settings as rules;
+ghost use Rattle.settings.specs.Forms.{code_of};
 
-use crate::{FORM_1, PAIR_SIZE, SELECTOR_BYTES, SWITCH_COUNT, SWITCH_SIZE};
-use rules::{bits, forms, out_of_band, selectors};
-
-// The largest read in each form: its bytes, and the most that it may be.
-const FORM_1_BYTES: u8 = 1;
-
-const FORM_2_BYTES: u8 = forms::WORD_BYTES;
-
-const FORM_1_TOP: u16 = 132;
-
-const FORM_2_TOP: u16 = 1024;
+use crate::forms::Form;
+use crate::{PAIR_SIZE, SELECTOR_BYTES, SWITCH_COUNT, SWITCH_SIZE};
+use rules::{bits, out_of_band, selectors};
 
 // The n-th switch is this one, on or off.
 fn is_switch(section: &[u8], n: u8, selector: u16) -> bool
@@ -27,7 +20,7 @@ fn is_switch(section: &[u8], n: u8, selector: u16) -> bool
 pub(crate) fn switches(section: &[u8]) -> bool
     ensures { result ≡ rules.sound_switches section.now }
 {
-    (section.len() == 0)
+    section.is_empty()
         | (section.len() == SWITCH_COUNT * SWITCH_SIZE)
             & is_switch(section, 0, selectors::RAISE_INPUT)
             & is_switch(section, 1, selectors::NORMAL_ECHO)
@@ -41,7 +34,7 @@ fn is_listed(value: u8) -> bool
 {
     (1 <= value)
         & (value <= bits::WHOLE_MASK)
-        & !(value % out_of_band::VALUES == out_of_band::DEFERRED_CLEAR)
+        & (value % out_of_band::VALUES != out_of_band::DEFERRED_CLEAR)
 }
 
 // Whole pairs, their codes ascending.
@@ -49,54 +42,29 @@ pub(crate) fn pairs(section: &[u8]) -> bool
     ensures { result ≡ rules.sound_pairs 0 section.now }
 {
     let mut least: u16 = 0;
-    let mut i = 0;
-    while PAIR_SIZE <= section.len() - i {
-        let code = section[i] as u16;
-        let value = section[i + 1];
-        i += PAIR_SIZE;
-        if !((least <= code) & is_listed(value)) {
+    for pair in section.chunks_exact(PAIR_SIZE) {
+        let code = pair[0] as u16;
+        let sound = (least <= code) & is_listed(pair[1]);
+        if !sound {
             return false;
         }
         least = code + 1;
     }
-    section.len() - i == 0
+    section.len() % PAIR_SIZE == 0
 }
 
 // A termination set: its last byte is not 0.
 pub(crate) fn set(section: &[u8]) -> bool
     ensures { result ≡ rules.sound_set section.now }
 {
-    if section.len() == 0 {
-        return true;
-    }
-    (section.len() <= rules::SET_SIZE) & !(fields::byte_at(section, section.len() - 1) == 0)
-}
-
-// Bytes of a largest read.
-pub(crate) fn largest_read_bytes(form: u8) -> u8
-    ensures { result ≡ rules.largest_read_bytes form }
-{
-    if form == FORM_1 {
-        return FORM_1_BYTES;
-    }
-    FORM_2_BYTES
-}
-
-// And the most that it may be.
-pub(crate) fn top_largest_read(form: u8) -> u16
-    ensures { result ≡ rules.top_largest_read form }
-{
-    if form == FORM_1 {
-        return FORM_1_TOP;
-    }
-    FORM_2_TOP
+    (section.len() <= rules::SET_SIZE) & (section.last().copied() != Some(0))
 }
 
 // None, or as the form has it.
-pub(crate) fn largest_read(form: u8, section: &[u8]) -> bool
-    ensures { result ≡ rules.sound_largest_read form section.now }
+pub(crate) fn largest_read(form: Form, section: &[u8]) -> bool
+    ensures { result ≡ rules.sound_largest_read (code_of form) section.now }
 {
-    (section.len() == 0)
-        | (section.len() == largest_read_bytes(form) as usize)
-            & (fields::word_at(section, 0) <= top_largest_read(form))
+    section.is_empty()
+        | (section.len() == form.largest_read_bytes() as usize)
+            & (fields::word_at(section, 0) <= form.top_largest_read())
 }

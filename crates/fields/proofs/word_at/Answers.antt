@@ -1,11 +1,7 @@
-use native.Mathlib.Omega.{arith}
-use Rattle.fields.proofs.Numbers.{number_past, two_bytes}
+use Rattle.std.proofs.Common.{rules}
+use Rattle.rules.specs.Messages.Layout.{number_of}
 use Rattle.fields.proofs.word_at.Goals as goal
 
-pub returns-then-s-at : goal.returns-then-s-at
-returns-then-s-at c = let a = c.args in number_past 2 a.at a.s.now (omega arith)
-
 pub returns : goal.returns
-returns c =
-    let a = c.args in
-    two_bytes a.at a.s.now c.byte_at-low.ensures c.byte_at-high.ensures
+unfolding number_of
+returns c = search rules

@@ -1,4 +1,4 @@
-use mathlib.Core.Path.{sym}
+use mathlib.Core.Path.{sym, ◌∙◌}
 use mathlib.Core.Bool.{◌&&◌, ◌||◌}
 use lib.ListN.{length}
 use lib.Dec.{eqb, leb}
@@ -10,4 +10,4 @@ pub returns : goal.returns
 unfolding sound_largest_read
 returns c =
     let s = c.args.section.now in
-    λ i. sym (empty_length s) i || eqb (length s) (c.largest_read_bytes.ensures i) && leb (c.word_at.ensures i) (c.top_largest_read.ensures i)
+    λ i. (c.is_empty.ensures ∙ sym (empty_length s)) i || eqb (length s) (c.largest_read_bytes.ensures i) && leb (c.word_at.ensures i) (c.top_largest_read.ensures i)

@@ -1,23 +1,27 @@
-use mathlib.Core.Path.{sym, ap, ◌∙◌}
-use Prim.Native.Nat.{◌-◌}
-use mathlib.Core.Bool.{not, ◌&&◌, ◌||◌}
-use lib.ListN.{length}
+use mathlib.Core.Path.{◌≡◌, refl, ap, ◌∙◌}
+use mathlib.Core.Bool.{not, ◌&&◌}
+use mathlib.Core.List.{List, [], ◌∷◌}
+use Prim.Native.Nat.{ℕ, ◌-◌}
+use native.Mathlib.Omega.{arith}
 use lib.Dec.{eqb, leb}
-use borrow.Author.Tests.{eq-eqb, ne_eqb}
+use lib.ListN.{length}
+use Rattle.std.specs.Prelude.{Some}
+use Rattle.std.specs.List.{slice_get}
+use Rattle.std.specs.Option.{option_eq}
+use Rattle.std.proofs.lemmas.Option.{slice_get-get_or}
+use Rattle.rules.specs.Choice.{is_empty}
 use Rattle.rules.specs.Settings.{sound_set}
-use Rattle.rules.specs.Messages.Layout.{byte_at}
-use Rattle.rules.proofs.Choice.{empty_length}
 use Rattle.settings.proofs.sound.set.Goals as goal
 
-pub returns-then-section-eq0 : goal.returns-then-section-eq0
-unfolding sound_set
-returns-then-section-eq0 c =
-    let s = c.args.section.now in
-    sym (ap (λ t. t || leb (length s) 32 && not (eqb (byte_at s (length s - 1)) 0)) (empty_length s ∙ eq-eqb (length s) 0 c.if-section-eq0.true))
+-- an empty section has no last byte
+last_test : (s : List ℕ) → leb (length s) 32 && not (option_eq eqb (slice_get s (length s - 1)) (Some 0)) ≡ sound_set s
+unfolding sound_set is_empty
+last_test [] = refl
+last_test (b ∷ bs) =
+    let s = b ∷ bs in
+    ap (λ last. leb (length s) 32 && not (option_eq eqb last (Some 0))) (slice_get-get_or s (length s - 1) 0 (omega arith))
 
 pub returns : goal.returns
-unfolding sound_set
 returns c =
     let s = c.args.section.now in
-    let some = empty_length s ∙ ne_eqb (length s) 0 c.if-section-eq0.false in
-    λ i. sym some i || leb (length s) 32 && not (eqb (c.byte_at.ensures i) 0)
+    ap (λ t. leb (length s) 32 && t) (c.ne.ensures ∙ ap (λ last. not (option_eq eqb last (Some 0))) (c.copied.ensures ∙ c.last.ensures.value)) ∙ last_test s

@@ -1,4 +1,4 @@
-use mathlib.Core.Path.{sym}
+use mathlib.Core.Path.{sym, ◌∙◌}
 use mathlib.Core.Bool.{◌&&◌, ◌||◌}
 use lib.ListN.{length}
 use lib.Dec.{eqb}
@@ -11,7 +11,7 @@ unfolding sound_switches
 returns c =
     let s = c.args.section.now in
     λ i.
-    sym (empty_length s) i ||
+    (c.is_empty.ensures ∙ sym (empty_length s)) i ||
     eqb (length s) 12 &&
     c.is_switch.ensures i &&
     c.is_switch-2.ensures i &&
