@@ -67,7 +67,7 @@ impl Work {
         let typed = flow.typed;
         let terminal = flow.terminal;
         let cursor = terminal.screen;
-        let more = typed.more_data();
+        let more = u8::from(typed.has_more_data());
         let vertical = screen::columns::change(cursor.line as u16, t.line as u16);
         let horizontal = screen::columns::change(cursor.column, t.column);
         let text = Span {

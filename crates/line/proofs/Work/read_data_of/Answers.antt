@@ -1,5 +1,8 @@
+use mathlib.Core.Path.{ap, ◌∙◌}
 use native.Mathlib.Omega.{arith}
 use lib.ListN.{length}
+use Rattle.rules.specs.Choice.{bit}
+use Rattle.line.proofs.InputAppended.{bit_is}
 use Rattle.line.proofs.FlowChanges.{read_data_held}
 use Rattle.writing.specs.Spans.{spans_of}
 use Rattle.line.proofs.SentMessages.{text_inside}
@@ -10,7 +13,7 @@ unfolding spans_of
 returns c =
     let a = c.args in
     λ text k l full. (
-      read_data_held a.self.flow a.t a.r a.code a.ending text k l full (c.more_data-more.ensures k.keys)
+      read_data_held a.self.flow a.t a.r a.code a.ending text k l full (c.from-more.ensures ∙ bit_is _ ∙ ap bit (c.has_more_data.ensures k.keys))
           c.change-vertical.ensures c.change-horizontal.ensures,
       text_inside a.r.input_len (length text) (omega (arith, full.within, full.full)),
     )
