@@ -15,8 +15,8 @@ use Rattle.line.specs.declared.acts.Act.{Act}
 use Rattle.line.specs.declared.acts.Act.TheVariants.{Nothing, Obeys}
 use Rattle.line.specs.declared.events.HostMessage.{HostMessage}
 use Rattle.line.specs.declared.events.Event.{Event}
-use Rattle.line.specs.declared.events.Event.TheVariants.{Key, Tick, Step, Host}
 use Rattle.line.specs.declared.events.Lookup.{Lookup}
+use Rattle.line.specs.declared.events.Event.TheVariants.{Key, Tick, Step, Host}
 use Rattle.line.specs.Events.{LookedUp, is_act_of, event_rule}
 use Rattle.line.specs.View.{view, pending_of, reading_of}
 use Rattle.line.specs.Promise.{Progress, Does}
@@ -82,9 +82,9 @@ module _ {rule : Rule ℕ} {s : List ℕ} {w r : Progress} {a : Act} {t t' m m' 
       }
 
 -- An event, by its case.
-module _ (s : List ℕ) (l : Line) (lookup : Lookup) {a : Act} {e f : Event} where
-  pub event_meets : e ≡ f → LookedUp s l lookup e → (LookedUp s l lookup f → Meets (event_rule s f) s l a) → Meets (event_rule s e) s l a
-  event_meets h b k = subst (λ x. Meets (event_rule s x) s l a) (sym h) (k (subst (LookedUp s l lookup) h b))
+module _ (s : List ℕ) (l : Line) {a : Act} {e f : Event} where
+  pub event_meets : e ≡ f → LookedUp s l e → (LookedUp s l f → Meets (event_rule s f) s l a) → Meets (event_rule s e) s l a
+  event_meets h b k = subst (λ x. Meets (event_rule s x) s l a) (sym h) (k (subst (LookedUp s l) h b))
 
 pub kind_as : (a : Act) {e f : Event} → e ≡ f → is_act_of f a ≡ true → is_act_of e a ≡ true
 kind_as a h k = ap (λ x. is_act_of x a) h ∙ k
@@ -94,19 +94,19 @@ host_kind m h = kind_as (Obeys m) h refl
 
 -- none is an act of every event
 pub none_of : (e : Event) → is_act_of e Nothing ≡ true
-none_of (Key c) = refl
-none_of Tick = refl
-none_of Step = refl
+none_of (Key c attribute initiated) = refl
+none_of (Tick held) = refl
+none_of (Step lookup) = refl
 none_of (Host m) = refl
 
 -- events of different cases are different
-pub key_host : {c : ℕ} {m : HostMessage} → Key c ≡ Host m → ⊥
+pub key_host : {c attribute : ℕ} {initiated : Bool} {m : HostMessage} → Key c attribute initiated ≡ Host m → ⊥
 key_host e = let z : ◌≡◌ {A = ℕ} 0 1 = cc in omega arith
 
-pub tick_host : {m : HostMessage} → Tick ≡ Host m → ⊥
+pub tick_host : {held : Bool} {m : HostMessage} → Tick held ≡ Host m → ⊥
 tick_host e = let z : ◌≡◌ {A = ℕ} 0 1 = cc in omega arith
 
-pub step_host : {m : HostMessage} → Step ≡ Host m → ⊥
+pub step_host : {lookup : Lookup} {m : HostMessage} → Step lookup ≡ Host m → ⊥
 step_host e = let z : ◌≡◌ {A = ℕ} 0 1 = cc in omega arith
 
 pub event_same : {m n : HostMessage} → Host m ≡ Host n → m ≡ n

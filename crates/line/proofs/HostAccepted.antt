@@ -27,20 +27,20 @@ use Rattle.characteristics.specs.Lists.{questions_in}
 use Rattle.characteristics.proofs.Held.{held_questions}
 use Rattle.line.specs.declared.Line.{Line}
 use Rattle.line.specs.declared.Terms.{Terms}
-use Rattle.line.specs.declared.events.Sender.TheVariants as sender
+use Rattle.std.proofs.Common.{Some, None}
 use Rattle.line.specs.contracts.events.HostMessage.{the_type as host_type}
 use Rattle.line.specs.declared.events.HostMessage.{HostMessage}
 use Rattle.line.specs.declared.events.HostMessage.TheVariants.{Initiate, StartRead, Unread, ClearInput, Write, ReadCharacteristics, Characteristics, CheckInput}
 use Rattle.line.specs.View.{view}
 use Rattle.line.specs.StartRead.{Startable}
-use Rattle.line.specs.Host.{message_of, sender_of, Accepted, flow_rule, StartableMessage, Prompts, SetBy, Reported}
+use Rattle.line.specs.Host.{message_of, host_message_of, Accepted, flow_rule, StartableMessage, Prompts, SetBy, Reported}
 use Rattle.line.specs.Promise.{Progress, Does}
 
-sender_same : {g h : HostMessage} → sender.Host g ≡ sender.Host h → g ≡ h
-sender_same e = cc
+some_same : {g h : HostMessage} → Some g ≡ Some h → g ≡ h
+some_same e = cc
 
-server_host : {h : HostMessage} → sender.Server ≡ sender.Host h → ⊥
-server_host e = let z : ◌≡◌ {A = ℕ} 0 1 = cc in omega arith
+none_some : {h : HostMessage} → None ≡ Some h → ⊥
+none_some e = let z : ◌≡◌ {A = ℕ} 0 1 = cc in omega arith
 
 held_same : {x y : forms.Message ℕ} → codec.message x ≡ codec.message y → x ≡ y
 held_same e = cc
@@ -86,7 +86,7 @@ module _ (s : List ℕ) (l : Line) (t : Terms) (k : Line) {w r : Progress} {a b 
 abbrev servers : List ℕ
 servers = 2 ∷ 3 ∷ 7 ∷ 8 ∷ 12 ∷ 13 ∷ 14 ∷ []
 
-pub server_sends : (m : Message) → OneOf servers (tag_of the_type m) → sender.Server ≡ sender_of m
+pub server_sends : (m : Message) → OneOf servers (tag_of the_type m) → None ≡ host_message_of m
 server_sends (message.ReadData f) h = refl
 server_sends (message.OutOfBand discard character) h = refl
 server_sends (message.WriteCompletion lost horizontal vertical) h = refl
@@ -104,22 +104,22 @@ server_sends (message.Characteristics p) h = absurd (miss servers 10 tt h)
 server_sends message.CheckInput h = absurd (miss servers 11 tt h)
 
 -- a message that a host sends is the one that it was taken for
-pub host_sends : (m : Message) (h : HostMessage) → sender_of m ≡ sender.Host h → m ≡ message_of h
-host_sends (message.Initiate f) h e = ap message_of (sender_same e)
-host_sends (message.StartRead f) h e = ap message_of (sender_same e)
-host_sends (message.Unread condition) h e = ap message_of (sender_same e)
-host_sends message.ClearInput h e = ap message_of (sender_same e)
-host_sends (message.Write f) h e = ap message_of (sender_same e)
-host_sends (message.ReadCharacteristics p) h e = ap message_of (sender_same e)
-host_sends (message.Characteristics p) h e = ap message_of (sender_same e)
-host_sends message.CheckInput h e = ap message_of (sender_same e)
-host_sends (message.ReadData f) h e = absurd (server_host e)
-host_sends (message.OutOfBand discard character) h e = absurd (server_host e)
-host_sends (message.WriteCompletion lost horizontal vertical) h e = absurd (server_host e)
-host_sends (message.DiscardState kept) h e = absurd (server_host e)
-host_sends (message.InputCount count) h e = absurd (server_host e)
-host_sends (message.InputState nonzero) h e = absurd (server_host e)
-host_sends (message.Other kind body) h e = absurd (server_host e)
+pub host_sends : (m : Message) (h : HostMessage) → host_message_of m ≡ Some h → m ≡ message_of h
+host_sends (message.Initiate f) h e = ap message_of (some_same e)
+host_sends (message.StartRead f) h e = ap message_of (some_same e)
+host_sends (message.Unread condition) h e = ap message_of (some_same e)
+host_sends message.ClearInput h e = ap message_of (some_same e)
+host_sends (message.Write f) h e = ap message_of (some_same e)
+host_sends (message.ReadCharacteristics p) h e = ap message_of (some_same e)
+host_sends (message.Characteristics p) h e = ap message_of (some_same e)
+host_sends message.CheckInput h e = ap message_of (some_same e)
+host_sends (message.ReadData f) h e = absurd (none_some e)
+host_sends (message.OutOfBand discard character) h e = absurd (none_some e)
+host_sends (message.WriteCompletion lost horizontal vertical) h e = absurd (none_some e)
+host_sends (message.DiscardState kept) h e = absurd (none_some e)
+host_sends (message.InputCount count) h e = absurd (none_some e)
+host_sends (message.InputState nonzero) h e = absurd (none_some e)
+host_sends (message.Other kind body) h e = absurd (none_some e)
 
 -- Whether a message is carried, by what it is found to be.
 module _ (s : List ℕ) (state : State ℕ) where

@@ -1,18 +1,19 @@
 -- A read with more characters, and what is displayed of one.
-use mathlib.Core.Path.{◌≡◌, refl, sym, ap, ◌∙◌}
+use mathlib.Core.Path.{◌≡◌, refl, sym, ap, ap₂, ◌∙◌}
 use Prim.Native.Nat.{ℕ, zero, suc, ◌+◌, ◌-◌, ◌≤◌, ◌<◌}
-use native.Mathlib.Numerals.{add-one}
 use native.Mathlib.Omega.{arith}
 use mathlib.Core.Bool.{Bool, true, false, ◌&&◌}
-use mathlib.Core.List.{List, [], ◌∷◌, ◌++◌, append-nil, append_assoc, map-id}
+use mathlib.Core.List.{List, [], ◌∷◌, ◌++◌, map-id}
 use lib.Dec.{ltb, eqb}
-use lib.ListN.{length, get_or, take, drop, set, length-set, length-append}
-use lib.Seq.{take-suc, take-suc-set, take-nil, drop-nil, length-take-le}
+use lib.ListN.{length, take, drop, take-append-drop, length-append, length-drop}
+use lib.Seq.{take-nil, drop-nil, length-take-le}
+use mir.Val.{bool_byte}
+use Rattle.std.proofs.lemmas.Slice.{drop-append-drop}
 use borrow.Author.Tests.{ltb-true, ltb-false}
 use Rattle.rules.specs.Choice.{pick, bit, is_empty}
 use Rattle.rules.specs.Numbers.{input_size}
 use Rattle.rules.specs.State as rules
-use Rattle.rules.specs.State.{codes, with_input}
+use Rattle.rules.specs.State.{codes}
 use Rattle.rules.specs.Editing.{end_of, hidden_count, displayed}
 use Rattle.rules.specs.Steps.{appended}
 use Rattle.rules.proofs.Choice.{pick_true, pick-false, halves}
@@ -37,13 +38,6 @@ pub end_is : (t : Terms) (text : List ℕ) (l : Line) (r : Reading) → CountedR
     t.end_of_prompt + r.input_len ≡ end_of (reading_of (lent t text l) r)
 unfolding end_of
 end_is t text l r c = ap (λ n. t.end_of_prompt + n) (sym (input-length r.input_len text (omega arith)))
-
--- a store in front of a place leaves what stands behind that place
-drop-set : (text : List ℕ) (n k c : ℕ) → n < k → drop k (set text n c) ≡ drop k text
-drop-set [] n k c h = refl
-drop-set (x ∷ text) n zero c h = absurd (omega arith)
-drop-set (x ∷ text) zero (suc k) c h = refl
-drop-set (x ∷ text) (suc n) (suc k) c h = drop-set text n k c (omega arith)
 
 -- a read with its text changed: the prompt and the input as they are in the new text
 abbrev with_prompt_and_input : List ℕ → List ℕ → Reading → Line → rules.Reading ℕ
@@ -74,54 +68,30 @@ with_prompt_and_input prompt input r l =
       idle = e.idle;
     }
 
--- the character behind the others, as the program stores it
-abbrev with_pushed : Reading → Reading
-with_pushed r =
-    record { input_len = r.input_len + 1; low_water = r.low_water; hidden_lf = r.hidden_lf; display_column = r.display_column; idle = r.idle }
+-- characters behind the others, as the program stores them
+abbrev with_more : ℕ → Reading → Reading
+with_more count r =
+    record { input_len = r.input_len + count; low_water = r.low_water; hidden_lf = r.hidden_lf; display_column = r.display_column; idle = r.idle }
 
-pub pushed : (r : Reading) (text : List ℕ) (c : ℕ) → CountedReading r text → r.input_len < input_size →
-    Appends (c ∷ []) r text (with_pushed r) (set text r.input_len c)
+pub appends : (cs : List ℕ) (r : Reading) (text : List ℕ) {text' : List ℕ} → CountedReading r text → r.input_len + length cs ≤ input_size →
+    take (r.input_len + length cs) text' ≡ take r.input_len text ++ cs → drop (r.input_len + length cs) text' ≡ drop (r.input_len + length cs) text →
+    Appends cs r text (with_more (length cs) r) text'
 unfolding appended input_of prompt_of
-pushed r text c k h =
+appends cs r text {text'} counted room front behind =
     let n = r.input_len in
-    let room : n < length text = omega arith in
-    let more : take (n + 1) (set text n c) ≡ take n text ++ (c ∷ []) =
-    ap (λ i. take i (set text n c)) (add-one n) ∙ take-suc-set text n c room in
+    let kept = length-take-le n text (omega arith) in
+    let long : length (take n text ++ cs) ≡ n + length cs = omega (arith, length-append (take n text) cs) in
+    let whole : text' ≡ take n text ++ cs ++ drop (n + length cs) text = sym (take-append-drop (n + length cs) text') ∙ ap₂ (λ a b. a ++ b) front behind in
     record {
       same = λ t l fits.
-          let front : n < input_size - t.prompt_len = omega arith in
-          λ i. with_prompt_and_input (drop-set text n (input_size - t.prompt_len) c front i) (more i) r (lent t text l);
+          let far : n + length cs ≤ input_size - t.prompt_len = omega arith in
+          let prompt : drop (input_size - t.prompt_len) text' ≡ drop (input_size - t.prompt_len) text =
+          ap (drop (input_size - t.prompt_len)) whole ∙ drop-append-drop (n + length cs) text (take n text ++ cs) (input_size - t.prompt_len) far long in
+          λ i. with_prompt_and_input (prompt i) (front i) r (lent t text l);
       count = refl;
-      size = length-set text n c;
-    }
-
-pub appends_none : (r : Reading) (text : List ℕ) → Appends [] r text r text
-unfolding appended
-appends_none r text =
-    record {
-      same = λ t l fits i. with_input (sym (append-nil (input_of r.input_len text)) i) (reading_of (lent t text l) r);
-      count = omega arith;
-      size = refl;
-    }
-
--- some and then one more
-pub appends_more : (cs : List ℕ) (i : ℕ) {r next more : Reading} {text text' text'' : List ℕ} → i < length cs → Appends (take i cs) r text next text' →
-    Appends (get_or cs i 0 ∷ []) next text' more text'' → Appends (take (i + 1) cs) r text more text''
-unfolding appended
-appends_more cs i {r} {next} {more} {text} {text'} {text''} h a b =
-    let all : take i cs ++ get_or cs i 0 ∷ [] ≡ take (i + 1) cs = sym (ap (λ n. take n cs) (add-one i) ∙ take-suc cs i 0 h) in
-    let one = get_or cs i 0 ∷ [] in
-    let long = ap length all in
-    let sum = length-append (take i cs) one in
-    let before = a.count in
-    record {
-      same = λ t l fits.
-          b.same t l (omega arith) ∙ ap (appended one) (a.same t l (omega arith))
-          ∙ (λ j.
-          with_input ((append_assoc (input_of r.input_len text) (take i cs) one ∙ ap (λ x. input_of r.input_len text ++ x) all) j)
-          (reading_of (lent t text l) r));
-      count = omega (arith, a.count, b.count, long, sum);
-      size = b.size ∙ a.size;
+      size =
+          ap length whole
+          ∙ omega (arith, length-append (take n text ++ cs) (drop (n + length cs) text), length-drop (n + length cs) text);
     }
 
 drop-take : {A : Type 0} (k c : ℕ) (xs : List A) → drop k (take c xs) ≡ take (c - k) (drop k xs)
@@ -160,14 +130,14 @@ module _ (r : Reading) where
   unfolding displayed hidden_count input_of
   displayed_is l = ap (drop (bit r.hidden_lf)) (map-id (take r.input_len l.text))
 
-  pub hidden_first : r.hidden_lf && ltb 0 r.input_len ≡ true → ShownFrom r 1
+  hidden_first : r.hidden_lf && ltb 0 r.input_len ≡ true → ShownFrom r 1
   hidden_first e =
       record {
         text = λ l. hidden_before r.hidden_lf r.input_len l.text e ∙ sym (displayed_is l);
         within = hidden_stands r.hidden_lf r.input_len e;
       }
 
-  pub all_shown : r.hidden_lf && ltb 0 r.input_len ≡ false → ShownFrom r 0
+  all_shown : r.hidden_lf && ltb 0 r.input_len ≡ false → ShownFrom r 0
   all_shown e =
       let all : r.input_len - 0 ≡ r.input_len = omega arith in
       record {
@@ -175,19 +145,15 @@ module _ (r : Reading) where
         within = omega arith;
       }
 
--- how many of the first characters are displayed
-module _ (hidden : Bool) (left : ℕ) where
-  pub hidden_less : hidden && ltb 0 left ≡ true → left - 1 ≡ left - bit hidden
-  unfolding bit
-  hidden_less e = let h = halves hidden (ltb 0 left) e in ap (λ n. left - n) (sym (pick_true 1 0 h.0))
-
-  pub none_less : hidden && ltb 0 left ≡ false → left ≡ left - bit hidden
-  unfolding bit
-  none_less e = by_flag hidden refl
+  pub shown_from : ShownFrom r (bool_byte (r.hidden_lf && ltb 0 r.input_len))
+  shown_from = by_test _ refl
     where
-      by_flag : (b : Bool) → hidden ≡ b → left ≡ left - pick hidden 1 0
-      by_flag false f = let z : left ≡ left - 0 = omega arith in z ∙ ap (λ n. left - n) (sym (pick-false 1 0 f))
-      by_flag true f =
-          let none : left ≤ 0 = ltb-false 0 left (rw f at e) in
-          let z : left ≡ left - 1 = omega arith in
-          z ∙ ap (λ n. left - n) (sym (pick_true 1 0 f))
+      by_test : (b : Bool) → r.hidden_lf && ltb 0 r.input_len ≡ b → ShownFrom r (bool_byte b)
+      by_test true e = hidden_first e
+      by_test false e = all_shown e
+
+-- a flag as the program makes a number of it
+pub bit_is : (test : Bool) → bool_byte test ≡ bit test
+unfolding bit pick
+bit_is true = refl
+bit_is false = refl

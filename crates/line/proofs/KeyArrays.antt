@@ -8,7 +8,8 @@ use mathlib.Core.List.{List, [], ◌∷◌, ◌++◌}
 use types.Run.{OneOf, miss}
 use denote.Enum.Declared.{tag_of}
 use lib.Dec.{eqb, ltb}
-use lib.ListN.{length, get_or, drop, set, length-set}
+use lib.ListN.{length, get_or, take, drop, set, length-set}
+use Rattle.std.specs.List.{copy_within}
 use borrow.Author.Tests.{ne_eqb, lt-ltb, le-ltb}
 use Rattle.rules.specs.Choice.{is_empty}
 use Rattle.line.specs.declared.acts.Act.{Act}
@@ -59,21 +60,19 @@ first_gone zero keys h k = absurd (omega arith)
 first_gone (suc n) keys h k =
     let e : suc n - 1 ≡ n = omega arith in ap (λ i. keys_of i (shift i keys)) e ∙ shifted n keys k
 
--- one place more holds what stood behind it
-shift_next : (n : ℕ) (keys : List ℕ) → suc n < length keys → set (shift n keys) n (get_or (shift n keys) (suc n) 0) ≡ shift (suc n) keys
+-- all keys but the first, copied a place further down
+moved : (n : ℕ) (keys : List ℕ) → n < length keys → shift n keys ≡ take n (drop 1 keys) ++ drop n keys
 unfolding shift
-shift_next n [] h = absurd (omega arith)
-shift_next zero (k ∷ []) h = absurd (omega arith)
-shift_next (suc n) (k ∷ []) h = absurd (omega arith)
-shift_next zero (k ∷ next ∷ keys) h = refl
-shift_next (suc n) (k ∷ next ∷ keys) h = ap (λ l. next ∷ l) (shift_next n (next ∷ keys) (omega arith))
+moved zero keys h = refl
+moved (suc n) [] h = absurd (omega arith)
+moved (suc n) (k ∷ []) h = absurd (omega arith)
+moved (suc n) (k ∷ next ∷ keys) h = ap (λ l. next ∷ l) (moved n (next ∷ keys) (omega arith))
 
-pub shift_more : (n : ℕ) (keys now : List ℕ) → n + 1 < length keys → now ≡ shift n keys → set now n (get_or now (n + 1) 0) ≡ shift (n + 1) keys
-shift_more n keys now h e =
-    ap (λ l. set l n (get_or l (n + 1) 0)) e
-    ∙ ap (λ i. set (shift n keys) n (get_or (shift n keys) i 0)) (add-one n)
-    ∙ shift_next n keys (omega arith)
-    ∙ ap (λ i. shift i keys) (sym (add-one n))
+pub shift_moves : (waiting : ℕ) (keys : List ℕ) → 0 < waiting → waiting ≤ length keys → copy_within keys 1 waiting 0 ≡ shift (waiting - 1) keys
+shift_moves waiting keys h k =
+    let n = waiting - 1 in
+    let front : 0 + n ≡ n = omega arith in
+    ap (λ i. take n (drop 1 keys) ++ drop i keys) front ∙ sym (moved n keys (omega arith))
 
 shift-length : (n : ℕ) (keys : List ℕ) → length (shift n keys) ≡ length keys
 unfolding shift

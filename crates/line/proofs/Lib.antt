@@ -1,4 +1,5 @@
 mod Turns
+mod RefusalRows
 mod KeyArrays
 mod TokenBytes
 mod WordDeletion

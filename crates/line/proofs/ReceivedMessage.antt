@@ -27,9 +27,9 @@ use Rattle.line.specs.declared.Line.{Line}
 use Rattle.line.specs.View.{pending_of, view}
 use Rattle.line.specs.Answers.{ruled}
 use Rattle.line.specs.Refusals.{first_row, early_row, last_row, late_row}
-use Rattle.line.specs.Host.{message_of, sender_of, Accepted}
+use Rattle.line.specs.Host.{message_of, host_message_of, Accepted}
 use Rattle.line.specs.declared.events.HostMessage.{HostMessage}
-use Rattle.line.specs.declared.events.Sender.TheVariants as sender
+use Rattle.std.proofs.Common.{Some, None}
 
 pub is_pending_lem : (pending : Bool) (r : Reading ℕ) → pending ≡ is_pending (pending_of pending r)
 unfolding is_pending
@@ -168,7 +168,7 @@ module _ (bytes : List ℕ) (x : forms.Message ℕ) (hosts : is_servers x.kind �
   no_server : (k : ℕ) → is_servers k ≡ true → k ≡ x.kind → ⊥
   no_server k t e = let z : true ≡ false = sym t ∙ ap is_servers e ∙ hosts in true-false z
 
-  no_host : (k : Message) → sender_of k ≡ sender.Server → held_in bytes k ≡ codec.message x → ⊥
+  no_host : (k : Message) → host_message_of k ≡ None → held_in bytes k ≡ codec.message x → ⊥
   unfolding held_in is_servers
   no_host (found_message.ReadData f) e h = no_server forms.read_data refl (ap kind_of_held h)
   no_host (found_message.OutOfBand discard character) e h = no_server forms.out_of_band refl (ap kind_of_held h)
@@ -194,11 +194,11 @@ module _ (bytes : List ℕ) (hosts : is_hosts (byte_at bytes 0) ≡ true) where
       let first = ap (λ y. y.kind) (readable bytes x e).fields in
       ap is_servers (sym first) ∙ not-true (is_servers (byte_at bytes 0)) (halves (defined_kind (byte_at bytes 0)) (not (is_servers (byte_at bytes 0))) hosts).1
 
-  server_held : (m : Message) → sender_of m ≡ sender.Server → (o : Outcome (forms.Message ℕ)) → read bytes ≡ o → sound (held_in bytes m) ≡ as_held o → ⊥
+  server_held : (m : Message) → host_message_of m ≡ None → (o : Outcome (forms.Message ℕ)) → read bytes ≡ o → sound (held_in bytes m) ≡ as_held o → ⊥
   unfolding as_held
   server_held m e (refused n) r h = refused-sound (sym h)
   server_held m e (sound x) r h = no_host bytes x (server_kind x r) m e (sound_same h)
 
-  pub server_found : (m : Message) → sender_of m ≡ sender.Server → found_in bytes (Ok m) ≡ as_held (read bytes) → ⊥
+  pub server_found : (m : Message) → host_message_of m ≡ None → found_in bytes (Ok m) ≡ as_held (read bytes) → ⊥
   unfolding found_in
   server_found m e h = server_held m e (read bytes) refl h

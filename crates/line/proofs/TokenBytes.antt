@@ -44,18 +44,10 @@ module _ (t : Typed) (c : CountedTyped t) where
   unfolding is_partial
   partial_is e = ap₂ (λ a b. not a && not b) (sym token_empty) e
 
-  -- what remains, as a test and as a bit
+  -- what remains
   module _ {held : Bool} (e : held ≡ is_whole (codes_of t)) (keys : List ℕ) where
-    remains_is : not (eqb t.keys_len 0) || held ≡ not (is_empty (keys_of t.keys_len keys)) || is_whole (codes_of t)
+    pub remains_is : not (eqb t.keys_len 0) || held ≡ not (is_empty (keys_of t.keys_len keys)) || is_whole (codes_of t)
     remains_is = ap₂ (λ a b. not a || b) (sym (keys_empty t.keys_len keys)) e
-
-    pub some_remains : not (eqb t.keys_len 0) || held ≡ true → 1 ≡ bit (not (is_empty (keys_of t.keys_len keys)) || is_whole (codes_of t))
-    unfolding bit
-    some_remains h = sym (pick_true 1 0 (sym remains_is ∙ h))
-
-    pub none_remains : not (eqb t.keys_len 0) || held ≡ false → 0 ≡ bit (not (is_empty (keys_of t.keys_len keys)) || is_whole (codes_of t))
-    unfolding bit
-    none_remains h = sym (pick-false 1 0 (sym remains_is ∙ h))
 
     -- nothing to take: the test of a tick
     pub nothing_waits : (timed due : Bool) →

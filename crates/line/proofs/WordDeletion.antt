@@ -5,7 +5,7 @@ use native.Mathlib.Omega.{arith}
 use mathlib.Core.Bool.{Bool, true, false, not}
 use mathlib.Core.List.{List, [], ◌∷◌, reverse, reverse-append, map-id}
 use lib.ListN.{length, get_or, take, drop, take-append-drop, length-drop, length-reverse}
-use lib.Seq.{take-suc, take-take, drop_at, length-take-le}
+use lib.Seq.{take-suc, drop_at, length-take-le}
 use Rattle.rules.specs.Choice.{pick}
 use Rattle.rules.specs.Editing.{is_word, leading, left_by_delete_word}
 use Rattle.rules.proofs.Choice.{pick_true, pick-false, pick_case}
@@ -53,25 +53,27 @@ drop-reverse ns k h =
     ∙ drop_at (reverse (drop m ns)) (reverse (take m ns)) k long
 
 -- first back over what is of no word, then over a word
-left_by : (text : List ℕ) (end spaces left : ℕ) → end ≤ length text → spaces ≡ before (of_class false) end text →
-    left ≡ before (of_class true) spaces text → left ≡ left_by_delete_word (take end text)
+left_by : (ns : List ℕ) (spaces left : ℕ) → spaces ≡ length ns - leading (of_class false) (reverse ns) →
+    left ≡ length (take spaces ns) - leading (of_class true) (reverse (take spaces ns)) → left ≡ left_by_delete_word ns
 unfolding left_by_delete_word of_class pick
-left_by text end spaces left h e f =
-    let ns = take end text in
-    let long : length ns ≡ end = length-take-le end text h in
+left_by ns spaces left e f =
     let k = leading (λ n. not (is_word n)) (reverse ns) in
     let most : k ≤ length ns = omega (arith, leading_most (λ n. not (is_word n)) (reverse ns), length-reverse ns) in
-    let there : length ns - k ≡ spaces = omega arith in
-    let behind : drop k (reverse ns) ≡ reverse (take spaces text) =
-    drop-reverse ns k most ∙ ap (λ j. reverse (take j ns)) there ∙ ap reverse (take-take spaces end text (omega arith)) in
-    let word : leading is_word (drop k (reverse ns)) ≡ leading is_word (reverse (take spaces text)) = ap (leading is_word) behind in
+    let there : length ns - k ≡ spaces = sym e in
+    let behind : drop k (reverse ns) ≡ reverse (take spaces ns) = drop-reverse ns k most ∙ ap (λ j. reverse (take j ns)) there in
+    let word : leading is_word (drop k (reverse ns)) ≡ leading is_word (reverse (take spaces ns)) = ap (leading is_word) behind in
+    let long = length-take-le spaces ns (omega arith) in
     omega arith
 
-pub leaves_23 : (r : Reading) (text : List ℕ) (spaces left : ℕ) → CountedReading r text → spaces ≡ before (of_class false) r.input_len text →
-    left ≡ before (of_class true) spaces text → LeftByDeleteWord text r left
+pub leaves_23 : (r : Reading) (text : List ℕ) (spaces left : ℕ) → CountedReading r text →
+    spaces ≡ length (take r.input_len text) - leading (of_class false) (reverse (take r.input_len text)) →
+    left ≡ length (take spaces (take r.input_len text)) - leading (of_class true) (reverse (take spaces (take r.input_len text))) →
+    LeftByDeleteWord text r left
 unfolding input_of
 leaves_23 r text spaces left c e f =
+    let long = length-take-le r.input_len text (omega arith) in
+    let some = length-take-le spaces (take r.input_len text) (omega arith) in
     record {
-      left_by = λ t l. left_by text r.input_len spaces left (omega arith) e f ∙ ap left_by_delete_word (sym (map-id (take r.input_len text)));
+      left_by = λ t l. left_by (take r.input_len text) spaces left e f ∙ ap left_by_delete_word (sym (map-id (take r.input_len text)));
       within = omega arith;
     }

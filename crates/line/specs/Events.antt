@@ -23,22 +23,22 @@ pub record LookedUpForStep (s : List ℕ) (l : Line) (lookup : Lookup) : Type 0 
   pub taken : TakesFirst s l lookup.taken
 
 -- what was looked up of the line is so
-abbrev pub LookedUp : List ℕ → Line → Lookup → Event → Type 0
-LookedUp s l lookup (Key c) = (lookup.initiated ≡ l.initiated) × (lookup.attribute ≡ get_or l.attributes c 0)
-LookedUp s l lookup Tick = lookup.held ≡ is_whole (codes_of l.flow.typed)
-LookedUp s l lookup Step = LookedUpForStep s l lookup
-LookedUp s l lookup (Host m) = Accepted l s m
+abbrev pub LookedUp : List ℕ → Line → Event → Type 0
+LookedUp s l (Key c attribute initiated) = (initiated ≡ l.initiated) × (attribute ≡ get_or l.attributes c 0)
+LookedUp s l (Tick held) = held ≡ is_whole (codes_of l.flow.typed)
+LookedUp s l (Step lookup) = LookedUpForStep s l lookup
+LookedUp s l (Host m) = Accepted l s m
 
 -- an event may meet this act
 abbrev pub is_act_of : Event → Act → Bool
-is_act_of (Key c) a = (event_kinds_of a).key
-is_act_of Tick a = (event_kinds_of a).tick
-is_act_of Step a = (event_kinds_of a).step
+is_act_of (Key c attribute initiated) a = (event_kinds_of a).key
+is_act_of (Tick held) a = (event_kinds_of a).tick
+is_act_of (Step lookup) a = (event_kinds_of a).step
 is_act_of (Host m) a = (event_kinds_of a).host
 
 -- the rule that an event is; a key is its arrival
 unfoldable pub event_rule : List ℕ → Event → Rule ℕ
-event_rule s (Key c) = arrives codes c
-event_rule s Tick = ticks codes
-event_rule s Step = steps codes
+event_rule s (Key c attribute initiated) = arrives codes c
+event_rule s (Tick held) = ticks codes
+event_rule s (Step lookup) = steps codes
 event_rule s (Host m) = obeys_held (held_in s (message_of m))

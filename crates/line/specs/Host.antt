@@ -1,5 +1,5 @@
 -- Host messages that are accepted, and what each is of the rules.
-use Rattle.std.specs.Prelude.{ℕ, ◌≡◌, true, List, [], ◌∷◌}
+use Rattle.std.specs.Prelude.{ℕ, ◌≡◌, true, List, [], ◌∷◌, Option, Some, None}
 use Rattle.rules.specs.State.{codes}
 use Rattle.rules.specs.Turns.{Rule, still, sends}
 use Rattle.rules.specs.Messages.Forms as forms
@@ -22,8 +22,6 @@ use Rattle.message.specs.declared.Message.{Message}
 use Rattle.message.specs.declared.Message.TheVariants as message
 use Rattle.fields.specs.Spans.{span_of}
 use Rattle.message.specs.Found.{start_read_in, write_in, held_in}
-use Rattle.line.specs.declared.events.Sender.{Sender}
-use Rattle.line.specs.declared.events.Sender.TheVariants as sender
 use Rattle.line.specs.declared.events.HostMessage.{HostMessage}
 use Rattle.line.specs.declared.events.HostMessage.TheVariants.{Initiate, StartRead, Unread, ClearInput, Write, ReadCharacteristics, Characteristics, CheckInput}
 use Rattle.line.specs.declared.Line.{Line}
@@ -42,23 +40,23 @@ message_of (ReadCharacteristics p) = message.ReadCharacteristics p
 message_of (Characteristics p) = message.Characteristics p
 message_of CheckInput = message.CheckInput
 
--- who sends a message; a type that nobody sends counts as a server's
-abbrev pub sender_of : Message → Sender
-sender_of (message.Initiate f) = sender.Host (Initiate f)
-sender_of (message.StartRead f) = sender.Host (StartRead f)
-sender_of (message.ReadData f) = sender.Server
-sender_of (message.OutOfBand discard character) = sender.Server
-sender_of (message.Unread condition) = sender.Host (Unread condition)
-sender_of message.ClearInput = sender.Host ClearInput
-sender_of (message.Write f) = sender.Host (Write f)
-sender_of (message.WriteCompletion lost horizontal vertical) = sender.Server
-sender_of (message.DiscardState kept) = sender.Server
-sender_of (message.ReadCharacteristics p) = sender.Host (ReadCharacteristics p)
-sender_of (message.Characteristics p) = sender.Host (Characteristics p)
-sender_of message.CheckInput = sender.Host CheckInput
-sender_of (message.InputCount count) = sender.Server
-sender_of (message.InputState nonzero) = sender.Server
-sender_of (message.Other kind body) = sender.Server
+-- the host message that it is: none where only servers send it, or nobody does
+abbrev pub host_message_of : Message → Option HostMessage
+host_message_of (message.Initiate f) = Some (Initiate f)
+host_message_of (message.StartRead f) = Some (StartRead f)
+host_message_of (message.ReadData f) = None
+host_message_of (message.OutOfBand discard character) = None
+host_message_of (message.Unread condition) = Some (Unread condition)
+host_message_of message.ClearInput = Some ClearInput
+host_message_of (message.Write f) = Some (Write f)
+host_message_of (message.WriteCompletion lost horizontal vertical) = None
+host_message_of (message.DiscardState kept) = None
+host_message_of (message.ReadCharacteristics p) = Some (ReadCharacteristics p)
+host_message_of (message.Characteristics p) = Some (Characteristics p)
+host_message_of message.CheckInput = Some CheckInput
+host_message_of (message.InputCount count) = None
+host_message_of (message.InputState nonzero) = None
+host_message_of (message.Other kind body) = None
 
 -- the rules take the slice's bytes as these fields, and the message holds them
 pub record Accepted (l : Line) (s : List ℕ) (m : HostMessage) : Type 0 where

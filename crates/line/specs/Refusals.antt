@@ -7,6 +7,10 @@ use Rattle.rules.specs.Messages.Codec.{sound_length}
 use Rattle.rules.specs.State.{State}
 use Rattle.rules.specs.Calls.{are_roomy, is_hosts, is_timely, passes_test, is_carried_by}
 
+-- a row alone: its number, or 0 where its test is passed
+unfoldable pub row : ℕ → Bool → ℕ
+row number passed = first_row_answer (λ n. n) accepted (number when not passed ∷ [])
+
 -- row 1, or 0 where it does not apply
 unfoldable pub row_of : Bool → ℕ
 row_of roomy = first_row_answer (λ n. n) accepted (small_area when not roomy ∷ [])

@@ -1,18 +1,20 @@
--- Tokens: the number of a place in their grammar, and what the methods on type-ahead and the token promise.
-use Rattle.std.specs.Prelude.{ℕ, zero, suc, ◌+◌, List, map, set}
+-- Tokens: the places of their grammar, and what the methods on type-ahead and the token promise.
+use Rattle.std.specs.Prelude.{ℕ, ◌+◌, List, map, set}
 use Rattle.rules.specs.State.{codes}
 use Rattle.rules.specs.Token.{Place, empty, escape, middle, parameters, intermediates, valid, invalid}
 use Rattle.line.specs.declared.Typed.{Typed}
+use Rattle.line.specs.declared.tokens.Place as tokens
+use Rattle.line.specs.declared.tokens.Place.TheVariants.{Empty, Escape, Middle, Parameters, Intermediates, Valid, Invalid}
 use Rattle.line.specs.View.{token_of}
 
-unfoldable pub place_of : ℕ → Place
-place_of zero = empty
-place_of (suc zero) = escape
-place_of (suc (suc zero)) = middle
-place_of (suc (suc (suc zero))) = parameters
-place_of (suc (suc (suc (suc zero)))) = intermediates
-place_of (suc (suc (suc (suc (suc zero))))) = valid
-place_of (suc (suc (suc (suc (suc (suc n)))))) = invalid
+unfoldable pub place_of : tokens.Place → Place
+place_of Empty = empty
+place_of Escape = escape
+place_of Middle = middle
+place_of Parameters = parameters
+place_of Intermediates = intermediates
+place_of Valid = valid
+place_of Invalid = invalid
 
 -- a token's codes, as the rules look at them
 abbrev pub codes_of : Typed → List ℕ

@@ -6,22 +6,11 @@ ghost use Rattle.line.specs.Bounded.{Bounded};
 ghost use Rattle.line.specs.Host.{Accepted};
 ghost use Rattle.line.specs.Answers.{Answers};
 
-use crate::acts::Taken;
-use crate::events::{Event, HostMessage, Lookup, Sender, sender_of};
+use crate::events::{Event, HostMessage};
 use crate::keys::move_keys;
 use crate::refusals::{are_roomy, early_row, row_of};
 use crate::{Answer, Line, Work};
 use rules::refusals::Refusal;
-
-// What is looked up for an event that needs nothing.
-const NO_KEY: Taken = Taken::Data(0);
-
-const NO_LOOKUP: Lookup = Lookup {
-    initiated: false,
-    attribute: 0,
-    held: false,
-    taken: NO_KEY,
-};
 
 impl Line {
     // A keystroke arrives, and one step follows, which goes by the line as arrival left it.
@@ -35,14 +24,12 @@ impl Line {
         let mut next = self;
         let terms = next.terms;
         let at = code as usize;
-        let attribute = next.attributes[at];
-        let lookup = Lookup {
+        let key = Event::Key {
+            code,
+            attribute: next.attributes[at],
             initiated: next.initiated,
-            attribute,
-            held: false,
-            taken: NO_KEY,
         };
-        let arrival = flow.act_if(roomy, Event::Key(code), lookup, terms);
+        let arrival = flow.act_if(roomy, key, terms);
         move_keys(&mut next.keys, typed.keys_len as usize, arrival);
         let w = Work {
             flow,
@@ -54,8 +41,8 @@ impl Line {
         let waiting = left.typed;
         let set = next.set;
         let first_left = next.keys[0];
-        let step_lookup = left.look_up_for_step(first_left, set, terms);
-        let act = left.act_if(roomy, Event::Step, step_lookup, terms);
+        let lookup = left.look_up_for_step(first_left, set, terms);
+        let act = left.act_if(roomy, Event::Step(lookup), terms);
         move_keys(&mut next.keys, waiting.keys_len as usize, act);
         let done = arrived.acts_on_step(act, terminal, messages, &mut next.text, terms);
         let after = done.flow;
@@ -81,7 +68,7 @@ impl Line {
         let set = next.set;
         let first = next.keys[0];
         let lookup = flow.look_up_for_step(first, set, terms);
-        let act = flow.act_if(roomy, Event::Step, lookup, terms);
+        let act = flow.act_if(roomy, Event::Step(lookup), terms);
         move_keys(&mut next.keys, typed.keys_len as usize, act);
         let w = Work {
             flow,
@@ -109,13 +96,8 @@ impl Line {
         let typed = flow.typed;
         let mut next = self;
         let terms = next.terms;
-        let lookup = Lookup {
-            initiated: false,
-            attribute: 0,
-            held: typed.is_held(),
-            taken: NO_KEY,
-        };
-        let act = flow.act_if(roomy, Event::Tick, lookup, terms);
+        let held = typed.is_held();
+        let act = flow.act_if(roomy, Event::Tick { held }, terms);
         move_keys(&mut next.keys, typed.keys_len as usize, act);
         let w = Work {
             flow,
@@ -143,7 +125,7 @@ impl Line {
         let mut next = self.set_by(m, s);
         let flow = next.flow;
         let terms = next.terms;
-        let act = flow.act_of(Event::Host(m), NO_LOOKUP, terms);
+        let act = flow.act_of(Event::Host(m), terms);
         let w = Work {
             flow,
             at: 0,
@@ -180,8 +162,7 @@ impl Line {
         let Ok(m) = found else {
             return self.refuse(found.unwrap_err());
         };
-        let sender = sender_of(m);
-        let Sender::Host(h) = sender else {
+        let Some(h) = HostMessage::of(m) else {
             return self.refuse(Refusal::WrongType);
         };
         if let Err(late) = self.late_row(h, s) {

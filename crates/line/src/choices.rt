@@ -30,7 +30,7 @@ const DISABLES_NOTHING: u8 = 0;
 fn raised(c: u8) -> u8
     ensures { result ≡ rules.raised c }
 {
-    if (b'a' <= c) & (c <= b'z')
+    if c.is_ascii_lowercase()
         | (FIRST_SMALL_ACCENT <= c) & (c <= LAST_SMALL_ACCENT) & (c != DIVISION_SIGN)
     {
         return c - SMALL_SHIFT;
@@ -43,15 +43,20 @@ impl Terms {
     pub(crate) fn is_edit_key(self, c: u8) -> bool
         ensures { (text : List ℕ) (l : Line) (r : Reading) → result ≡ is_edit_key c (reading_of (lent self text l) r) }
     {
-        let disables = self.disables;
-        ((c == DELETE_KEY) | (c == DELETE_WORD_KEY)) & (disables <= DISABLES_LINES)
-            | ((c == DELETE_LINE_KEY) | (c == REDISPLAY_KEY)) & (disables == DISABLES_NOTHING)
+        match c {
+            DELETE_KEY | DELETE_WORD_KEY => self.disables <= DISABLES_LINES,
+            DELETE_LINE_KEY | REDISPLAY_KEY => self.disables == DISABLES_NOTHING,
+            _ => false,
+        }
     }
 
     pub(crate) fn is_token_start(self, c: u8) -> bool
         ensures { (text : List ℕ) (l : Line) (r : Reading) → result ≡ is_token_start c (reading_of (lent self text l) r) }
     {
-        ((c == characters::ESC) | (c == characters::CSI)) & self.recognises
+        match c {
+            characters::ESC | characters::CSI => self.recognises,
+            _ => false,
+        }
     }
 
     pub(crate) fn raised_by(self, c: u8) -> u8

@@ -12,44 +12,23 @@ ghost use Rattle.line.specs.ReadChanges.{Shortened, Appends, ShownFrom, RubsOut,
 use crate::{Reading, Terms};
 use screen::RubOut;
 
-// The smaller of the two.
-fn lower(a: u16, b: u32) -> u16
-    ensures { result ≡ min a b }
-{
-    if b < a as u32 { b as u16 } else { a }
-}
-
-// An ASCII letter or digit.
-fn is_word(n: u8) -> bool
-    ensures { result ≡ rules.is_word n }
-{
-    (b'0' <= n) & (n <= b'9') | (b'A' <= n) & (n <= b'Z') | (b'a' <= n) & (n <= b'z')
-}
-
-// A word's character, or one between words.
+// A word's character, an ASCII letter or digit, or one between words.
 fn is_of(word: bool, n: u8) -> bool
     ensures { result ≡ of_class word n }
 {
-    if word {
-        return is_word(n);
-    }
-    !is_word(n)
+    n.is_ascii_alphanumeric() == word
 }
 
 // Where the characters of one class at a text's end begin.
-fn end_before(text: &[u8], end: usize, word: bool) -> usize
-    requires { end ≤ length text.now }
-    ensures { result ≡ end - rules.leading (of_class word) (reverse (take end text.now)) }
+fn end_before(text: &[u8], word: bool) -> usize
+    ensures { result ≡ length text.now - rules.leading (of_class word) (reverse text.now) }
 {
-    let mut at = end;
-    while 0 < at {
-        let last = at - 1;
+    for last in (0..text.len()).rev() {
         if !is_of(word, text[last]) {
-            return at;
+            return last + 1;
         }
-        at = last;
     }
-    at
+    0
 }
 
 impl Reading {
@@ -58,12 +37,13 @@ impl Reading {
         requires { left ≤ self.input_len }
         ensures { Shortened left t self result }
     {
-        let prompt = t.end_of_prompt as u32;
-        let mut next = self;
-        next.input_len = left;
-        next.low_water = lower(self.low_water, prompt + left as u32);
-        next.hidden_lf = self.hidden_lf & (0 < left);
-        next
+        let end = t.end_of_prompt as u32 + left as u32;
+        Reading {
+            input_len: left,
+            low_water: (self.low_water as u32).min(end) as u16,
+            hidden_lf: self.hidden_lf & (0 < left),
+            ..self
+        }
     }
 
     // One character more.
@@ -72,11 +52,11 @@ impl Reading {
         requires input_len_bound { self.input_len < input_size }
         ensures { Appends (c ∷ []) self text.old result text.new }
     {
-        let at = self.input_len as usize;
-        text[at] = c;
-        let mut next = self;
-        next.input_len = self.input_len + 1;
-        next
+        text[self.input_len as usize] = c;
+        Reading {
+            input_len: self.input_len + 1,
+            ..self
+        }
     }
 
     // More characters.
@@ -85,30 +65,28 @@ impl Reading {
         requires cs_bound { self.input_len + length cs.now ≤ input_size }
         ensures { Appends cs.now self text.old result text.new }
     {
-        let mut next = self;
-        let mut i = 0;
-        while i < cs.len() {
-            next = next.push(text, cs[i]);
-            i += 1;
+        let start = self.input_len as usize;
+        text[start..start + cs.len()].copy_from_slice(cs);
+        Reading {
+            input_len: self.input_len + cs.len() as u16,
+            ..self
         }
-        next
     }
 
     pub(crate) fn with_idle(self, idle: u16) -> Reading
         ensures { result ≡ idling idle self }
     {
-        let mut next = self;
-        next.idle = idle;
-        next
+        Reading { idle, ..self }
     }
 
     // Its data's display begins at this column.
     pub(crate) fn with_display_column(self, column: u16) -> Reading
         ensures { result ≡ shown_at column self }
     {
-        let mut next = self;
-        next.display_column = column;
-        next
+        Reading {
+            display_column: column,
+            ..self
+        }
     }
 
     // The end of the buffer.
@@ -122,20 +100,14 @@ impl Reading {
     pub(crate) fn first_shown(self) -> usize
         ensures { ShownFrom self result }
     {
-        if self.hidden_lf & (0 < self.input_len) {
-            return 1;
-        }
-        0
+        usize::from(self.hidden_lf & (0 < self.input_len))
     }
 
     // How many of its first characters are displayed.
     fn shown_of(self, left: u16) -> usize
         ensures { result ≡ left - bit self.hidden_lf }
     {
-        if self.hidden_lf & (0 < left) {
-            return left as usize - 1;
-        }
-        left as usize
+        (left as usize).saturating_sub(usize::from(self.hidden_lf))
     }
 
     // The marks and spaces to rub out when all but its first characters are deleted: none in a read that does not echo. The LF
@@ -168,10 +140,7 @@ impl Reading {
     pub(crate) fn left_by_delete(self) -> u16
         ensures { result ≡ self.input_len - 1 }
     {
-        if 0 < self.input_len {
-            return self.input_len - 1;
-        }
-        0
+        self.input_len.saturating_sub(1)
     }
 
     // How many characters 23 leaves.
@@ -179,8 +148,8 @@ impl Reading {
         requires { CountedReading self text.now }
         ensures { LeftByDeleteWord text.now self result }
     {
-        let end = self.input_len as usize;
-        let spaces = end_before(text, end, false);
-        end_before(text, spaces, true) as u16
+        let input = &text[..self.input_len as usize];
+        let spaces = end_before(input, false);
+        end_before(&input[..spaces], true) as u16
     }
 }

@@ -37,11 +37,8 @@ fn drop_first(keys: &mut [u16; rules::TYPE_AHEAD_SIZE], waiting: usize)
     requires waiting_le_type_ahead_size { waiting ≤ type_ahead_size }
     ensures { keys.new ≡ shift (waiting - 1) keys.old }
 {
-    let mut i = 0;
-    while i + 1 < waiting {
-        let key = keys[i + 1];
-        keys[i] = key;
-        i += 1;
+    if 0 < waiting {
+        keys.copy_within(1..waiting, 0);
     }
 }
 

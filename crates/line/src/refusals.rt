@@ -12,7 +12,7 @@ ghost use Rattle.line.specs.View.{view};
 ghost use Rattle.line.specs.Bounded.{Counted};
 ghost use Rattle.line.specs.Host.{message_of};
 ghost use Rattle.line.specs.Answers.{refusal};
-ghost use Rattle.line.specs.Refusals.{row_of, first_row, early_row, last_row, late_row};
+ghost use Rattle.line.specs.Refusals.{row, row_of, early_row, late_row};
 
 use crate::events::HostMessage;
 use crate::{Answer, Line};
@@ -30,10 +30,14 @@ pub(crate) fn are_roomy(terminal: usize, messages: usize) -> bool
 pub(crate) fn row_of(roomy: bool) -> u8
     ensures { result ≡ row_of roomy }
 {
-    if roomy {
-        return rules::ACCEPTED;
-    }
-    Refusal::SmallArea.number()
+    if roomy { rules::ACCEPTED } else { Refusal::SmallArea.number() }
+}
+
+// A row of the table, which applies where its test is not passed.
+fn row(refused: Refusal, passed: bool) -> Result<(), Refusal>
+    ensures { answered result ≡ row (number_of refused) passed }
+{
+    if passed { Ok(()) } else { Err(refused) }
 }
 
 // A message has a length that can be.
@@ -70,25 +74,6 @@ fn carries_write(f: WriteFields) -> bool
     f.transparent == fields::OFF
 }
 
-// Rows 1 to 4, in order.
-fn first_row(roomy: bool, sized: bool, hosts: bool, timely: bool) -> Result<(), Refusal>
-    ensures { answered result ≡ first_row roomy sized hosts timely }
-{
-    if !roomy {
-        return Err(Refusal::SmallArea);
-    }
-    if !sized {
-        return Err(Refusal::WrongLength);
-    }
-    if !hosts {
-        return Err(Refusal::WrongType);
-    }
-    if !timely {
-        return Err(Refusal::WrongTime);
-    }
-    Ok(())
-}
-
 // First Initiate, and only once; Start Read with no read pending.
 fn is_timely(kind: u8, initiated: bool, pending: bool) -> bool
     ensures { (s : State ℕ) → initiated ≡ s.host.initiated → pending ≡ is_pending s.pending_read → result ≡ rules.is_timely kind s }
@@ -109,25 +94,11 @@ pub(crate) fn early_row(
 ) -> Result<(), Refusal>
     ensures { (x : State ℕ) → initiated ≡ x.host.initiated → pending ≡ is_pending x.pending_read → answered result ≡ early_row terminal messages s.now x }
 {
-    let roomy = are_roomy(terminal, messages);
-    let sized = is_sound_length(s.len());
+    row(Refusal::SmallArea, are_roomy(terminal, messages))?;
+    row(Refusal::WrongLength, is_sound_length(s.len()))?;
     let kind = fields::byte_at(s, rules::forms::MSGTYPE);
-    let hosts = is_hosts(kind);
-    let timely = is_timely(kind, initiated, pending);
-    first_row(roomy, sized, hosts, timely)
-}
-
-// Rows 5 and 6, in order.
-fn last_row(passes: bool, carries: bool) -> Result<(), Refusal>
-    ensures { answered result ≡ last_row passes carries }
-{
-    if !passes {
-        return Err(Refusal::Unsound);
-    }
-    if !carries {
-        return Err(Refusal::NotCarried);
-    }
-    Ok(())
+    row(Refusal::WrongType, is_hosts(kind))?;
+    row(Refusal::WrongTime, is_timely(kind, initiated, pending))
 }
 
 impl Line {
@@ -180,8 +151,7 @@ impl Line {
         requires { Counted self }
         ensures { (x : forms.Message ℕ) → held_in s.now (message_of m) ≡ codec.message x → defined_fields x ≡ true → answered result ≡ late_row (view self) x }
     {
-        let passes = self.passes_test(m);
-        let carries = self.carries(m, s);
-        last_row(passes, carries)
+        row(Refusal::Unsound, self.passes_test(m))?;
+        row(Refusal::NotCarried, self.carries(m, s))
     }
 }

@@ -85,8 +85,6 @@ impl Flow {
         let raised = t.raised_by(code_of(first));
         let ends = set.has(raised);
         Lookup {
-            initiated: false,
-            attribute: 0,
             held: typed.is_held(),
             taken: self.taken_as(first, ends, t),
         }

@@ -20,117 +20,111 @@ const FIRST_FINAL: u8 = 64;
 
 const LAST_FINAL: u8 = 126;
 
-// The places of the grammar, in its order.
-const EMPTY: u8 = 0;
+// How far the bytes of a token go.
+#[derive(Clone, Copy, Debug, PartialEq, Eq)]
+enum Place {
+    // no byte
+    Empty,
+    // straight after ESC
+    Escape,
+    // an intermediate byte may follow, or a final byte from the lowest on
+    Middle,
+    // a parameter byte may follow, an intermediate or a final one
+    Parameters,
+    // an intermediate byte may follow, or a final one
+    Intermediates,
+    // a final byte ended it
+    Valid,
+    // a byte outside the grammar, or too many
+    Invalid,
+}
 
-const ESCAPE: u8 = 1;
+impl Place {
+    // The place after one byte more.
+    fn next(self, n: u8) -> Place
+        ensures { place_of result ≡ rules.next (place_of self) n }
+    {
+        match self {
+            Place::Empty => begun(n),
+            Place::Escape => after_escape(n),
+            Place::Middle => ended(Place::Middle, FIRST_LOW_FINAL, n),
+            Place::Parameters => after_parameter(n),
+            Place::Intermediates => ended(Place::Intermediates, FIRST_FINAL, n),
+            Place::Valid | Place::Invalid => Place::Invalid,
+        }
+    }
 
-const MIDDLE: u8 = 2;
-
-const PARAMETERS: u8 = 3;
-
-const INTERMEDIATES: u8 = 4;
-
-const VALID: u8 = 5;
-
-const INVALID: u8 = 6;
+    // No byte may follow.
+    fn is_finished(self) -> bool
+        ensures { result ≡ rules.is_finished (place_of self) }
+    {
+        matches!(self, Place::Valid | Place::Invalid)
+    }
+}
 
 // The first byte.
-fn begun(n: u8) -> u8
+fn begun(n: u8) -> Place
     ensures { place_of result ≡ rules.next rules.empty n }
 {
-    if n == characters::ESC {
-        return ESCAPE;
+    match n {
+        characters::ESC => Place::Escape,
+        characters::CSI => Place::Parameters,
+        _ => Place::Invalid,
     }
-    if n == characters::CSI {
-        return PARAMETERS;
-    }
-    INVALID
 }
 
 // An intermediate byte leads to the place between, a final byte from the lowest on ends the token, any other makes it invalid.
-fn ended(between: u8, low: u8, n: u8) -> u8
+fn ended(between: Place, low: u8, n: u8) -> Place
     ensures { place_of result ≡ rules.ended (place_of between) low n }
 {
     if (FIRST_INTERMEDIATE <= n) & (n <= LAST_INTERMEDIATE) {
         return between;
     }
     if (low <= n) & (n <= LAST_FINAL) {
-        return VALID;
+        return Place::Valid;
     }
-    INVALID
-}
-
-// The place after one byte more.
-fn next_place(place: u8, n: u8) -> u8
-    ensures { place_of result ≡ rules.next (place_of place) n }
-{
-    if place == EMPTY {
-        return begun(n);
-    }
-    if place == ESCAPE {
-        return after_escape(n);
-    }
-    if place == MIDDLE {
-        return ended(MIDDLE, FIRST_LOW_FINAL, n);
-    }
-    if place == PARAMETERS {
-        return after_parameter(n);
-    }
-    if place == INTERMEDIATES {
-        return ended(INTERMEDIATES, FIRST_FINAL, n);
-    }
-    INVALID
+    Place::Invalid
 }
 
 // Straight after ESC four bytes begin forms of their own.
-fn after_escape(n: u8) -> u8
+fn after_escape(n: u8) -> Place
     ensures { place_of result ≡ rules.next rules.escape n }
 {
-    if n == characters::SEMICOLON {
-        return MIDDLE;
+    match n {
+        characters::SEMICOLON | characters::QUESTION => Place::Middle,
+        characters::LETTER_O => Place::Intermediates,
+        characters::BRACKET => Place::Parameters,
+        _ => ended(Place::Middle, FIRST_LOW_FINAL, n),
     }
-    if n == characters::QUESTION {
-        return MIDDLE;
-    }
-    if n == characters::LETTER_O {
-        return INTERMEDIATES;
-    }
-    if n == characters::BRACKET {
-        return PARAMETERS;
-    }
-    ended(MIDDLE, FIRST_LOW_FINAL, n)
 }
 
-fn after_parameter(n: u8) -> u8
+fn after_parameter(n: u8) -> Place
     ensures { place_of result ≡ rules.next rules.parameters n }
 {
-    if (FIRST_PARAMETER <= n) & (n <= LAST_PARAMETER) {
-        return PARAMETERS;
+    match n {
+        FIRST_PARAMETER..=LAST_PARAMETER => Place::Parameters,
+        _ => ended(Place::Intermediates, FIRST_FINAL, n),
     }
-    ended(INTERMEDIATES, FIRST_FINAL, n)
 }
 
 // How far the bytes go.
-fn place_from(token: &[u8]) -> u8
+fn place_from(token: &[u8]) -> Place
     ensures { place_of result ≡ rules.place_from rules.empty token.now }
 {
-    let mut place = EMPTY;
-    let mut i = 0;
-    while i < token.len() {
-        place = next_place(place, token[i]);
-        i += 1;
+    let mut place = Place::Empty;
+    for &b in token {
+        place = place.next(b);
     }
     place
 }
 
 // The last byte that fits makes it invalid unless it is final.
-fn standing(token: &[u8]) -> u8
+fn standing(token: &[u8]) -> Place
     ensures { place_of result ≡ rules.standing token.now }
 {
     let place = place_from(token);
-    if (rules::TOKEN_SIZE <= token.len()) & (place < VALID) {
-        return INVALID;
+    if (rules::TOKEN_SIZE <= token.len()) & !place.is_finished() {
+        return Place::Invalid;
     }
     place
 }
@@ -139,14 +133,14 @@ pub(crate) fn is_whole(token: &[u8]) -> bool
     ensures { result ≡ rules.is_whole token.now }
 {
     // Mostly there is no token, and nothing to walk through.
-    if token.len() == 0 {
+    if token.is_empty() {
         return false;
     }
-    VALID <= standing(token)
+    standing(token).is_finished()
 }
 
 pub(crate) fn is_valid(token: &[u8]) -> bool
     ensures { result ≡ rules.is_valid (rules.standing token.now) }
 {
-    standing(token) == VALID
+    standing(token) == Place::Valid
 }

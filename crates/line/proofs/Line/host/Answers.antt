@@ -36,8 +36,8 @@ returns-in_default-found c =
     refused (rules.message s) l t m _ c.requires
     (outcome_refused l t m s row refl (found-refused l s passed.3 passed.2 c.unwrap_err.result found)) c.refuse-in_default-found.ensures
 
-pub returns-in_default-sender : goal.returns-in_default-sender
-returns-in_default-sender c =
+pub returns-in_default-of : goal.returns-in_default-of
+returns-in_default-of c =
     let a = c.args in
     let l = a.self in
     let s = a.s.now in
@@ -45,7 +45,7 @@ returns-in_default-sender c =
     let row = sym (ap answered early) ∙ c.early_row-early.ensures (view l) refl (is_pending_lem l.flow.pending (reading_of l l.flow.reading)) in
     let passed = early_passed l a.terminal.now a.messages.now s row refl in
     let found = ap (found_in s) (sym c.in-Ok.is) ∙ c.decode-found.ensures.fields in
-    absurd (server_found s passed.2 _ (sym c.sender_of-sender.ensures ∙ c.in_default-sender.is) found)
+    absurd (server_found s passed.2 _ (sym c.of.ensures ∙ c.in_default-of.is) found)
 
 pub returns-in-Err-late_row : goal.returns-in-Err-late_row
 returns-in-Err-late_row c =
@@ -57,9 +57,9 @@ returns-in-Err-late_row c =
     let early : c.early_row-early.result ≡ Ok _ = search found_alone in
     let row = sym (ap answered early) ∙ c.early_row-early.ensures (view l) refl (is_pending_lem l.flow.pending (reading_of l l.flow.reading)) in
     let message = c.in-Ok.m in
-    let host = c.in-Host.h in
+    let host = c.in-Some.h in
     let found = ap (found_in s) (sym c.in-Ok.is) ∙ c.decode-found.ensures.fields in
-    let sent = host_sends message host (sym c.sender_of-sender.ensures ∙ c.in-Host.is) in
+    let sent = host_sends message host (sym c.of.ensures ∙ c.in-Some.is) in
     let is = ap answered c.in-Err-late_row.is in
     let late = late-refused l s message host sent found (λ x held defined. sym is ∙ c.late_row.ensures x held defined) (never-accepted c.in-Err-late_row.late) in
     refused (rules.message s) l t m _ c.requires (outcome_refused l t m s row refl late) c.refuse-in-Err-late_row.ensures
@@ -73,9 +73,9 @@ obeys-requires c =
     let row = sym (ap answered early) ∙ c.early_row-early.ensures (view l) refl (is_pending_lem l.flow.pending (reading_of l l.flow.reading)) in
     let passed = early_passed l a.terminal.now a.messages.now s row refl in
     let message = c.in-Ok.m in
-    let host = c.in-Host.h in
+    let host = c.in-Some.h in
     let found = ap (found_in s) (sym c.in-Ok.is) ∙ c.decode-found.ensures.fields in
-    let sent = host_sends message host (sym c.sender_of-sender.ensures ∙ c.in-Host.is) in
+    let sent = host_sends message host (sym c.of.ensures ∙ c.in-Some.is) in
     let bytes = bytes_all s (λ i. omega (arith, c.type_inv.s i)) in
     let late : c.late_row.result ≡ Ok _ = search found_alone in
     let judged = ap answered late in

@@ -30,7 +30,7 @@ acts_on_step-done-requires c =
     let act = c.act_if-act.ensures in
     let can = keystroke_doable a.code (omega (arith, c.well_formed)) l c.requires a.terminal.now a.messages.now (λ y. c.act_if-arrival.ensures.rule [] l y (refl, refl)) c.act_if-arrival.ensures.none
     arrived.result _ _ _ c.move_keys.ensures arrived.ensures.counted (arrived.ensures.rule l) arrived.ensures.none
-    (λ y bounded. act.rule [] (on_keys _ l) y (c.look_up_for_step-step_lookup.ensures [] (on_keys _ l) bounded refl refl)) act.none in
+    (λ y bounded. act.rule [] (on_keys _ l) y (c.look_up_for_step-lookup.ensures [] (on_keys _ l) bounded refl refl)) act.none in
     record { counted_flow = arrived.ensures.counted; text_len = c.requires.counted.text; doable = can; act_value = act.kind }
 
 pub returns : goal.returns
@@ -43,6 +43,6 @@ returns c =
     let done = c.acts_on_step-done in
     keystroke_answers a.code (omega (arith, c.well_formed)) l c.requires a.terminal.now a.messages.now (λ y. c.act_if-arrival.ensures.rule [] l y (refl, refl)) c.act_if-arrival.ensures.none
     arrived.result _ _ _ c.move_keys.ensures arrived.ensures.counted (arrived.ensures.rule l) arrived.ensures.none
-    (λ y bounded. act.rule [] (on_keys _ l) y (c.look_up_for_step-step_lookup.ensures [] (on_keys _ l) bounded refl refl)) act.none
+    (λ y bounded. act.rule [] (on_keys _ l) y (c.look_up_for_step-lookup.ensures [] (on_keys _ l) bounded refl refl)) act.none
     c.are_roomy-roomy.ensures done.result _ _ _ _ c.move_keys-2.ensures done.ensures.counted done.ensures.sized
     (done.ensures.rule (on_flow arrived.result.flow (on_keys _ l))) done.ensures.none c.row_of.ensures

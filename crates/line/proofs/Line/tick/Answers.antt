@@ -22,6 +22,6 @@ returns c =
     let act = c.act_if-act.ensures in
     let done = c.acts_on_tick-done in
     acted_answers rules.tick l c.requires a.terminal.now a.messages.now (ticks codes) refl refl refl c.are_roomy-roomy.ensures
-    (act_done l 0 0 c.requires.counted (λ y. act.rule [] l y c.is_held.ensures) act.none
+    (act_done l 0 0 c.requires.counted (λ y. act.rule [] l y c.is_held-held.ensures) act.none
     done.result _ l.text _ _ c.move_keys.ensures done.ensures.counted c.requires.counted.text (done.ensures.rule l _) (λ n. (done.ensures.none n, refl)))
     c.row_of.ensures

@@ -1,8 +1,6 @@
-use Rattle.line.proofs.InputAppended.{hidden_first, all_shown}
+use Rattle.line.specs.ReadChanges.{ShownFrom}
+use Rattle.line.proofs.InputAppended.{shown_from}
 use Rattle.line.proofs.Reading.first_shown.Goals as goal
 
-pub returns-then-self : goal.returns-then-self
-returns-then-self c = hidden_first c.args.self c.if-self.true
-
 pub returns : goal.returns
-returns c = all_shown c.args.self c.if-self.false
+returns c = rw c.from.ensures (shown_from c.args.self)

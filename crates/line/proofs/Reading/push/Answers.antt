@@ -1,13 +1,13 @@
+use mathlib.Core.List.{[], ◌∷◌}
+use Prim.Native.Nat.{◌+◌}
 use native.Mathlib.Omega.{arith}
-use Rattle.rules.proofs.Numbers.{input_word, input_size_lem}
-use Rattle.line.proofs.InputAppended.{pushed}
+use Rattle.std.proofs.lemmas.List.{take_more_set, drop-set-lt}
+use Rattle.line.proofs.InputAppended.{appends}
 use Rattle.line.proofs.Reading.push.Goals as goal
 
-pub bounds-text-at : goal.bounds-text-at
-bounds-text-at c = omega (arith, input_size_lem)
-
-pub overflow_add-next : goal.overflow_add-next
-overflow_add-next c = omega (arith, input_word)
-
 pub returns : goal.returns
-returns c = pushed c.args.self c.args.text.now c.args.c c.requires.counted_reading c.requires.input_len_bound
+returns c =
+    let a = c.args in
+    let n = a.self.input_len in
+    appends (a.c ∷ []) a.self a.text.now c.requires.counted_reading (omega arith) (take_more_set a.text.now n a.c (omega arith))
+    (drop-set-lt (n + 1) a.text.now n a.c (omega arith))

@@ -1,25 +1,22 @@
+use mathlib.Core.List.{◌++◌}
+use mathlib.Core.Path.{◌≡◌, ap, ◌∙◌}
+use Prim.Native.Nat.{◌+◌, ◌-◌}
 use native.Mathlib.Omega.{arith}
-use mathlib.Core.Path.{◌∙◌}
-use lib.Seq.{take_all, length-take-le}
-use Rattle.line.proofs.InputAppended.{appends_none, appends_more}
+use lib.ListN.{length, take}
+use Rattle.std.proofs.lemmas.Slice.{take-put_mid, drop-put_mid}
+use Rattle.line.proofs.InputAppended.{appends}
 use Rattle.line.proofs.Reading.push_all.Goals as goal
-
-pub loop-i-init : goal.loop-i-init
-loop-i-init c = (omega arith, appends_none _ _)
-
-pub push-next-requires : goal.push-next-requires
-push-next-requires c =
-    let a = c.loop-i in
-    let inv = a.invariant in
-    let counted = inv.1.count in
-    let long = length-take-le a.i c.args.cs.now inv.0 in
-    record { counted_reading = record { within = omega (arith, c.requires.cs_bound); full = inv.1.size ∙ c.requires.counted_reading.full }; input_len_bound = omega (arith, c.requires.cs_bound) }
-
-pub loop-i-preserved : goal.loop-i-preserved
-loop-i-preserved c =
-    let a = c.loop-i in
-    (omega arith, appends_more c.args.cs.now a.i c.loop-i-test.true a.invariant.1 c.push-next.ensures)
 
 pub returns : goal.returns
 returns c =
-    rw (take_all _ _ c.loop-i-test.false) at c.loop-i.invariant.1
+    let a = c.args in
+    let text = a.text.now in
+    let cs = a.cs.now in
+    let n = a.self.input_len in
+    let stored = c.copy_from_slice.new.self in
+    let same : stored ≡ cs = c.copy_from_slice.ensures.after in
+    let long : length stored ≡ length cs = ap length same in
+    let e : length stored ≡ n + length cs - n = omega arith in
+    appends cs a.self text c.requires.counted_reading c.requires.cs_bound
+    (take-put_mid n (n + length cs - n) text stored (n + length cs) (omega arith) (omega arith) ∙ ap (λ xs. take n text ++ xs) same)
+    (drop-put_mid n (n + length cs - n) text stored (n + length cs) (omega arith) (omega arith) e)

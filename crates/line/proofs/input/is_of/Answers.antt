@@ -1,13 +1,16 @@
-use mathlib.Core.Path.{sym, ap, ◌∙◌}
-use mathlib.Core.Bool.{not}
-use Rattle.rules.proofs.Choice.{pick_true, pick-false}
+use mathlib.Core.Bool.{Bool, true, false, beq}
+use mathlib.Core.Path.{◌≡◌, refl, ap, ◌∙◌}
+use Rattle.rules.specs.Choice.{pick, within}
+use Rattle.rules.specs.Editing.{is_word}
 use Rattle.line.specs.ReadChanges.{of_class}
 use Rattle.line.proofs.input.is_of.Goals as goal
 
-pub returns-then-word : goal.returns-then-word
-unfolding of_class
-returns-then-word c = c.is_word.ensures ∙ sym (pick_true _ _ c.if-word.true)
-
 pub returns : goal.returns
-unfolding of_class
-returns c = ap not c.is_word-2.ensures ∙ sym (pick-false _ _ c.if-word.false)
+unfolding of_class is_word within pick
+returns c = ap (λ b. beq b c.args.word) c.is_ascii_alphanumeric.ensures.value ∙ by_class c.args.word (is_word c.args.n)
+  where
+    by_class : (word test : Bool) → beq test word ≡ pick word test (mathlib.Core.Bool.not test)
+    by_class true true = refl
+    by_class true false = refl
+    by_class false true = refl
+    by_class false false = refl

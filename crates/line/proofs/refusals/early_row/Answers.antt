@@ -1,11 +1,45 @@
-use mathlib.Core.Path.{ap, ◌∙◌}
+use Rattle.std.proofs.Common.{rules as found_alone, ◌≡◌, Ok, Err, sym, ap, ◌∙◌, arith}
+use Rattle.rules.specs.Refusals.{answered}
+use Rattle.rules.proofs.RefusalNumbers.{never-accepted}
+use Rattle.line.proofs.RefusalRows.{row_stops, row_passes}
+use mathlib.Core.List.{List, []}
 use Rattle.rules.specs.Calls.{is_hosts, is_timely}
-use Rattle.line.specs.Refusals.{first_row}
+use Rattle.rules.specs.Numbers.{small_area, wrong_length, wrong_type, wrong_time}
+use Rattle.line.specs.Refusals.{row, first_row}
 use Rattle.line.proofs.refusals.early_row.Goals as goal
 
+pub returns-in_err-row : goal.returns-in_err-row
+unfolding first_row
+returns-in_err-row c = λ x begun pending.
+    let e = c.in_err-row.field-0.0 in
+    let answer : c.from_residual.result ≡ Err e = search found_alone in
+    ap answered answer
+    ∙ row_stops small_area _ _ (c.in_err-row.ensures ∙ ap (row small_area) c.are_roomy.ensures) (never-accepted e)
+
+pub returns-in_err-row-2 : goal.returns-in_err-row-2
+unfolding first_row
+returns-in_err-row-2 c = λ x begun pending.
+    let e = c.in_err-row-2.field-0.0 in
+    let answer : c.from_residual-in_err-row-2.result ≡ Err e = search found_alone in
+    ap answered answer
+    ∙ row_stops wrong_length _ _ (c.in_err-row-2.ensures ∙ ap (row wrong_length) c.is_sound_length.ensures) (never-accepted e)
+    ∙ row_passes small_area _ _ (λ e. omega arith) (c.in_ok-row.ensures ∙ ap (row small_area) c.are_roomy.ensures)
+
+pub returns-in_err-row-3 : goal.returns-in_err-row-3
+unfolding first_row
+returns-in_err-row-3 c = λ x begun pending.
+    let e = c.in_err-row-3.field-0.0 in
+    let answer : c.from_residual-in_err-row-3.result ≡ Err e = search found_alone in
+    ap answered answer
+    ∙ row_stops wrong_type _ _ (c.in_err-row-3.ensures ∙ ap (row wrong_type) (c.is_hosts.ensures ∙ ap is_hosts c.byte_at-kind.ensures)) (never-accepted e)
+    ∙ row_passes wrong_length _ _ (λ e. omega arith) (c.in_ok-row-2.ensures ∙ ap (row wrong_length) c.is_sound_length.ensures)
+    ∙ row_passes small_area _ _ (λ e. omega arith) (c.in_ok-row.ensures ∙ ap (row small_area) c.are_roomy.ensures)
+
 pub returns : goal.returns
+unfolding first_row row
 returns c = λ x begun pending.
     let byte = c.byte_at-kind.ensures in
-    let hosts = c.is_hosts-hosts.ensures ∙ ap is_hosts byte in
-    let timely = c.is_timely-timely.ensures x begun pending ∙ ap (λ k. is_timely k x) byte in
-    c.first_row.ensures ∙ (λ i. first_row (c.are_roomy-roomy.ensures i) (c.is_sound_length-sized.ensures i) (hosts i) (timely i))
+    c.row-4.ensures ∙ ap (row wrong_time) (c.is_timely.ensures x begun pending ∙ ap (λ k. is_timely k x) byte)
+    ∙ row_passes wrong_type _ _ (λ e. omega arith) (c.in_ok-row-3.ensures ∙ ap (row wrong_type) (c.is_hosts.ensures ∙ ap is_hosts byte))
+    ∙ row_passes wrong_length _ _ (λ e. omega arith) (c.in_ok-row-2.ensures ∙ ap (row wrong_length) c.is_sound_length.ensures)
+    ∙ row_passes small_area _ _ (λ e. omega arith) (c.in_ok-row.ensures ∙ ap (row small_area) c.are_roomy.ensures)

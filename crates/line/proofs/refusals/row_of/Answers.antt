@@ -9,6 +9,6 @@ pub returns-then-roomy : goal.returns-then-roomy
 unfolding row_of first_row_answer
 returns-then-roomy c = sym (pick-false _ _ (ap not c.if-roomy.true))
 
-pub returns : goal.returns
+pub returns-else-roomy : goal.returns-else-roomy
 unfolding row_of first_row_answer
-returns c = c.number.ensures ∙ sym (pick_true _ _ (ap not c.if-roomy.false))
+returns-else-roomy c = c.number.ensures ∙ sym (pick_true _ _ (ap not c.if-roomy.false))

@@ -1,34 +1,34 @@
+use mathlib.Core.Logic.◌⊎◌.{inl, inr}
 use mathlib.Core.Path.{sym, ◌∙◌}
+use native.Mathlib.Omega.{arith}
 use borrow.Author.Tests.{eq-eqb, ne_eqb}
 use Rattle.rules.specs.Token.{next}
 use Rattle.rules.proofs.Choice.{pick_true, pick-false}
 use Rattle.line.specs.TokenChanges.{place_of}
 use Rattle.line.proofs.tokens.after_escape.Goals as goal
 
-pub returns-then-n-eq-SEMICOLON : goal.returns-then-n-eq-SEMICOLON
+pub returns-in-59 : goal.returns-in-59
 unfolding next place_of
-returns-then-n-eq-SEMICOLON c = sym (pick_true _ _ (eq-eqb _ 59 c.if-n-eq-SEMICOLON.true))
+returns-in-59 c =
+    elim c.in-59.is [ inl semicolon ↦ sym (pick_true _ _ (eq-eqb _ 59 semicolon))
+    | inr question ↦ sym (pick-false _ _ (ne_eqb _ 59 (λ e. omega arith)) ∙ pick_true _ _ (eq-eqb _ 63 question)) ]
 
-pub returns-then-n-eq-QUESTION : goal.returns-then-n-eq-QUESTION
+pub returns-in-79 : goal.returns-in-79
 unfolding next place_of
-returns-then-n-eq-QUESTION c = sym (pick-false _ _ (ne_eqb _ 59 c.if-n-eq-SEMICOLON.false) ∙ pick_true _ _ (eq-eqb _ 63 c.if-n-eq-QUESTION.true))
+returns-in-79 c =
+    sym (pick-false _ _ (ne_eqb _ 59 (λ e. omega arith)) ∙ pick-false _ _ (ne_eqb _ 63 (λ e. omega arith)) ∙ pick_true _ _ (eq-eqb _ 79 c.in-79.is))
 
-pub returns-then-n-eq-LETTER_O : goal.returns-then-n-eq-LETTER_O
+pub returns-in-91 : goal.returns-in-91
 unfolding next place_of
-returns-then-n-eq-LETTER_O c =
-    sym (pick-false _ _ (ne_eqb _ 59 c.if-n-eq-SEMICOLON.false) ∙ pick-false _ _ (ne_eqb _ 63 c.if-n-eq-QUESTION.false) ∙ pick_true _ _ (eq-eqb _ 79 c.if-n-eq-LETTER_O.true))
-
-pub returns-then-n-eq-BRACKET : goal.returns-then-n-eq-BRACKET
-unfolding next place_of
-returns-then-n-eq-BRACKET c =
+returns-in-91 c =
     sym
-    (pick-false _ _ (ne_eqb _ 59 c.if-n-eq-SEMICOLON.false) ∙ pick-false _ _ (ne_eqb _ 63 c.if-n-eq-QUESTION.false) ∙
-    pick-false _ _ (ne_eqb _ 79 c.if-n-eq-LETTER_O.false) ∙ pick_true _ _ (eq-eqb _ 91 c.if-n-eq-BRACKET.true))
+    (pick-false _ _ (ne_eqb _ 59 (λ e. omega arith)) ∙ pick-false _ _ (ne_eqb _ 63 (λ e. omega arith)) ∙
+    pick-false _ _ (ne_eqb _ 79 (λ e. omega arith)) ∙ pick_true _ _ (eq-eqb _ 91 c.in-91.is))
 
-pub returns : goal.returns
+pub returns-in_default : goal.returns-in_default
 unfolding next place_of
-returns c =
+returns-in_default c =
     c.ended.ensures
     ∙ sym
-    (pick-false _ _ (ne_eqb _ 59 c.if-n-eq-SEMICOLON.false) ∙ pick-false _ _ (ne_eqb _ 63 c.if-n-eq-QUESTION.false) ∙
-    pick-false _ _ (ne_eqb _ 79 c.if-n-eq-LETTER_O.false) ∙ pick-false _ _ (ne_eqb _ 91 c.if-n-eq-BRACKET.false))
+    (pick-false _ _ (ne_eqb _ 59 (λ e. grind arith)) ∙ pick-false _ _ (ne_eqb _ 63 (λ e. grind arith)) ∙
+    pick-false _ _ (ne_eqb _ 79 (λ e. omega arith)) ∙ pick-false _ _ (ne_eqb _ 91 (λ e. omega arith)))

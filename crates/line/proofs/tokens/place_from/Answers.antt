@@ -1,18 +1,16 @@
-use mathlib.Core.Path.{refl}
+use mathlib.Core.Path.{refl, sym, ◌∙◌}
 use native.Mathlib.Omega.{arith}
 use Rattle.line.specs.TokenChanges.{place_of}
 use Rattle.line.proofs.TokenPlaces.{place_turn, place_end}
 use Rattle.line.proofs.tokens.place_from.Goals as goal
 
-pub loop-i-init : goal.loop-i-init
+pub loop-b-init : goal.loop-b-init
 unfolding place_of
-loop-i-init c = (omega arith, refl)
+loop-b-init c = refl
 
-pub loop-i-preserved : goal.loop-i-preserved
-loop-i-preserved c =
-    let token = c.args.token.now in
-    (omega arith, place_turn token c.loop-i.i _ _ c.loop-i-test.true c.next_place-place.ensures c.loop-i.invariant.1)
+pub loop-b-preserved : goal.loop-b-preserved
+loop-b-preserved c =
+    sym (place_turn c.args.token.now c.loop-b.b-index _ _ c.loop-b-test.true c.next-place.ensures) ∙ c.loop-b.invariant
 
 pub returns : goal.returns
-returns c =
-    place_end c.args.token.now c.loop-i.i _ c.loop-i-test.false c.loop-i.invariant.1
+returns c = sym (place_end c.args.token.now c.loop-b.b-index _ (omega arith)) ∙ c.loop-b.invariant

@@ -1,12 +1,8 @@
 use mathlib.Core.Path.{◌≡◌}
-use Prim.Native.Nat.{◌≤◌, ◌-◌}
-use lib.ListN.{length, drop}
+use lib.ListN.{drop}
 use Rattle.rules.specs.Token.{empty, place_from}
 use Rattle.line.specs.TokenChanges.{place_of}
 use Rattle.line.proofs.tokens.place_from.Given as goal
 
-abbrev pub invariant-loop-i : goal.invariant-loop-i
-invariant-loop-i l = (l.i ≤ length l.token) × (place_from (place_of l.place) (drop l.i l.token) ≡ place_from empty l.token)
-
-abbrev pub decreases-loop-i : goal.decreases-loop-i
-decreases-loop-i l = length l.token - l.i
+abbrev pub invariant-loop-b : goal.invariant-loop-b
+invariant-loop-b l = place_from (place_of l.place) (drop l.b-index l.token) ≡ place_from empty l.token
