@@ -1,5 +1,5 @@
 -- Rules done one after the other, and what a rule that writes does.
-use mathlib.Core.Path.{◌≡◌, refl, sym, ap, ap₂, ◌∙◌}
+use mathlib.Core.Path.{◌≡◌, refl, sym, ap, ap₂, ◌∙◌, subst}
 use Prim.Native.Nat.{ℕ}
 use mathlib.Core.List.{List, [], ◌∷◌, ◌++◌, map-append, append_assoc}
 use mathlib.Core.Bool.{Bool, true, false}
@@ -15,8 +15,7 @@ use Rattle.rules.proofs.Area.{puts_append}
 use Rattle.line.specs.declared.Line.{Line}
 use Rattle.line.specs.declared.Work.{Work}
 use Rattle.line.specs.View.{view, terminal_of}
-use Rattle.line.specs.Bounded.{CountedFlow}
-use Rattle.line.specs.With.{after_shown, on_flow}
+use Rattle.line.specs.With.{AfterShown, on_terminal, on_screen, on_flow}
 use Rattle.line.specs.Promise.{Progress, on, Does}
 
 joined_append : (xs ys : List (List ℕ)) → joined (xs ++ ys) ≡ joined xs ++ joined ys
@@ -46,8 +45,8 @@ module _ {f g : Rule ℕ} {w v r : Progress} {t₀ t₁ t₂ m₀ m₁ m₂ : Li
       }
 
 -- what was shown, as a rule
-module _ (w : Work) (s : Shown) {bs t t' : List ℕ} (c : CountedFlow w.flow) (h : Writes bs t w.at w.flow.terminal.screen s t') where
-  shown_does : (l : Line) (m : List ℕ) → Does (writes bs) (on l w) t m (on l (after_shown s w)) t' m
+module _ (w : Work) (s : Shown) {bs t t' : List ℕ} (h : Writes bs t w.at w.flow.terminal.screen s t') where
+  shown_does : (l : Line) (m : List ℕ) → Does (writes bs) (on l w) t m (record { line = on_flow (on_terminal (on_screen s.screen w.flow.terminal) w.flow) l; at = s.at; sent = w.sent }) t' m
   unfolding writes message_bytes joined puts
   shown_does l m =
       record {
@@ -58,9 +57,11 @@ module _ (w : Work) (s : Shown) {bs t t' : List ℕ} (c : CountedFlow w.flow) (h
         messages_length = refl;
       }
 
-  pub writes_does : {r : Work} → r ≡ after_shown s w →
-      CountedFlow r.flow × ((l : Line) (m : List ℕ) → Does (writes bs) (on l w) t m (on l r) t' m)
-  writes_does e = rw e (record { typed = c.typed; within = c.within }, shown_does)
+  pub writes_does : {r : Work} → AfterShown s w r → (l : Line) (m : List ℕ) → Does (writes bs) (on l w) t m (on l r) t' m
+  writes_does {r} e l m =
+      let there : Progress = record { line = on_flow (on_terminal (on_screen s.screen w.flow.terminal) w.flow) l; at = s.at; sent = w.sent } in
+      let to : there ≡ on l r = λ i. record { line = on_flow (sym e.flow i) l; at = sym e.at i; sent = sym e.sent i } in
+      subst (λ p. Does (writes bs) (on l w) t m p t' m) to (shown_does l m)
 
 -- What a rule tells of fates does not show.
 module _ {g : Rule ℕ} {w r : Progress} {t t' m m' : List ℕ} where

@@ -7,7 +7,7 @@ ghost use Rattle.message.specs.Found.{held_in};
 ghost use Rattle.writing.specs.Spans.{spans_of, inside};
 ghost use Rattle.line.specs.declared.Line.{Line};
 ghost use Rattle.line.specs.View.{view, reading_of};
-ghost use Rattle.line.specs.Bounded.{CountedFlow, CountedReading};
+ghost use Rattle.line.specs.Bounded.{CountedReading};
 ghost use Rattle.line.specs.With.{lent, on_flow};
 ghost use Rattle.line.specs.Promise.{on, Does};
 
@@ -42,8 +42,6 @@ pub(crate) const ONE_ENDING: u16 = 1;
 impl Work {
     // A partial token is dropped.
     fn loses_partial(self) -> Work
-        requires { CountedFlow self.flow }
-        ensures counted { CountedFlow result.flow }
         ensures rule { (l : Line) (t m : List ℕ) → Does (rules.loses_partial codes) (on l self) t m (on l result) t m }
     {
         let flow = self.flow;
@@ -57,7 +55,6 @@ impl Work {
 
     // The Read Data of a read; its data stands in front of the text.
     fn read_data_of(self, code: u8, ending: u16, r: Reading, t: Terms) -> Message
-        requires counted_flow { CountedFlow self.flow }
         requires ending_bound { ending ≤ r.input_len }
         ensures { (text : List ℕ) (k l : Line) → CountedReading r text →
             (held_in text result ≡ codec.message (rules.read_data_of codes code ending (reading_of (lent t text l) r) (view (on_flow self.flow k)))) ×
@@ -95,10 +92,8 @@ impl Work {
         text: &[u8],
         t: Terms,
     ) -> Work
-        requires counted_flow { CountedFlow self.flow }
         requires counted_reading { CountedReading r text.now }
         requires ending_bound { ending ≤ r.input_len }
-        ensures counted { CountedFlow result.flow }
         ensures rule { (k l : Line) (a : List ℕ) →
             Does (rules.sends_read_data codes code ending (reading_of (lent t text.now l) r)) (on k self) a messages.old (on k result) a
             messages.new }
@@ -117,10 +112,8 @@ impl Work {
         text: &[u8],
         t: Terms,
     ) -> Work
-        requires counted_flow { CountedFlow self.flow }
         requires counted_reading { CountedReading r text.now }
         requires ending_bound { ending ≤ r.input_len }
-        ensures counted { CountedFlow result.flow }
         ensures rule { (k l : Line) (a : List ℕ) →
             Does (rules.completes codes code ending (reading_of (lent t text.now l) r)) (on k self) a messages.old (on k result) a
             messages.new }

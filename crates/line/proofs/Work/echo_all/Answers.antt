@@ -3,4 +3,4 @@ use Rattle.line.proofs.Work.echo_all.Goals as goal
 
 pub returns : goal.returns
 returns c =
-    let whole = writes_does c.args.self c.echo_all-shown.result c.requires c.echo_all-shown.ensures c.showing.ensures in record { counted = whole.0; rule = whole.1 }
+    record { rule = writes_does c.args.self c.echo_all-shown.result c.echo_all-shown.ensures c.showing.ensures }

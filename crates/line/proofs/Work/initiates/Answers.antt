@@ -1,7 +1,7 @@
-use Rattle.line.proofs.SentMessages.{sent_does, sent_counted}
+use Rattle.line.proofs.SentMessages.{sent_does}
 use Rattle.line.proofs.Work.initiates.Goals as goal
 
 pub returns : goal.returns
 returns c =
     let e = c.sent_up_to.ensures in
-    record { counted = sent_counted c.args.self e c.requires; rule = λ l t. sent_does _ c.put_initiate-sent.ensures e l t }
+    record { rule = λ l t. sent_does _ c.put_initiate-sent.ensures e l t }
