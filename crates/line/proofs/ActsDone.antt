@@ -50,7 +50,7 @@ use Rattle.line.proofs.HostAccepted.{startables}
 use Rattle.line.proofs.ActChoice.{act_does}
 
 -- An act by its case.
-module _ (s : List ℕ) (t : Terms) (l : Line) (w : Work) {text a m : List ℕ} {r : Work} {text' a' m' : List ℕ} {x y : Act} where
+module _ (s : List ℕ) (t : Terms) (l : Line) (w r : Work) {text a m text' a' m' : List ℕ} {x y : Act} where
   pub done_as : x ≡ y → Done s y t l w text a m r text' a' m' → Done s x t l w text a m r text' a' m'
   done_as e h = subst (λ z. Done s z t l w text a m r text' a' m') (sym e) h
 
@@ -140,27 +140,27 @@ none_accepted l m a =
     refused-sound (sym (row_applies codec.refused (read []) _ _ (ap not short)) ∙ a.taken)
 
 -- without a message, what an act does to the flow is all that it does but for the keys
-keyed_does : (l : Line) (a : Act) → Ready [] l a → length l.keys ≡ type_ahead_size → {at sent : ℕ} {t m : List ℕ} {r : Work} {text' t' m' : List ℕ} →
-    Done [] a l.terms l (work_on l at sent) l.text t m r text' t' m' →
+keyed_does : (l : Line) (f : CountedFlow l.flow) (a : Act) (r : Work) → Ready [] l a → length l.keys ≡ type_ahead_size → {at sent : ℕ} {t m text' t' m' : List ℕ} →
+    Done [] a l.terms l (work_on l f at sent) l.text t m r text' t' m' →
     Does (act_rule [] l a) (under_way l at sent) t m (on (lent l.terms text' (on_keys (keys_after a l.flow.typed.keys_len l.keys) l)) r) t' m'
-keyed_does l Nothing k size d = d size tt
-keyed_does l (Stores c) k size d = d size tt
-keyed_does l (StoresQuoted c) k size d = d size tt
-keyed_does l (SendsOutOfBand c) k size d = d size tt
-keyed_does l (ClearsAtOnce c) k size d = d size tt
-keyed_does l Quotes k size d = d size tt
-keyed_does l Clears k size d = d size tt
-keyed_does l FlipsDiscard k size d = d size tt
-keyed_does l TakesToken k size d = d size tt
-keyed_does l (Takes j) k size d = d size tt
-keyed_does l TimesOut k size d = d size tt
-keyed_does l (Idles idle) k size d = d size tt
-keyed_does l (Obeys m) k size d = absurd (none_accepted l m k)
+keyed_does l f Nothing r k size d = d size tt
+keyed_does l f (Stores c) r k size d = d size tt
+keyed_does l f (StoresQuoted c) r k size d = d size tt
+keyed_does l f (SendsOutOfBand c) r k size d = d size tt
+keyed_does l f (ClearsAtOnce c) r k size d = d size tt
+keyed_does l f Quotes r k size d = d size tt
+keyed_does l f Clears r k size d = d size tt
+keyed_does l f FlipsDiscard r k size d = d size tt
+keyed_does l f TakesToken r k size d = d size tt
+keyed_does l f (Takes j) r k size d = d size tt
+keyed_does l f TimesOut r k size d = d size tt
+keyed_does l f (Idles idle) r k size d = d size tt
+keyed_does l f (Obeys m) r k size d = absurd (none_accepted l m k)
 
 -- the line with keys moved, another text and another flow is counted
-done_counted : (l : Line) (a : Act) (text : List ℕ) (r : Work) → Counted l → length text ≡ input_size → CountedFlow r.flow →
+done_counted : (l : Line) (a : Act) (text : List ℕ) (r : Work) → Counted l → length text ≡ input_size →
     Counted (on (lent l.terms text (on_keys (keys_after a l.flow.typed.keys_len l.keys) l)) r).line
-done_counted l a text r c size f =
+done_counted l a text r c size =
     record {
       table = c.table;
       keys = after_length a l.flow.typed.keys_len l.keys ∙ c.keys;
@@ -168,7 +168,7 @@ done_counted l a text r c size f =
       set = c.set;
       last_set = c.last_set;
       prompt = c.prompt;
-      flow = f;
+      flow = r.counted;
     }
 
 -- What a call has done by an act that brings no message, or by several: in areas that are large enough the rule, in smaller ones nothing.
@@ -188,24 +188,24 @@ module _ {rule : Rule ℕ} (l : Line) (at sent : ℕ) (c : Counted l) {roomy : B
   act_doable = asks roomy refl
 
   module _ {t m : List ℕ} (r : Work) (keys' text' t' m' : List ℕ) (k : keys' ≡ keys_after a l.flow.typed.keys_len l.keys)
-      (f : CountedFlow r.flow) (full : length text' ≡ input_size) (d : Done [] a l.terms l (work_on l at sent) l.text t m r text' t' m')
-      (same : a ≡ Nothing → (r ≡ work_on l at sent) × (text' ≡ l.text)) where
+      (full : length text' ≡ input_size) {f : CountedFlow l.flow} (d : Done [] a l.terms l (work_on l f at sent) l.text t m r text' t' m')
+      (same : a ≡ Nothing → (r ≡ work_on l f at sent) × (text' ≡ l.text)) where
     abbrev after : List ℕ → List ℕ → Work → Progress
     after keys text w = on (lent l.terms text (on_keys keys l)) w
 
     undone : a ≡ Nothing → (after keys' text' r ≡ under_way l at sent) × ((t' ≡ t) × (m' ≡ m))
     undone n =
         let keys : keys' ≡ l.keys = k ∙ ap (λ z. keys_after z l.flow.typed.keys_len l.keys) n in
-        let nothing = subst (λ z. Done [] z l.terms l (work_on l at sent) l.text t m r text' t' m') n d c.keys in
+        let nothing = subst (λ z. Done [] z l.terms l (work_on l f at sent) l.text t m r text' t' m') n d c.keys in
         (λ i. after (keys i) ((same n).1 i) ((same n).0 i), still_areas (nothing tt))
 
     pub act_done : Acted rule roomy (under_way l at sent) t m (after keys' text' r) t' m'
     act_done =
         record {
           done = λ y.
-              subst (λ z. Does rule (under_way l at sent) t m (after z text' r) t' m') (sym k) (act_does (h y) (keyed_does l a (h y).ready c.keys d));
+              subst (λ z. Does rule (under_way l at sent) t m (after z text' r) t' m') (sym k) (act_does (h y) (keyed_does l f a r (h y).ready c.keys d));
           none = λ n. undone (none n);
-          counted = subst (λ z. Counted (after z text' r).line) (sym k) (done_counted l a text' r c full f);
+          counted = subst (λ z. Counted (after z text' r).line) (sym k) (done_counted l a text' r c full);
         }
 
 -- one act behind another
@@ -243,13 +243,13 @@ module _ (e : rules.Event ℕ) (l : Line) (b : Bounded l) (t m : List ℕ) (rule
 -- A keystroke: the act of its arrival, and behind it the act of its step, which is chosen at the line that arrival left.
 module _ (code : ℕ) (byte : code < byte_values) (l : Line) (b : Bounded l) (t m : List ℕ) {roomy : Bool} {arrival : Act}
     (meets : roomy ≡ true → Meets (arrives codes code) [] l arrival) (none : roomy ≡ false → arrival ≡ Nothing)
-    (w : Work) (keys₁ t₁ m₁ : List ℕ) (k : keys₁ ≡ keys_after arrival l.flow.typed.keys_len l.keys) (f : CountedFlow w.flow)
-    (d : Done [] arrival l.terms l (work_on l 0 0) l.text t m w l.text t₁ m₁) (same : arrival ≡ Nothing → w ≡ work_on l 0 0) where
+    (w : Work) (keys₁ t₁ m₁ : List ℕ) (k : keys₁ ≡ keys_after arrival l.flow.typed.keys_len l.keys)
+    {f : CountedFlow l.flow} (d : Done [] arrival l.terms l (work_on l f 0 0) l.text t m w l.text t₁ m₁) (same : arrival ≡ Nothing → w ≡ work_on l f 0 0) where
   abbrev left : Line
   left = on_flow w.flow (on_keys keys₁ l)
 
   arrived : Acted (arrives codes code) roomy (begun l) t m (under_way left w.at w.sent) t₁ m₁
-  arrived = act_done l 0 0 b.counted meets none w keys₁ l.text t₁ m₁ k f b.counted.text d (λ n. (same n, refl))
+  arrived = act_done l 0 0 b.counted meets none w keys₁ l.text t₁ m₁ k b.counted.text d (λ n. (same n, refl))
 
   left_bounded : roomy ≡ true → Bounded left
   left_bounded y =
@@ -260,12 +260,12 @@ module _ (code : ℕ) (byte : code < byte_values) (l : Line) (b : Bounded l) (t 
     keystroke_doable = act_doable left w.at w.sent arrived.counted (λ y. meets₂ y (left_bounded y)) none₂
 
     pub keystroke_answers : (size : roomy ≡ are_roomy (length t) (length m)) (r : Work) (keys₂ text₂ t₂ m₂ : List ℕ) →
-        keys₂ ≡ keys_after act w.flow.typed.keys_len keys₁ → CountedFlow r.flow → length text₂ ≡ input_size →
+        keys₂ ≡ keys_after act w.flow.typed.keys_len keys₁ → length text₂ ≡ input_size →
         Done [] act l.terms left w l.text t₁ m₁ r text₂ t₂ m₂ → (act ≡ Nothing → (r ≡ w) × (text₂ ≡ l.text)) → {n : ℕ} → n ≡ row_of roomy →
         Answers (rules.key code) l t m
         (record { line = on_flow r.flow (lent l.terms text₂ (on_keys keys₂ l)); number = n; terminal = r.at; messages = r.sent }) t₂ m₂
     unfolding answers keystroke is_byte_event
-    keystroke_answers size r keys₂ text₂ t₂ m₂ k₂ f₂ full₂ d₂ same₂ =
+    keystroke_answers size r keys₂ text₂ t₂ m₂ k₂ full₂ d₂ same₂ =
         acted_answers (rules.key code) l b t m (keystroke codes code) refl (lt-ltb code byte_values byte) refl size
         (acted_then arrived
-        (act_done left w.at w.sent arrived.counted (λ y. meets₂ y (left_bounded y)) none₂ r keys₂ text₂ t₂ m₂ k₂ f₂ full₂ d₂ same₂))
+        (act_done left w.at w.sent arrived.counted (λ y. meets₂ y (left_bounded y)) none₂ r keys₂ text₂ t₂ m₂ k₂ full₂ d₂ same₂))

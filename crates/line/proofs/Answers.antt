@@ -22,7 +22,7 @@ use Rattle.line.specs.declared.Line.{Line}
 use Rattle.line.specs.declared.Work.{Work}
 use Rattle.line.specs.declared.Answer.{Answer}
 use Rattle.line.specs.View.{view}
-use Rattle.line.specs.Bounded.{Counted, Bounded}
+use Rattle.line.specs.Bounded.{Counted, CountedFlow, Bounded}
 use Rattle.line.specs.Promise.{Progress, Does}
 use Rattle.line.specs.Answers.{Answers, ruled, refusal}
 
@@ -34,8 +34,8 @@ done_answer w = record { line = w.line; number = sizes.accepted; terminal = w.at
 abbrev pub under_way : Line → ℕ → ℕ → Progress
 under_way l at sent = record { line = l; at = at; sent = sent }
 
-abbrev pub work_on : Line → ℕ → ℕ → Work
-work_on l at sent = record { flow = l.flow; at = at; sent = sent }
+abbrev pub work_on : (l : Line) → CountedFlow l.flow → ℕ → ℕ → Work
+work_on l counted at sent = record { flow = l.flow; at = at; sent = sent; counted = counted }
 
 -- a call at its beginning
 abbrev pub begun : Line → Progress

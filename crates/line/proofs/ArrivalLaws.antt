@@ -1,5 +1,5 @@
 -- What the rules of an arrival leave of the line.
-use mathlib.Core.Path.{◌≡◌, refl, sym, ap, ◌∙◌, subst}
+use mathlib.Core.Path.{◌≡◌, refl, sym, ap, subst}
 use Prim.Native.Nat.{ℕ, ◌+◌, ◌%◌, ◌≤◌, ◌<◌, min}
 use native.Mathlib.Omega.{arith}
 use lib.Dec.{eqb}
@@ -22,14 +22,14 @@ use Rattle.line.specs.declared.Typed.{Typed}
 use Rattle.line.specs.declared.Work.{Work}
 use Rattle.line.specs.View.{view, terminal_of, key_of, pending_of, reading_of, keys_of, token_of}
 use Rattle.line.specs.Bounded.{CountedFlow}
-use Rattle.line.specs.With.{goes_on, on_terminal, on_typed, on_flow, on_keys}
+use Rattle.line.specs.With.{GoesOn, on_terminal, on_typed, on_flow, on_keys}
 use Rattle.line.specs.KeyArray.{stored}
 use Rattle.line.specs.TokenChanges.{emptied}
 use Rattle.line.specs.ReadChanges.{idling}
 use Rattle.line.specs.Promise.{Progress, on, Does}
 use Rattle.line.proofs.KeyArrays.{stored_keys}
 use Rattle.line.proofs.Turns.{changes_does}
-use Rattle.line.proofs.FlowChanges.{goes_does, goes_counted, for_equal}
+use Rattle.line.proofs.FlowChanges.{goes_does, goes_as, for_equal}
 
 rest_view : (pending : Bool) (l : Line) (r : Reading) →
     pending_of pending (reading_of l (idling 0 r)) ≡ rules.idle_again (pending_of pending (reading_of l r))
@@ -57,7 +57,7 @@ module _ (w : Work) (c : CountedFlow w.flow) (room : w.flow.typed.keys_len < typ
       }
 
   pub keeps_does : (k : ℕ) (l : Line) → length l.keys ≡ type_ahead_size → (t m : List ℕ) →
-      Does (rules.keeps (key_of k).quoted (key_of k).char) (on l w) t m (on (stored k w.flow l) (goes_on (kept w.flow) w)) t m
+      Does (rules.keeps (key_of k).quoted (key_of k).char) (on l w) t m (record { line = on_flow (kept w.flow) (stored k w.flow l); at = w.at; sent = w.sent }) t m
   unfolding rules.keeps token_of
   keeps_does k l size t m =
       let f = w.flow in
@@ -71,9 +71,9 @@ module _ (w : Work) (c : CountedFlow w.flow) (room : w.flow.typed.keys_len < typ
       refl refl
 
 -- A call that goes on with another terminal.
-module _ (w : Work) {v : Work} (x : Terminal) (h : v ≡ goes_on (on_terminal x w.flow) w) where
-  pub terminal_counted : CountedFlow w.flow → CountedFlow v.flow
-  terminal_counted c = goes_counted w h (record { typed = c.typed; within = c.within })
+module _ (w : Work) {v : Work} (x : Terminal) (h : GoesOn (on_terminal x w.flow) w v) where
+  pub terminal_counted : CountedFlow v.flow
+  terminal_counted = v.counted
 
   pub terminal_does : (f : state.Terminal → state.Terminal) → terminal_of x ≡ f (terminal_of w.flow.terminal) → (l : Line) (t m : List ℕ) →
       Does (changes (λ s. with_terminal (f s.terminal) s)) (on l w) t m (on l v) t m
@@ -93,7 +93,7 @@ with_count n t =
     }
 
 pub count_does : (w : Work) {v : Work} (n : ℕ) → n ≡ min top_dropped (w.flow.terminal.dropped + 1) →
-    v ≡ goes_on (on_terminal (with_count n w.flow.terminal) w.flow) w → (l : Line) (t m : List ℕ) →
+    GoesOn (on_terminal (with_count n w.flow.terminal) w.flow) w v → (l : Line) (t m : List ℕ) →
     Does rules.counts_dropped (on l w) t m (on l v) t m
 unfolding rules.counts_dropped
 count_does w n e h l t m =
@@ -101,10 +101,10 @@ count_does w n e h l t m =
     (λ i. with_dropped (e i) (terminal_of w.flow.terminal)) l t m
 
 -- neither keys nor a token
-pub emptied_does : (w : Work) {v : Work} {next : Typed} → v ≡ goes_on (on_typed next w.flow) w → next ≡ emptied w.flow.typed → (l : Line) (t m : List ℕ) →
+pub emptied_does : (w : Work) {v : Work} {next : Typed} → GoesOn (on_typed next w.flow) w v → next ≡ emptied w.flow.typed → (l : Line) (t m : List ℕ) →
     Does (changes (with_typed [] [])) (on l w) t m (on l v) t m
 unfolding keys_of token_of
-emptied_does w h e l t m = goes_does w l (with_typed [] []) (h ∙ ap (λ n. goes_on (on_typed n w.flow) w) e) refl t m
+emptied_does w h e l t m = goes_does w l (with_typed [] []) (goes_as (ap (λ n. on_typed n w.flow) e) h) refl t m
 
 -- A rule that looks whether a read is pending.
 module _ (f : Option (state.Reading ℕ) → Rule ℕ) {pending : Bool} (r : state.Reading ℕ) {w v : Progress} {t t' m m' : List ℕ} where
@@ -146,7 +146,7 @@ dropped_key {p} {w} f v {t} {t'} {m} {m'} k l out d =
     subst (λ keys. Does p w t m (on (on_keys keys l) v) t' m') (sym (set_out l.keys f.typed.keys_len k out)) d
 
 -- as many waited
-pub waited_key : {p : Rule ℕ} {w : Progress} {v : Work} {t t' m m' : List ℕ} (f g : Flow) (k : ℕ) (l : Line) → f.typed.keys_len ≡ g.typed.keys_len →
+pub waited_key : {p : Rule ℕ} {w : Progress} {t t' m m' : List ℕ} (v : Work) (f g : Flow) (k : ℕ) (l : Line) → f.typed.keys_len ≡ g.typed.keys_len →
     Does p w t m (on (stored k f l) v) t' m' → Does p w t m (on (stored k g l) v) t' m'
-waited_key {p} {w} {v} {t} {t'} {m} {m'} f g k l e d =
+waited_key {p} {w} {t} {t'} {m} {m'} v f g k l e d =
     subst (λ n. Does p w t m (on (on_keys (set l.keys n k) l) v) t' m') e d

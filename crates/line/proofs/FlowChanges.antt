@@ -1,5 +1,5 @@
 -- Rules that change the flow: nothing written, another read or token, no read.
-use mathlib.Core.Path.{◌≡◌, refl, sym, ap, ◌∙◌}
+use mathlib.Core.Path.{◌≡◌, refl, sym, ap, ◌∙◌, subst}
 use Prim.Native.Nat.{ℕ, ◌-◌, ◌≤◌, ◌<◌}
 use native.Mathlib.Omega.{arith}
 use mathlib.Core.Bool.{Bool, true, false, not, ◌||◌}
@@ -29,7 +29,7 @@ use Rattle.line.specs.declared.Terms.{Terms}
 use Rattle.line.specs.declared.Flow.{Flow}
 use Rattle.line.specs.View.{view, input_of, reading_of, pending_of, keys_of, token_of}
 use Rattle.line.specs.Bounded.{CountedTyped, CountedFlow, CountedReading}
-use Rattle.line.specs.With.{goes_on, on_read, on_typed, off_read, on_flow, lent}
+use Rattle.line.specs.With.{GoesOn, on_read, on_typed, off_read, on_flow, lent}
 use Rattle.line.specs.ReadChanges.{idling, shown_at}
 use Rattle.line.specs.TokenChanges.{codes_of, untokened, tokened}
 use Rattle.line.specs.Promise.{Progress, on, Does}
@@ -96,32 +96,38 @@ module _ {rule : Rule ℕ} {w : Progress} {test : Bool} (f : Rule ℕ) where
   here_not t m e b = here_second f e b (still_does w t m)
 
 -- A call that goes on with another flow.
-module _ (w : Work) {v : Work} where
-  pub goes_counted : {f : Flow} → v ≡ goes_on f w → CountedFlow f → CountedFlow v.flow
-  goes_counted h c = rw h c
+pub goes_as : {f g : Flow} {w r : Work} → f ≡ g → GoesOn f w r → GoesOn g w r
+goes_as e h = record { flow = h.flow ∙ e; at = h.at; sent = h.sent }
 
-  pub goes_does : {f : Flow} (l : Line) (g : rules.State ℕ → rules.State ℕ) → v ≡ goes_on f w → view (on_flow f l) ≡ g (view (on_flow w.flow l)) →
+pub goes_counted : {f : Flow} (w : Work) {v : Work} → GoesOn f w v → CountedFlow v.flow
+goes_counted w {v} h = v.counted
+
+module _ (w : Work) {v : Work} where
+  pub goes_does : {f : Flow} (l : Line) (g : rules.State ℕ → rules.State ℕ) → GoesOn f w v → view (on_flow f l) ≡ g (view (on_flow w.flow l)) →
       (t m : List ℕ) → Does (changes g) (on l w) t m (on l v) t m
-  goes_does l g h e t m = rw h (changes_does t m g e refl refl)
+  goes_does {f} l g h e t m =
+      let there : Progress = record { line = on_flow f l; at = w.at; sent = w.sent } in
+      let same : there ≡ on l v = λ i. record { line = on_flow (sym h.flow i) l; at = sym h.at i; sent = sym h.sent i } in
+      subst (λ p. Does (changes g) (on l w) t m p t m) same (changes_does t m g e refl refl)
 
   -- with this read pending, which stands for another; and with none
-  module _ (r : Reading) (h : v ≡ goes_on (on_read r w.flow) w) where
-    pub read_counted : CountedFlow w.flow → r.input_len ≤ input_size → CountedFlow v.flow
-    read_counted c n = goes_counted h (record { typed = c.typed; within = n })
+  module _ (r : Reading) (h : GoesOn (on_read r w.flow) w v) where
+    pub read_counted : CountedFlow v.flow
+    read_counted = v.counted
 
     pub read_does : (l : Line) {e : rules.Reading ℕ} → reading_of l r ≡ e → (t m : List ℕ) →
         Does (changes (with_read (some e))) (on l w) t m (on l v) t m
     read_does l {e} same t m =
         goes_does l (with_read (some e)) h (λ i. with_read (some (same i)) (view (on_flow w.flow l))) t m
 
-  pub off_does : v ≡ goes_on (off_read w.flow) w → (l : Line) (t m : List ℕ) → Does ends_read (on l w) t m (on l v) t m
+  pub off_does : GoesOn (off_read w.flow) w v → (l : Line) (t m : List ℕ) → Does ends_read (on l w) t m (on l v) t m
   unfolding ends_read
   off_does h l t m = goes_does l (with_read none) h refl t m
 
   -- with another token, and the keys that wait
-  module _ {next : Typed} (h : v ≡ goes_on (on_typed next w.flow) w) where
-    pub typed_counted : CountedFlow w.flow → CountedTyped next → CountedFlow v.flow
-    typed_counted c k = goes_counted h (record { typed = k; within = c.within })
+  module _ {next : Typed} (h : GoesOn (on_typed next w.flow) w v) where
+    pub typed_counted : CountedFlow v.flow
+    typed_counted = v.counted
 
     -- without the token
     pub cleared_does : next ≡ untokened w.flow.typed → (l : Line) (t m : List ℕ) →
@@ -129,7 +135,7 @@ module _ (w : Work) {v : Work} where
     unfolding token_of
     cleared_does e l t m =
         goes_does l (with_token [])
-        (h ∙ ap (λ n. goes_on (on_typed n w.flow) w) e) refl t m
+        (goes_as (ap (λ n. on_typed n w.flow) e) h) refl t m
 
     -- one byte more in it
     pub tokened_does : (b : ℕ) → CountedTyped w.flow.typed → w.flow.typed.token_len < token_size → next ≡ tokened b w.flow.typed →
@@ -138,15 +144,18 @@ module _ (w : Work) {v : Work} where
     tokened_does b c room e l t m =
         let typed = w.flow.typed in
         goes_does l (λ s. with_token (s.typed.token ++ b ∷ []) s)
-        (h ∙ ap (λ n. goes_on (on_typed n w.flow) w) e)
+        (goes_as (ap (λ n. on_typed n w.flow) e) h)
         (λ i. with_typed (keys_of typed.keys_len l.keys) (tokened_token typed c b room i) (view (on_flow w.flow l))) t m
 
 -- with this read pending, whose text has changed
-module _ (w : Work) {v : Work} (r : Reading) (h : v ≡ goes_on (on_read r w.flow) w) where
+module _ (w : Work) {v : Work} (r : Reading) (h : GoesOn (on_read r w.flow) w v) where
   pub text_does : (t : Terms) (text text' : List ℕ) (l : Line) {e : rules.Reading ℕ} → reading_of (lent t text' l) r ≡ e → (a m : List ℕ) →
       Does (changes (with_read (some e))) (on (lent t text l) w) a m (on (lent t text' l) v) a m
   text_does t text text' l {e} same a m =
-      rw h (changes_does a m (with_read (some e)) (λ i. with_read (some (same i)) (view (on_flow w.flow (lent t text l)))) refl refl)
+      let there : Progress = record { line = on_flow (on_read r w.flow) (lent t text' l); at = w.at; sent = w.sent } in
+      let to : there ≡ on (lent t text' l) v = λ i. record { line = on_flow (sym h.flow i) (lent t text' l); at = sym h.at i; sent = sym h.sent i } in
+      subst (λ p. Does (changes (with_read (some e))) (on (lent t text l) w) a m p a m) to
+      (changes_does a m (with_read (some e)) (λ i. with_read (some (same i)) (view (on_flow w.flow (lent t text l)))) refl refl)
 
 -- with no read pending the text does not show
 pub ended_does : {p : Rule ℕ} {w : Progress} {t t' m m' : List ℕ} (v : Work) (terms : Terms) (text text' : List ℕ) (l : Line) → v.flow.pending ≡ false →

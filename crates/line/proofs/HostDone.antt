@@ -48,7 +48,7 @@ use Rattle.line.specs.Host.{message_of, Accepted, obeys_held, flow_rule, Prompts
 use Rattle.line.specs.Promise.{Progress, on, Does}
 use Rattle.line.proofs.Turns.{then_does, changes_does, only_does, not_does}
 use Rattle.line.proofs.FlowChanges.{here_rule, for_equal}
-use Rattle.line.proofs.SentMessages.{sent_does}
+use Rattle.line.proofs.SentMessages.{put_does}
 use Rattle.line.proofs.Answers.{done_answer, under_way, work_on, begun, answered}
 use Rattle.line.proofs.ReceivedMessage.{true-false}
 use Rattle.line.proofs.HostAccepted.{questions_known}
@@ -158,7 +158,7 @@ module _ (s : List ℕ) (l : Line) (f : StartReadFields) (a : Accepted l s (Star
       }
 
   module _ (t before t' m' text' : List ℕ) (r : Work) where
-    begins_does : Does (rules.begins codes x (reading_of opened (reading_at s f l.flow.terminal.screen.column))) (on opened (work_on l 0 0)) t before (on (lent T text' opened) r) t' m' →
+    begins_does : Does (rules.begins codes x (reading_of opened (reading_at s f l.flow.terminal.screen.column))) (under_way opened 0 0) t before (on (lent T text' opened) r) t' m' →
         Does (rules.begins codes x (rules.opened_read codes x (view l))) (begun l) t before (on (lent T text' opened) r) t' m'
     begins_does d = at_view unseen (for_equal (rules.begins codes x) read_begins d)
 
@@ -178,18 +178,18 @@ module _ (s : List ℕ) (l : Line) (f : StartReadFields) (a : Accepted l s (Star
             not_does _ e
             (still_same (λ i. with_host (with_last_set (set i) (view opened).host) (view (on_flow r.flow (lent T text' opened)))) refl refl)
 
-    pub start_does : Does (rules.begins codes x (reading_of opened (reading_at s f l.flow.terminal.screen.column))) (on opened (work_on l 0 0)) t before (on (lent T text' opened) r) t' m' →
+    pub start_does : Does (rules.begins codes x (reading_of opened (reading_at s f l.flow.terminal.screen.column))) (under_way opened 0 0) t before (on (lent T text' opened) r) t' m' →
         Does (rules.starts_read codes x) (begun l) t before (on (lent T text' (on_opened T S X Z l)) r) t' m'
     unfolding rules.starts_read
     start_does d = here_rule refl (then_does (begins_does d) remembers_does)
 
 -- nothing was set or reported before the call's work
 begun_as : {p : Rule ℕ} {r : Progress} {t t' m' before mid : List ℕ} (l next : Line) (place : ℕ) → next ≡ l → NoReport before place mid →
-    Does p (on next (work_on next 0 place)) t mid r t' m' → Does p (begun l) t before r t' m'
+    Does p (under_way next 0 place) t mid r t' m' → Does p (begun l) t before r t' m'
 begun_as {p} {r} {t} {t'} {m'} {before} {mid} l next place e i d =
     subst (λ z. Does p (begun z) t before r t' m') e
     (subst (λ n. Does p (record { line = next; at = 0; sent = n }) t before r t' m') i.nothing
-    (subst (λ b. Does p (on next (work_on next 0 place)) t b r t' m') i.area d))
+    (subst (λ b. Does p (under_way next 0 place) t b r t' m') i.area d))
 
 -- By the message's type.
 module _ (s t before mid t' m' text' : List ℕ) (l next : Line) (place : ℕ) (r : Work) where
@@ -197,7 +197,7 @@ module _ (s t before mid t' m' text' : List ℕ) (l next : Line) (place : ℕ) (
   abbrev Works : HostMessage → Line → Type 0
   Works m n =
       (k : Line) → length k.keys ≡ type_ahead_size → Prompts n.terms k m →
-      Does (flow_rule s (on_flow n.flow (lent n.terms n.text k)) m) (on (lent n.terms n.text k) (work_on n 0 place)) t mid
+      Does (flow_rule s (on_flow n.flow (lent n.terms n.text k)) m) (under_way (on_flow n.flow (lent n.terms n.text k)) 0 place) t mid
       (on (lent n.terms text' k) r) t' m'
 
   start_turns : (f : StartReadFields) → Accepted l s (StartRead f) → length l.keys ≡ type_ahead_size → Opens s f l next → NoReport before place mid →
@@ -216,7 +216,7 @@ module _ (s t before mid t' m' text' : List ℕ) (l next : Line) (place : ℕ) (
       o d
 
   initiate_turns : next ≡ on_initiated l → NoReport before place mid →
-      Does (sends our_initiate) (on next (work_on next 0 place)) t mid (on (lent next.terms text' next) r) t' m' →
+      Does (sends our_initiate) (under_way next 0 place) t mid (on (lent next.terms text' next) r) t' m' →
       Does initiates (begun l) t before (on (lent next.terms text' next) r) t' m'
   unfolding initiates
   initiate_turns e i d =
@@ -224,7 +224,7 @@ module _ (s t before mid t' m' text' : List ℕ) (l next : Line) (place : ℕ) (
 
   report_turns : (p : Span) → Accepted l s (ReadCharacteristics p) → next ≡ l →
       Puts (report_bytes (host_of next) (span_of s p)) before 0 place mid →
-      Does still (on next (work_on next 0 place)) t mid (on (lent next.terms text' next) r) t' m' →
+      Does still (under_way next 0 place) t mid (on (lent next.terms text' next) r) t' m' →
       Does (obeys codes (questions_in (span_of s p))) (begun l) t before (on (lent next.terms text' next) r) t' m'
   unfolding obeys pick reports answer_to
   report_turns p a e puts d =
@@ -232,10 +232,10 @@ module _ (s t before mid t' m' text' : List ℕ) (l next : Line) (place : ℕ) (
       let bytes = report_carried (host_of next) (span_of s p) (view next) known in
       subst (λ z. Does (reports (questions_in (span_of s p))) (begun z) t before (on (lent next.terms text' next) r) t' m') e
       (here_rule refl
-      (still_behind (sent_does {w = work_on next 0 0} {v = work_on next 0 place} _ (subst (λ bs. Puts bs before 0 place mid) bytes puts) refl next t) d))
+      (still_behind (put_does _ (subst (λ bs. Puts bs before 0 place mid) bytes puts) next t) d))
 
   settings_turns : (p : Span) → Sets (span_of s p) l next → NoReport before place mid →
-      Does still (on next (work_on next 0 place)) t mid (on (lent next.terms text' next) r) t' m' →
+      Does still (under_way next 0 place) t mid (on (lent next.terms text' next) r) t' m' →
       Does (obeys codes (settings_in (span_of s p))) (begun l) t before (on (lent next.terms text' next) r) t' m'
   unfolding obeys pick sets_characteristics
   settings_turns p e i d =
@@ -257,14 +257,14 @@ module _ (s t before mid t' m' text' : List ℕ) (l next : Line) (place : ℕ) (
   host_does (Characteristics p) a size more e i d = for_equal obeys_held (sym (held_settings s p)) (settings_turns p e i (d next more tt))
 
   -- and the call's answer
-  pub host_answers : (m : HostMessage) → Bounded l → Accepted l s m → are_roomy (length t) (length before) ≡ true → SetBy s m l next →
+  pub host_answers : (m : HostMessage) → Bounded l → (f : CountedFlow next.flow) → Accepted l s m → are_roomy (length t) (length before) ≡ true → SetBy s m l next →
       Reported s m next before place mid → {act : Act} → act ≡ Obeys m →
-      ((k : Line) → Done s act next.terms k (work_on next 0 place) next.text t mid r text' t' m') → CountedFlow r.flow → length text' ≡ input_size →
+      ((k : Line) → Done s act next.terms k (work_on next f 0 place) next.text t mid r text' t' m') → length text' ≡ input_size →
       Answers (calls.message s) l t before (done_answer (on (lent next.terms text' next) r)) t' m'
   unfolding is_byte_event
-  host_answers m b a room set said {act} e d f size =
+  host_answers m b f a room set said {act} e d size =
       let c = set_counted s l next m b.counted set in
-      let works : Works m next = λ k. subst (λ x. Done s x next.terms k (work_on next 0 place) next.text t mid r text' t' m') e (d k) in
+      let works : Works m next = λ k. subst (λ x. Done s x next.terms k (work_on next f 0 place) next.text t mid r text' t' m') e (d k) in
       answered (calls.message s) l t before b (obeys_held (held_in s (message_of m))) (message-answers l s m a) a.bytes room
       (on (lent next.terms text' next) r) t' m' (host_does m a b.counted.keys c.keys set said works)
-      (record { table = c.table; keys = c.keys; text = size; set = c.set; last_set = c.last_set; prompt = c.prompt; flow = f })
+      (record { table = c.table; keys = c.keys; text = size; set = c.set; last_set = c.last_set; prompt = c.prompt; flow = r.counted })

@@ -17,7 +17,7 @@ use Rattle.line.specs.declared.Reading.{Reading}
 use Rattle.line.specs.declared.acts.Taken.{Taken}
 use Rattle.line.specs.View.{view, prompt_of, reading_of, token_of}
 use Rattle.line.specs.Bounded.{CountedFlow, CountedReading, Bounded}
-use Rattle.line.specs.With.{goes_on, on_flow, lent}
+use Rattle.line.specs.With.{on_flow, lent}
 use Rattle.line.specs.KeyArray.{shifted}
 use Rattle.line.specs.ReadChanges.{HasRoom, idling}
 use Rattle.line.specs.Promise.{Progress, on, Does}
@@ -55,17 +55,13 @@ taken next f =
       reading = next;
     }
 
-pub has_taken : (w : Work) (next : Reading) → CountedFlow w.flow → 0 < w.flow.typed.keys_len → next ≡ idling 0 w.flow.reading →
-    HasTakenKey w (goes_on (taken next w.flow) w)
+pub has_taken : (w : Work) (next : Reading) (k : CountedFlow (taken next w.flow)) → 0 < w.flow.typed.keys_len → next ≡ idling 0 w.flow.reading →
+    HasTakenKey w (record { flow = taken next w.flow; at = w.at; sent = w.sent; counted = k })
 unfolding token_of
-has_taken w next c waits e =
+has_taken w next k waits e =
     let f = w.flow in
-    let within = ap (λ r. r.input_len) e in
+    let c = w.counted in
     record {
-      counted = record {
-        typed = record { keys_length = omega (arith, c.typed.keys_length); token = c.typed.token; token_length = c.typed.token_length };
-        within = omega (arith, c.within);
-      };
       does = λ l size t m.
           changes_does t m (key_taken (on_flow f l))
           (λ i.
@@ -82,7 +78,7 @@ module _ {w v : Work} (k : HasTakenKey w v) where
   key_room t h = subst (HasRoom t) (sym k.reading) (record { largest = h.largest; room = h.room; prompt = h.prompt })
 
   pub key_text : (text : List ℕ) → length text ≡ input_size → CountedReading v.flow.reading text
-  key_text text e = record { within = k.counted.within; full = e }
+  key_text text e = record { within = v.counted.within; full = e }
 
   pub key_then : {a b : Taken} → a ≡ b → (t : Terms) (text : List ℕ) (l : Line) → length l.keys ≡ type_ahead_size → {u : Progress} {x x' m m' : List ℕ} →
       Does (taken_rule b (reading_of (lent t text l) v.flow.reading)) (on (lent t text (shifted w.flow l)) v) x m u x' m' →

@@ -1,5 +1,5 @@
 -- A message that was put behind its length is a message sent.
-use mathlib.Core.Path.{◌≡◌, refl, sym, ap, ◌∙◌}
+use mathlib.Core.Path.{◌≡◌, refl, sym, ap, ◌∙◌, subst}
 use Prim.Native.Nat.{ℕ, ◌+◌, ◌≤◌}
 use native.Mathlib.Omega.{arith}
 use lib.Dec.{leb-zero}
@@ -18,10 +18,10 @@ use Rattle.writing.specs.Spans as spans
 use Rattle.writing.specs.Spans.{inside}
 use Rattle.areas.specs.Puts.{Puts}
 use Rattle.line.specs.declared.Work.{Work}
-use Rattle.line.specs.With.{after_sent}
+use Rattle.line.specs.With.{AfterSent, on_flow}
 use Rattle.line.specs.declared.Line.{Line}
-use Rattle.line.specs.Bounded.{CountedFlow}
 use Rattle.line.specs.Promise.{on, Does}
+use Rattle.line.proofs.Answers.{under_way}
 
 -- one message, in the bytes of a turn
 one_message : (x : forms.Message ℕ) → joined (framed (sent_bytes (map_text (λ n. n) x)) ∷ []) ≡ framed (sent_bytes x)
@@ -29,20 +29,24 @@ unfolding joined
 one_message x = append-nil _ ∙ ap (λ y. framed (sent_bytes y)) (map_text_same x)
 
 -- a message was put behind its length
-pub sent_does : {w v : Work} {n : ℕ} {a a' : List ℕ} (x : forms.Message ℕ) → Puts (framed (sent_bytes x)) a w.sent n a' →
-    v ≡ after_sent n w → (l : Line) (t : List ℕ) → Does (sends x) (on l w) t a (on l v) t a'
+pub put_does : {at sent n : ℕ} {a a' : List ℕ} (x : forms.Message ℕ) → Puts (framed (sent_bytes x)) a sent n a' → (l : Line) (t : List ℕ) →
+    Does (sends x) (under_way l at sent) t a (under_way l at n) t a'
 unfolding sends message_bytes puts
-sent_does {w} {v} {n} {a} {a'} x p e l t =
-    rw e (record {
+put_does {at} {sent} {n} {a} {a'} x p l t =
+    record {
       state = refl;
       shows = refl;
-      sends = p.area ∙ ap (λ bs. puts bs (spot a w.sent)) (sym (one_message x));
+      sends = p.area ∙ ap (λ bs. puts bs (spot a sent)) (sym (one_message x));
       terminal_length = refl;
       messages_length = p.same;
-    })
+    }
 
-pub sent_counted : (w : Work) {v : Work} {n : ℕ} → v ≡ after_sent n w → CountedFlow w.flow → CountedFlow v.flow
-sent_counted w e c = rw e c
+-- and the call goes on behind it
+pub sent_does : {w v : Work} {n : ℕ} {a a' : List ℕ} (x : forms.Message ℕ) → Puts (framed (sent_bytes x)) a w.sent n a' →
+    AfterSent n w v → (l : Line) (t : List ℕ) → Does (sends x) (on l w) t a (on l v) t a'
+sent_does {w} {v} {n} {a} {a'} x p e l t =
+    let there : under_way (on_flow w.flow l) w.at n ≡ on l v = λ i. record { line = on_flow (sym e.flow i) l; at = sym e.at i; sent = sym e.sent i } in
+    subst (λ q. Does (sends x) (on l w) t a q t a') there (put_does x p (on_flow w.flow l) t)
 
 -- a text in front of a slice lies inside it
 pub text_inside : (n size : ℕ) → n ≤ size → inside size (spans.with_text 3 8 (record { start = 0; len = n })) ≡ true

@@ -1,5 +1,5 @@
 -- Rules done one after the other, and what a rule that writes does.
-use mathlib.Core.Path.{◌≡◌, refl, sym, ap, ap₂, ◌∙◌}
+use mathlib.Core.Path.{◌≡◌, refl, sym, ap, ap₂, ◌∙◌, subst}
 use Prim.Native.Nat.{ℕ}
 use Rattle.std.specs.Borrow.{MutBor}
 use mathlib.Core.List.{List, [], ◌∷◌, ◌++◌, map-append, append_assoc}
@@ -17,8 +17,7 @@ use Rattle.rules.proofs.Area.{puts_append}
 use Rattle.line.specs.declared.Line.{Line}
 use Rattle.line.specs.declared.Work.{Work}
 use Rattle.line.specs.View.{view, terminal_of}
-use Rattle.line.specs.Bounded.{CountedFlow}
-use Rattle.line.specs.With.{display_of, after_shown, on_flow}
+use Rattle.line.specs.With.{AfterShown, display_of, on_terminal, on_screen, on_flow}
 use Rattle.line.specs.Promise.{Progress, on, Does}
 
 joined_append : (xs ys : List (List ℕ)) → joined (xs ++ ys) ≡ joined xs ++ joined ys
@@ -48,12 +47,15 @@ module _ {f g : Rule ℕ} {w v r : Progress} {t₀ t₁ t₂ m₀ m₁ m₂ : Li
       }
 
 -- what was shown, bytes that go by the column they begin at, as a rule
-module _ (w : Work) (bytes : ℕ → List ℕ) {area : MutBor (List ℕ)} {old new : Display} {t : List ℕ} (c : CountedFlow w.flow)
+module _ (w : Work) (bytes : ℕ → List ℕ) {area : MutBor (List ℕ)} {old new : Display} {t : List ℕ}
     (e : old ≡ display_of area w) (h : Shows (bytes old.screen.column) old new) (last : new.area.now ≡ t) where
   abbrev shown_bytes : List ℕ
   shown_bytes = bytes w.flow.terminal.screen.column
 
-  shown_does : (l : Line) (m : List ℕ) → Does (writes shown_bytes) (on l w) area.now m (on l (after_shown new.at new.screen w)) t m
+  abbrev shown_there : Line → Progress
+  shown_there l = record { line = on_flow (on_terminal (on_screen new.screen w.flow.terminal) w.flow) l; at = new.at; sent = w.sent }
+
+  shown_does : (l : Line) (m : List ℕ) → Does (writes shown_bytes) (on l w) area.now m (shown_there l) t m
   unfolding writes message_bytes joined puts
   shown_does l m =
       let shown : Shows shown_bytes (display_of area w) new = rw e at h in
@@ -65,9 +67,10 @@ module _ (w : Work) (bytes : ℕ → List ℕ) {area : MutBor (List ℕ)} {old n
         messages_length = refl;
       }
 
-  pub writes_does : {r : Work} → r ≡ after_shown new.at new.screen w →
-      CountedFlow r.flow × ((l : Line) (m : List ℕ) → Does (writes shown_bytes) (on l w) area.now m (on l r) t m)
-  writes_does s = rw s (record { typed = c.typed; within = c.within }, shown_does)
+  pub writes_does : {r : Work} → AfterShown new.at new.screen w r → (l : Line) (m : List ℕ) → Does (writes shown_bytes) (on l w) area.now m (on l r) t m
+  writes_does {r} e l m =
+      let to : shown_there l ≡ on l r = λ i. record { line = on_flow (sym e.flow i) l; at = sym e.at i; sent = sym e.sent i } in
+      subst (λ p. Does (writes shown_bytes) (on l w) area.now m p t m) to (shown_does l m)
 
 -- What a rule tells of fates does not show.
 module _ {g : Rule ℕ} {w r : Progress} {t t' m m' : List ℕ} where

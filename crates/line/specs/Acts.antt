@@ -23,7 +23,6 @@ use Rattle.line.specs.View.{view, key_of, keys_of, reading_of}
 use Rattle.line.specs.ReadChanges.{HasRoom, idling}
 use Rattle.line.specs.With.{on_flow, on_keys, lent}
 use Rattle.line.specs.KeyArray.{keys_after, shifted}
-use Rattle.line.specs.Bounded.{CountedFlow}
 use Rattle.line.specs.Promise.{on, Does}
 use Rattle.line.specs.Host.{message_of, Accepted, obeys_held, flow_rule, StartableMessage, Prompts}
 
@@ -128,7 +127,6 @@ TakesFirst s l k =
 
 -- what is known of a call that has taken the first key
 pub record HasTakenKey (w v : Work) : Type 0 where
-  pub counted : CountedFlow v.flow
   pub does : (l : Line) → length l.keys ≡ type_ahead_size → (t m : List ℕ) →
       Does (takes_key (on_flow w.flow l)) (on l w) t m (on (shifted w.flow l) v) t m
   pub reading : v.flow.reading ≡ idling 0 w.flow.reading

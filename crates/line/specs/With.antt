@@ -1,5 +1,5 @@
 -- A line, or a call on its way, with one part changed, as the program changes it.
-use Rattle.std.specs.Prelude.{ℕ, true, false, List}
+use Rattle.std.specs.Prelude.{◌≡◌, ℕ, true, false, List}
 use Rattle.std.specs.Borrow.{MutBor}
 use Rattle.screen.specs.declared.Screen.{Screen}
 use Rattle.screen.specs.declared.display.Display.{Display}
@@ -40,15 +40,20 @@ abbrev pub display_of : MutBor (List ℕ) → Work → Display
 display_of area w = record { area = area; at = w.at; screen = w.flow.terminal.screen }
 
 -- the call goes on with another flow, behind what was shown, and behind what was sent
-abbrev pub goes_on : Flow → Work → Work
-goes_on f w = record { flow = f; at = w.at; sent = w.sent }
+pub record GoesOn (f : Flow) (w r : Work) : Type 0 where
+  pub flow : r.flow ≡ f
+  pub at : r.at ≡ w.at
+  pub sent : r.sent ≡ w.sent
 
-abbrev pub after_shown : ℕ → Screen → Work → Work
-after_shown at s w =
-    record { flow = on_terminal (on_screen s w.flow.terminal) w.flow; at = at; sent = w.sent }
+pub record AfterShown (place : ℕ) (s : Screen) (w r : Work) : Type 0 where
+  pub flow : r.flow ≡ on_terminal (on_screen s w.flow.terminal) w.flow
+  pub at : r.at ≡ place
+  pub sent : r.sent ≡ w.sent
 
-abbrev pub after_sent : ℕ → Work → Work
-after_sent n w = record { flow = w.flow; at = w.at; sent = n }
+pub record AfterSent (n : ℕ) (w r : Work) : Type 0 where
+  pub flow : r.flow ≡ w.flow
+  pub at : r.at ≡ w.at
+  pub sent : r.sent ≡ n
 
 -- A line with one part changed.
 abbrev pub on_flow : Flow → Line → Line

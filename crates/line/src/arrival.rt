@@ -5,7 +5,7 @@ ghost use Rattle.rules.specs.State.{codes};
 ghost use Rattle.rules.specs.Arrival as rules;
 ghost use Rattle.line.specs.declared.Line.{Line};
 ghost use Rattle.line.specs.View.{quoted_mark, key_of, reading_of, pending_of};
-ghost use Rattle.line.specs.Bounded.{CountedFlow, CountedReading};
+ghost use Rattle.line.specs.Bounded.{CountedReading};
 ghost use Rattle.line.specs.With.{on_flow, lent};
 ghost use Rattle.line.specs.KeyArray.{stored};
 ghost use Rattle.line.specs.Promise.{on, Does, DoesOn};
@@ -40,9 +40,7 @@ fn one_more(n: u16) -> u16
 impl Work {
     // One key more waits; idle is 0. `move_keys` puts the key itself into the array.
     fn keeps(self) -> Work
-        requires counted_flow { CountedFlow self.flow }
         requires keys_len_bound { self.flow.typed.keys_len < type_ahead_size }
-        ensures counted { CountedFlow result.flow }
         ensures rule { (k : ℕ) (l : Line) → length l.keys ≡ type_ahead_size → (t m : List ℕ) →
             Does (rules.keeps (key_of k).quoted (key_of k).char) (on l self) t m (on (stored k self.flow l) result) t m }
     {
@@ -62,8 +60,6 @@ impl Work {
 
     // No room: BEL, and the dropped count rises up to its top.
     fn drops(self, terminal: &mut [u8]) -> Work
-        requires { CountedFlow self.flow }
-        ensures counted { CountedFlow result.flow }
         ensures rule { (c : ℕ) (l : Line) (m : List ℕ) → Does (rules.drops c) (on l self) terminal.old m (on l result) terminal.new m }
     {
         let belled = self.put(terminal, characters::BEL);
@@ -75,8 +71,6 @@ impl Work {
 
     // Rule 4.
     pub(crate) fn stores(self, terminal: &mut [u8]) -> Work
-        requires { CountedFlow self.flow }
-        ensures counted { CountedFlow result.flow }
         ensures rule { (k : ℕ) (l : Line) → length l.keys ≡ type_ahead_size → (m : List ℕ) →
             Does (rules.stores type_ahead_size (key_of k).quoted (key_of k).char) (on l self) terminal.old m (on (stored k self.flow l) result)
             terminal.new m }
@@ -91,8 +85,6 @@ impl Work {
 
     // Rule 1.
     pub(crate) fn stores_quoted(self, terminal: &mut [u8]) -> Work
-        requires { CountedFlow self.flow }
-        ensures counted { CountedFlow result.flow }
         ensures rule { (c : ℕ) → c < code_count → (l : Line) → length l.keys ≡ type_ahead_size → (m : List ℕ) →
             Does (rules.stores_quoted c) (on l self) terminal.old m (on (stored (c + quoted_mark) self.flow l) result) terminal.new m }
     {
@@ -105,8 +97,6 @@ impl Work {
 
     // Rule 3, code 22.
     pub(crate) fn quotes(self) -> Work
-        requires { CountedFlow self.flow }
-        ensures counted { CountedFlow result.flow }
         ensures rule { (c : ℕ) (l : Line) (t m : List ℕ) → Does (rules.quotes c) (on l self) t m (on l result) t m }
     {
         let flow = self.flow;
@@ -117,8 +107,6 @@ impl Work {
 
     // The lock of a Write.
     pub(crate) fn sets_locked(self, locked: bool) -> Work
-        requires { CountedFlow self.flow }
-        ensures counted { CountedFlow result.flow }
         ensures rule { (l : Line) (t m : List ℕ) → Does (rules.sets_locked locked) (on l self) t m (on l result) t m }
     {
         let flow = self.flow;
@@ -129,8 +117,6 @@ impl Work {
 
     // Unlocks where output is discarded: 15 has just turned discard on.
     fn unlocks_if_discarding(self) -> Work
-        requires { CountedFlow self.flow }
-        ensures counted { CountedFlow result.flow }
         ensures rule { (l : Line) (t m : List ℕ) → Does rules.unlocks_if_discarding (on l self) t m (on l result) t m }
     {
         let flow = self.flow;
@@ -143,8 +129,6 @@ impl Work {
 
     // Rule 3, code 15; where it turns discard on, it unlocks. Discard State says 1 where output is not discarded.
     pub(crate) fn flips_discard(self, messages: &mut [u8]) -> Work
-        requires { CountedFlow self.flow }
-        ensures counted { CountedFlow result.flow }
         ensures rule { (c : ℕ) (l : Line) (t : List ℕ) → Does (rules.flips_discard c) (on l self) t messages.old (on l result) t messages.new }
     {
         let flow = self.flow;
@@ -158,8 +142,6 @@ impl Work {
 
     // Type-ahead and tokens go.
     pub(crate) fn empties_typed(self) -> Work
-        requires { CountedFlow self.flow }
-        ensures counted { CountedFlow result.flow }
         ensures rule { (l : Line) (t m : List ℕ) → Does rules.empties_typed (on l self) t m (on l result) t m }
     {
         let flow = self.flow;
@@ -170,9 +152,7 @@ impl Work {
 
     // A pending read's input goes, without rubbing out.
     fn clears_without_rubbing(self, pending: bool, r: Reading, t: Terms) -> Work
-        requires counted_flow { CountedFlow self.flow }
         requires input_len_bound { r.input_len ≤ input_size }
-        ensures counted { CountedFlow result.flow }
         ensures rule { (text : List ℕ) (l : Line) (a m : List ℕ) →
             DoesOn (λ k. rules.clears_input codes rules.without_rubbing (pending_of pending (reading_of k r))) (lent t text l) self a m result a m }
     {
@@ -191,9 +171,7 @@ impl Work {
         text: &[u8],
         t: Terms,
     ) -> Work
-        requires counted_flow { CountedFlow self.flow }
         requires counted_reading { CountedReading r text.now }
-        ensures counted { CountedFlow result.flow }
         ensures rule { (l : Line) (m : List ℕ) →
             DoesOn (λ k. rules.clears_input codes rules.rubbing_out (pending_of pending (reading_of k r))) (lent t text.now l) self terminal.old
             m result terminal.new m }
@@ -206,9 +184,7 @@ impl Work {
 
     // The clear rule of 24 and Clear Input.
     pub(crate) fn clears(self, terminal: &mut [u8], text: &[u8], t: Terms) -> Work
-        requires counted_flow { CountedFlow self.flow }
         requires text_len { length text.now ≡ input_size }
-        ensures counted { CountedFlow result.flow }
         ensures rule { (l : Line) (m : List ℕ) →
             DoesOn (λ k. rules.clear_rule codes rules.rubbing_out) (lent t text.now l) self terminal.old m result terminal.new m }
     {
@@ -220,8 +196,6 @@ impl Work {
 
     // Rule 2, hello.
     pub(crate) fn sends_out_of_band(self, messages: &mut [u8], c: u8) -> Work
-        requires { CountedFlow self.flow }
-        ensures counted { CountedFlow result.flow }
         ensures rule { (l : Line) (t : List ℕ) → Does (rules.sends_out_of_band codes c) (on l self) t messages.old (on l result) t messages.new }
     {
         self.sends_plain(
@@ -242,9 +216,7 @@ impl Work {
         text: &[u8],
         t: Terms,
     ) -> Work
-        requires counted_flow { CountedFlow self.flow }
         requires counted_reading { CountedReading r text.now }
-        ensures counted { CountedFlow result.flow }
         ensures rule { (l : Line) (a : List ℕ) →
             DoesOn (λ k. rules.ends_out_of_band codes (pending_of pending (reading_of k r))) (lent t text.now l) self a messages.old result a
             messages.new }
@@ -257,9 +229,7 @@ impl Work {
 
     // Rule 2, immediate clear: Out-of-Band, unlocked, the clear rule without rubbing out, then a pending read completes.
     pub(crate) fn clears_at_once(self, messages: &mut [u8], c: u8, text: &[u8], t: Terms) -> Work
-        requires counted_flow { CountedFlow self.flow }
         requires text_len { length text.now ≡ input_size }
-        ensures counted { CountedFlow result.flow }
         ensures rule { (l : Line) (a : List ℕ) → DoesOn (λ k. rules.clears_at_once codes c) (lent t text.now l) self a messages.old result a messages.new }
     {
         let said = self.sends_out_of_band(messages, c);

@@ -1,12 +1,14 @@
 // A call goes on with one part of its flow changed.
-ghost use Rattle.std.specs.Prelude.{◌≡◌};
-ghost use Rattle.line.specs.With.{goes_on, on_terminal, on_typed, on_read, off_read};
+ghost use Rattle.std.specs.Prelude.{◌≤◌};
+ghost use Rattle.rules.specs.Numbers.{input_size};
+ghost use Rattle.line.specs.Bounded.{CountedTyped};
+ghost use Rattle.line.specs.With.{GoesOn, on_terminal, on_typed, on_read, off_read};
 
 use crate::{Reading, Terminal, Typed, Work};
 
 impl Work {
     pub(crate) fn with_terminal(self, t: Terminal) -> Work
-        ensures { result ≡ goes_on (on_terminal t self.flow) self }
+        ensures { GoesOn (on_terminal t self.flow) self result }
     {
         let mut flow = self.flow;
         flow.terminal = t;
@@ -18,7 +20,8 @@ impl Work {
     }
 
     pub(crate) fn with_typed(self, t: Typed) -> Work
-        ensures { result ≡ goes_on (on_typed t self.flow) self }
+        requires { CountedTyped t }
+        ensures { GoesOn (on_typed t self.flow) self result }
     {
         let mut flow = self.flow;
         flow.typed = t;
@@ -31,7 +34,8 @@ impl Work {
 
     // With this read pending.
     pub(crate) fn with_read(self, read: Reading) -> Work
-        ensures { result ≡ goes_on (on_read read self.flow) self }
+        requires { read.input_len ≤ input_size }
+        ensures { GoesOn (on_read read self.flow) self result }
     {
         let mut flow = self.flow;
         flow.pending = true;
@@ -44,7 +48,7 @@ impl Work {
     }
 
     pub(crate) fn without_read(self) -> Work
-        ensures { result ≡ goes_on (off_read self.flow) self }
+        ensures { GoesOn (off_read self.flow) self result }
     {
         let mut flow = self.flow;
         flow.pending = false;

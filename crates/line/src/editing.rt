@@ -6,7 +6,7 @@ ghost use Rattle.rules.specs.Editing as rules;
 ghost use Rattle.rules.specs.Numbers.{input_size};
 ghost use Rattle.line.specs.declared.Line.{Line};
 ghost use Rattle.line.specs.View.{reading_of};
-ghost use Rattle.line.specs.Bounded.{CountedFlow, CountedReading};
+ghost use Rattle.line.specs.Bounded.{CountedReading};
 ghost use Rattle.line.specs.ReadChanges.{InOnePass};
 ghost use Rattle.line.specs.With.{lent};
 ghost use Rattle.line.specs.Promise.{DoesOn};
@@ -25,10 +25,8 @@ fn in_one_pass(columns: usize, left: u16, r: Reading, text: &[u8], t: Terms)
 impl Work {
     // Deletes all but the first characters, without rubbing out.
     pub(crate) fn deletes_without_rubbing(self, left: u16, r: Reading, t: Terms) -> Work
-        requires counted_flow { CountedFlow self.flow }
         requires input_len_bound { r.input_len ≤ input_size }
         requires left_bound { left ≤ r.input_len }
-        ensures counted { CountedFlow result.flow }
         ensures rule { (fate : ℕ → Fate ℕ) (text : List ℕ) (l : Line) (a m : List ℕ) → DoesOn (λ k. rules.deletes_without_rubbing fate left (reading_of k r)) (lent t text l) self a m result a m }
     {
         let next = r.shortened(left, t);
@@ -44,10 +42,8 @@ impl Work {
         text: &[u8],
         t: Terms,
     ) -> Work
-        requires counted_flow { CountedFlow self.flow }
         requires counted_reading { CountedReading r text.now }
         requires left_bound { left ≤ r.input_len }
-        ensures counted { CountedFlow result.flow }
         ensures rule { (fate : ℕ → Fate ℕ) (l : Line) (m : List ℕ) →
             DoesOn (λ k. rules.deletes codes fate left (reading_of k r)) (lent t text.now l) self terminal.old m result terminal.new m }
     {
@@ -59,9 +55,7 @@ impl Work {
 
     // What follows the prompt, from where the cursor stands.
     fn displays_data(self, terminal: &mut [u8], r: Reading, text: &[u8], t: Terms) -> Work
-        requires counted_flow { CountedFlow self.flow }
         requires counted_reading { CountedReading r text.now }
-        ensures counted { CountedFlow result.flow }
         ensures rule { (l : Line) (m : List ℕ) →
             DoesOn (λ k. rules.displays_data codes (reading_of k r)) (lent t text.now l) self terminal.old m result terminal.new m }
     {
@@ -80,10 +74,8 @@ impl Work {
 
     // The prompt, and the echo of what follows it if the read echoes.
     pub(crate) fn displays(self, terminal: &mut [u8], r: Reading, text: &[u8], t: Terms) -> Work
-        requires counted_flow { CountedFlow self.flow }
         requires counted_reading { CountedReading r text.now }
         requires prompt_len_bound { t.prompt_len ≤ input_size }
-        ensures counted { CountedFlow result.flow }
         ensures rule { (l : Line) (m : List ℕ) →
             DoesOn (λ k. rules.displays codes (reading_of k r)) (lent t text.now l) self terminal.old m result terminal.new m }
     {
@@ -94,10 +86,8 @@ impl Work {
 
     // CR LF, and the display again.
     pub(crate) fn redisplays(self, terminal: &mut [u8], r: Reading, text: &[u8], t: Terms) -> Work
-        requires counted_flow { CountedFlow self.flow }
         requires counted_reading { CountedReading r text.now }
         requires prompt_len_bound { t.prompt_len ≤ input_size }
-        ensures counted { CountedFlow result.flow }
         ensures rule { (l : Line) (m : List ℕ) →
             DoesOn (λ k. rules.redisplays codes (reading_of k r)) (lent t text.now l) self terminal.old m result terminal.new m }
     {

@@ -5,7 +5,6 @@ ghost use Rattle.rules.specs.State.{codes};
 ghost use Rattle.rules.specs.Messages.Forms.{plain, unread};
 ghost use Rattle.rules.specs.ReadData as reads;
 ghost use Rattle.line.specs.declared.Line.{Line};
-ghost use Rattle.line.specs.Bounded.{CountedFlow};
 ghost use Rattle.line.specs.With.{on_flow, lent};
 ghost use Rattle.line.specs.Host.{StartableMessage, Prompts, flow_rule};
 ghost use Rattle.line.specs.Promise.{on, Does, DoesOn};
@@ -21,8 +20,6 @@ const ALWAYS: u8 = 0;
 impl Work {
     // Input Count: the keys that wait and the bytes of a token.
     fn checks_input(self, messages: &mut [u8]) -> Work
-        requires { CountedFlow self.flow }
-        ensures counted { CountedFlow result.flow }
         ensures rule { (l : Line) (t : List ℕ) → Does reads.checks_input (on l self) t messages.old (on l result) t messages.new }
     {
         let flow = self.flow;
@@ -34,9 +31,7 @@ impl Work {
 
     // Unread: always, or only with nothing typed.
     fn unreads(self, messages: &mut [u8], condition: u8, text: &[u8], t: Terms) -> Work
-        requires counted_flow { CountedFlow self.flow }
         requires text_len { length text.now ≡ input_size }
-        ensures counted { CountedFlow result.flow }
         ensures rule { (l : Line) (a : List ℕ) →
             DoesOn (λ k. reads.unreads codes (plain unread (condition ∷ []))) (lent t text.now l) self a messages.old result a
             messages.new }
@@ -64,11 +59,9 @@ impl Work {
         text: &[u8],
         t: Terms,
     ) -> Work
-        requires counted_flow { CountedFlow self.flow }
         requires text_len { length text.now ≡ input_size }
         requires prompt_len_bound { t.prompt_len ≤ input_size }
         requires startable_message { StartableMessage s.now m }
-        ensures counted { CountedFlow result.flow }
         ensures rule { (l : Line) → Prompts t l m →
             DoesOn (λ k. flow_rule s.now (on_flow self.flow k) m) (lent t text.now l) self terminal.old messages.old
             result terminal.new messages.new }

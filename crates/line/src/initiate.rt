@@ -6,7 +6,6 @@ ghost use Rattle.rules.specs.Host as rules;
 ghost use Rattle.areas.specs.Writes.{Writes};
 ghost use Rattle.rules.specs.Turns.{sends};
 ghost use Rattle.line.specs.declared.Line.{Line};
-ghost use Rattle.line.specs.Bounded.{CountedFlow};
 ghost use Rattle.line.specs.Promise.{on, Does};
 
 use crate::Work;
@@ -73,8 +72,6 @@ fn put_initiate(w: &mut Writer)
 impl Work {
     // Our Initiate answers the host's.
     pub(crate) fn initiates(self, messages: &mut [u8]) -> Work
-        requires { CountedFlow self.flow }
-        ensures counted { CountedFlow result.flow }
         ensures rule { (l : Line) (t : List ℕ) → Does (sends rules.our_initiate) (on l self) t messages.old (on l result) t messages.new }
     {
         let mut w = Writer { area: messages, at: self.sent };

@@ -1,6 +1,8 @@
 // One line of the console end: its state by value, and the four calls on it.
 #![tactic(auto)]
 
+ghost use Rattle.line.specs.Bounded.{CountedFlow};
+
 use characteristics::Switches;
 use screen::Screen;
 use sets::Set;
@@ -129,4 +131,5 @@ struct Work {
     flow: Flow,
     at: usize,
     sent: usize,
+    ghost counted: { CountedFlow flow },
 }

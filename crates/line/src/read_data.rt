@@ -7,7 +7,7 @@ ghost use Rattle.message.specs.Found.{held_in};
 ghost use Rattle.writing.specs.Spans.{spans_of, inside};
 ghost use Rattle.line.specs.declared.Line.{Line};
 ghost use Rattle.line.specs.View.{view, reading_of};
-ghost use Rattle.line.specs.Bounded.{CountedFlow, CountedReading};
+ghost use Rattle.line.specs.Bounded.{CountedReading};
 ghost use Rattle.line.specs.With.{lent, on_flow};
 ghost use Rattle.line.specs.Completions.{code_of};
 ghost use Rattle.line.specs.Promise.{on, Does};
@@ -46,8 +46,6 @@ pub(crate) const ONE_ENDING: u16 = 1;
 impl Work {
     // A partial token is dropped.
     fn loses_partial(self) -> Work
-        requires { CountedFlow self.flow }
-        ensures counted { CountedFlow result.flow }
         ensures rule { (l : Line) (t m : List ℕ) → Does (rules.loses_partial codes) (on l self) t m (on l result) t m }
     {
         let flow = self.flow;
@@ -61,7 +59,6 @@ impl Work {
 
     // The Read Data of a read; its data stands in front of the text.
     fn read_data_of(self, by: Completion, ending: u16, r: Reading, t: Terms) -> Message
-        requires counted_flow { CountedFlow self.flow }
         requires ending_bound { ending ≤ r.input_len }
         ensures { (text : List ℕ) (k l : Line) → CountedReading r text →
             (held_in text result ≡ codec.message (rules.read_data_of codes (code_of by) ending (reading_of (lent t text l) r) (view (on_flow self.flow k)))) ×
@@ -99,10 +96,8 @@ impl Work {
         text: &[u8],
         t: Terms,
     ) -> Work
-        requires counted_flow { CountedFlow self.flow }
         requires counted_reading { CountedReading r text.now }
         requires ending_bound { ending ≤ r.input_len }
-        ensures counted { CountedFlow result.flow }
         ensures rule { (k l : Line) (a : List ℕ) →
             Does (rules.sends_read_data codes (code_of by) ending (reading_of (lent t text.now l) r)) (on k self) a messages.old (on k result) a
             messages.new }
@@ -121,10 +116,8 @@ impl Work {
         text: &[u8],
         t: Terms,
     ) -> Work
-        requires counted_flow { CountedFlow self.flow }
         requires counted_reading { CountedReading r text.now }
         requires ending_bound { ending ≤ r.input_len }
-        ensures counted { CountedFlow result.flow }
         ensures rule { (k l : Line) (a : List ℕ) →
             Does (rules.completes codes (code_of by) ending (reading_of (lent t text.now l) r)) (on k self) a messages.old (on k result) a
             messages.new }

@@ -8,8 +8,7 @@ ghost use Rattle.rules.specs.Turns.{sends};
 ghost use Rattle.writing.specs.Spans.{spans_of, inside};
 ghost use Rattle.writing.specs.Framed.{Sendable};
 ghost use Rattle.line.specs.declared.Line.{Line};
-ghost use Rattle.line.specs.Bounded.{CountedFlow};
-ghost use Rattle.line.specs.With.{after_sent};
+ghost use Rattle.line.specs.With.{AfterSent};
 ghost use Rattle.line.specs.Promise.{on, Does};
 
 use crate::Work;
@@ -19,7 +18,7 @@ use message::Message;
 impl Work {
     // The call goes on behind what was sent.
     pub(crate) fn sent_up_to(self, sent: usize) -> Work
-        ensures { result ≡ after_sent sent self }
+        ensures { AfterSent sent self result }
     {
         let flow = self.flow;
         Work {
@@ -31,8 +30,6 @@ impl Work {
 
     // A message without parameters, whose text stands in a slice.
     pub(crate) fn send(self, messages: &mut [u8], m: Message, s: &[u8]) -> Work
-        requires { CountedFlow self.flow }
-        ensures counted { CountedFlow result.flow }
         ensures rule { (x : forms.Message ℕ) → Sendable s.now m x → (l : Line) (t : List ℕ) →
             Does (sends x) (on l self) t messages.old (on l result) t messages.new }
     {
@@ -43,8 +40,6 @@ impl Work {
 
     // A message that has numbers alone.
     pub(crate) fn sends_plain(self, messages: &mut [u8], m: Message) -> Work
-        requires { CountedFlow self.flow }
-        ensures counted { CountedFlow result.flow }
         ensures rule { (kind : ℕ) (numbers : List ℕ) → ((s : List ℕ) → held_in s m ≡ codec.message (plain kind numbers)) → inside 0 (spans_of m) ≡ true →
             (l : Line) (t : List ℕ) → Does (sends (plain kind numbers)) (on l self) t messages.old (on l result) t messages.new }
     {

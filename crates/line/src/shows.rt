@@ -2,9 +2,8 @@
 ghost use Rattle.std.specs.Prelude.{ℕ, List, [], ◌∷◌, ◌≡◌};
 ghost use Rattle.rules.specs.Screen as rules;
 ghost use Rattle.rules.specs.Turns.{writes};
-ghost use Rattle.line.specs.With.{display_of, after_shown};
+ghost use Rattle.line.specs.With.{display_of, AfterShown};
 ghost use Rattle.line.specs.declared.Line.{Line};
-ghost use Rattle.line.specs.Bounded.{CountedFlow};
 ghost use Rattle.line.specs.Promise.{on, Does};
 
 use crate::Work;
@@ -25,17 +24,19 @@ impl Work {
 
     // Behind what was shown, with the screen as it then is.
     fn showing(self, at: usize, screen: Screen) -> Work
-        ensures { result ≡ after_shown at screen self }
+        ensures { AfterShown at screen self result }
     {
         let mut flow = self.flow;
         flow.terminal.screen = screen;
-        Work { flow, at, ..self }
+        Work {
+            flow,
+            at,
+            sent: self.sent,
+        }
     }
 
     // The bytes of a text, raw.
     pub(crate) fn write(self, terminal: &mut [u8], text: &[u8]) -> Work
-        requires { CountedFlow self.flow }
-        ensures counted { CountedFlow result.flow }
         ensures rule { (l : Line) (m : List ℕ) → Does (writes text.now) (on l self) terminal.old m (on l result) terminal.new m }
     {
         let mut display = self.display(terminal);
@@ -45,8 +46,6 @@ impl Work {
 
     // One byte.
     pub(crate) fn put(self, terminal: &mut [u8], b: u8) -> Work
-        requires { CountedFlow self.flow }
-        ensures counted { CountedFlow result.flow }
         ensures rule { (l : Line) (m : List ℕ) → Does (writes (b ∷ [])) (on l self) terminal.old m (on l result) terminal.new m }
     {
         let mut display = self.display(terminal);
@@ -56,8 +55,6 @@ impl Work {
 
     // A character's echo.
     pub(crate) fn echo(self, terminal: &mut [u8], n: u8) -> Work
-        requires { CountedFlow self.flow }
-        ensures counted { CountedFlow result.flow }
         ensures rule { (l : Line) (m : List ℕ) →
             Does (writes (rules.echo self.flow.terminal.screen.column n)) (on l self) terminal.old m (on l result) terminal.new m }
     {
@@ -68,8 +65,6 @@ impl Work {
 
     // A terminator's echo.
     pub(crate) fn echo_terminator(self, terminal: &mut [u8], n: u8) -> Work
-        requires { CountedFlow self.flow }
-        ensures counted { CountedFlow result.flow }
         ensures rule { (l : Line) (m : List ℕ) →
             Does (writes (rules.echo_terminator self.flow.terminal.screen.column n)) (on l self) terminal.old m (on l result) terminal.new m }
     {
@@ -80,8 +75,6 @@ impl Work {
 
     // A text's echo.
     pub(crate) fn echo_all(self, terminal: &mut [u8], text: &[u8]) -> Work
-        requires { CountedFlow self.flow }
-        ensures counted { CountedFlow result.flow }
         ensures rule { (l : Line) (m : List ℕ) →
             Does (writes (rules.echo_all self.flow.terminal.screen.column text.now)) (on l self) terminal.old m (on l result)
             terminal.new m }
@@ -93,8 +86,6 @@ impl Work {
 
     // Blanks over so many marks.
     pub(crate) fn rub_out(self, terminal: &mut [u8], marks: usize) -> Work
-        requires { CountedFlow self.flow }
-        ensures counted { CountedFlow result.flow }
         ensures rule { (l : Line) (m : List ℕ) → Does (writes (rules.rub_out marks)) (on l self) terminal.old m (on l result) terminal.new m }
     {
         let mut display = self.display(terminal);

@@ -9,7 +9,7 @@ ghost use Rattle.rules.specs.StartRead.Acceptance as rules;
 ghost use Rattle.fields.specs.Spans.{span_of};
 ghost use Rattle.message.specs.Found.{start_read_in};
 ghost use Rattle.sets.specs.View.{set_of, CountedSet};
-ghost use Rattle.line.specs.Bounded.{Counted, CountedFlow, CountedReading};
+ghost use Rattle.line.specs.Bounded.{Counted, CountedReading};
 ghost use Rattle.line.specs.StartRead.{Startable, reading_at, terms_for, Opens};
 ghost use Rattle.rules.specs.State.{codes};
 ghost use Rattle.rules.specs.Turns.{writes, only};
@@ -204,8 +204,6 @@ impl Line {
 
 impl Work {
     fn empties_typed_if(self, wanted: bool) -> Work
-        requires { CountedFlow self.flow }
-        ensures counted { CountedFlow result.flow }
         ensures rule { (l : Line) (t m : List ℕ) → Does (only wanted empties_typed) (on l self) t m (on l result) t m }
     {
         if wanted {
@@ -215,8 +213,6 @@ impl Work {
     }
 
     fn puts_if(self, terminal: &mut [u8], wanted: bool, b: u8) -> Work
-        requires { CountedFlow self.flow }
-        ensures counted { CountedFlow result.flow }
         ensures rule { (l : Line) (m : List ℕ) → Does (only wanted (writes (b ∷ []))) (on l self) terminal.old m (on l result) terminal.new m }
     {
         if wanted {
@@ -234,9 +230,7 @@ impl Work {
         text: &[u8],
         t: Terms,
     ) -> Work
-        requires counted_flow { CountedFlow self.flow }
         requires counted_reading { CountedReading r text.now }
-        ensures counted { CountedFlow result.flow }
         ensures rule { (l : Line) (a : List ℕ) →
             DoesOn (λ k. only full (completes codes by_full_buffer no_ending (reading_of k r))) (lent t text.now l) self a messages.old result a
             messages.new }
@@ -257,11 +251,9 @@ impl Work {
         text: &[u8],
         t: Terms,
     ) -> Work
-        requires counted_flow { CountedFlow self.flow }
         requires text_len { length text.now ≡ input_size }
         requires prompt_len_bound { t.prompt_len ≤ input_size }
         requires startable { Startable s.now f }
-        ensures counted { CountedFlow result.flow }
         ensures rule { (l : Line) → t.auto_prompt ≡ l.switches.prompting →
             DoesOn (λ k. rules.begins codes (start_read_in s.now f) (reading_of k (reading_at s.now f self.flow.terminal.screen.column)))
             (lent t text.now l) self terminal.old messages.old result terminal.new messages.new }

@@ -5,7 +5,7 @@ ghost use Rattle.rules.specs.State.{codes};
 ghost use Rattle.rules.specs.Steps as rules;
 ghost use Rattle.line.specs.declared.Line.{Line};
 ghost use Rattle.line.specs.View.{reading_of};
-ghost use Rattle.line.specs.Bounded.{CountedFlow, CountedReading};
+ghost use Rattle.line.specs.Bounded.{CountedReading};
 ghost use Rattle.line.specs.With.{lent};
 ghost use Rattle.line.specs.ReadChanges.{HasRoom};
 ghost use Rattle.line.specs.Promise.{on, Does, DoesAcross};
@@ -37,10 +37,8 @@ impl Work {
         text: &mut [u8; rules::INPUT_SIZE],
         t: Terms,
     ) -> Work
-        requires counted_flow { CountedFlow self.flow }
         requires counted_reading { CountedReading r text.old }
         requires prompt_len_bound { r.input_len + self.flow.typed.token_len + t.prompt_len ≤ input_size }
-        ensures counted { CountedFlow result.flow }
         ensures sized { length text.new ≡ input_size }
         ensures rule { (l : Line) (a : List ℕ) →
             DoesAcross (λ k. rules.ends_by_token codes (reading_of k r)) (lent t text.old l) self a messages.old (lent t text.new l)
@@ -65,10 +63,8 @@ impl Work {
         text: &mut [u8; rules::INPUT_SIZE],
         t: Terms,
     ) -> Work
-        requires counted_flow { CountedFlow self.flow }
         requires counted_reading { CountedReading r text.old }
         requires has_room { HasRoom t r }
-        ensures counted { CountedFlow result.flow }
         ensures sized { length text.new ≡ input_size }
         ensures rule { (l : Line) (a : List ℕ) →
             DoesAcross (λ k. rules.takes_token codes (reading_of k r)) (lent t text.old l) self a messages.old (lent t text.new l) result
@@ -91,11 +87,9 @@ impl Work {
         text: &mut [u8; rules::INPUT_SIZE],
         t: Terms,
     ) -> Work
-        requires counted_flow { CountedFlow self.flow }
         requires counted_reading { CountedReading r text.old }
         requires has_room { HasRoom t r }
         requires token_len_bound { self.flow.typed.token_len < token_size }
-        ensures counted { CountedFlow result.flow }
         ensures sized { length text.new ≡ input_size }
         ensures rule { (l : Line) (a : List ℕ) → DoesAcross (λ k. rules.adds_to_token codes c (reading_of k r)) (lent t text.old l) self a messages.old
             (lent t text.new l) result a messages.new }
@@ -111,8 +105,6 @@ impl Work {
     }
 
     fn echoes_if(self, terminal: &mut [u8], wanted: bool, c: u8) -> Work
-        requires { CountedFlow self.flow }
-        ensures counted { CountedFlow result.flow }
         ensures rule { (l : Line) (m : List ℕ) → Does (rules.echoes_if codes wanted c) (on l self) terminal.old m (on l result) terminal.new m }
     {
         if wanted {
@@ -122,8 +114,6 @@ impl Work {
     }
 
     fn echoes_terminator_if(self, terminal: &mut [u8], wanted: bool, c: u8) -> Work
-        requires { CountedFlow self.flow }
-        ensures counted { CountedFlow result.flow }
         ensures rule { (l : Line) (m : List ℕ) → Does (rules.echoes_terminator_if codes wanted c) (on l self) terminal.old m (on l result) terminal.new m }
     {
         if wanted {
@@ -142,10 +132,8 @@ impl Work {
         text: &mut [u8; rules::INPUT_SIZE],
         t: Terms,
     ) -> Work
-        requires counted_flow { CountedFlow self.flow }
         requires counted_reading { CountedReading r text.old }
         requires has_room { HasRoom t r }
-        ensures counted { CountedFlow result.flow }
         ensures sized { length text.new ≡ input_size }
         ensures rule { (l : Line) →
             DoesAcross (λ k. rules.takes_data codes c (reading_of k r)) (lent t text.old l) self terminal.old messages.old
@@ -177,10 +165,8 @@ impl Work {
         text: &mut [u8; rules::INPUT_SIZE],
         t: Terms,
     ) -> Work
-        requires counted_flow { CountedFlow self.flow }
         requires counted_reading { CountedReading r text.old }
         requires has_room { HasRoom t r }
-        ensures counted { CountedFlow result.flow }
         ensures sized { length text.new ≡ input_size }
         ensures rule { (l : Line) →
             DoesAcross (λ k. rules.terminates codes c (reading_of k r)) (lent t text.old l) self terminal.old messages.old
@@ -208,10 +194,8 @@ impl Work {
         text: &mut [u8; rules::INPUT_SIZE],
         t: Terms,
     ) -> Work
-        requires counted_flow { CountedFlow self.flow }
         requires counted_reading { CountedReading r text.old }
         requires has_room { HasRoom t r }
-        ensures counted { CountedFlow result.flow }
         ensures sized { length text.new ≡ input_size }
         ensures rule { (l : Line) →
             DoesAcross (λ k. rules.underflows codes c (reading_of k r)) (lent t text.old l) self terminal.old messages.old
@@ -239,11 +223,9 @@ impl Work {
         text: &mut [u8; rules::INPUT_SIZE],
         t: Terms,
     ) -> Work
-        requires counted_flow { CountedFlow self.flow }
         requires counted_reading { CountedReading r text.old }
         requires has_room { HasRoom t r }
         requires left_bound { left ≤ r.input_len }
-        ensures counted { CountedFlow result.flow }
         ensures sized { length text.new ≡ input_size }
         ensures rule { (l : Line) →
             DoesAcross (λ k. rules.erases codes left c (reading_of k r)) (lent t text.old l) self terminal.old messages.old
@@ -266,10 +248,8 @@ impl Work {
         text: &mut [u8; rules::INPUT_SIZE],
         t: Terms,
     ) -> Work
-        requires counted_flow { CountedFlow self.flow }
         requires counted_reading { CountedReading r text.old }
         requires has_room { HasRoom t r }
-        ensures counted { CountedFlow result.flow }
         ensures sized { length text.new ≡ input_size }
         ensures rule { (l : Line) →
             DoesAcross (λ k. rules.edits codes c (reading_of k r)) (lent t text.old l) self terminal.old messages.old

@@ -10,7 +10,7 @@ ghost use Rattle.sets.specs.View.{set_of};
 ghost use Rattle.line.specs.declared.Line.{Line};
 ghost use Rattle.line.specs.declared.acts.Act.TheVariants.{Takes};
 ghost use Rattle.line.specs.View.{key_of, reading_of};
-ghost use Rattle.line.specs.Bounded.{CountedTyped, CountedFlow, Bounded};
+ghost use Rattle.line.specs.Bounded.{CountedTyped, Bounded};
 ghost use Rattle.line.specs.With.{on_flow, lent};
 ghost use Rattle.line.specs.TokenChanges.{codes_of};
 ghost use Rattle.line.specs.KeyArray.{shifted};
@@ -150,7 +150,6 @@ impl Flow {
 impl Work {
     // The first key no longer waits, and the read is no longer idle. `move_keys` moves the others.
     fn takes_key(self) -> Work
-        requires counted_flow { CountedFlow self.flow }
         requires keys_len_nonzero { 0 < self.flow.typed.keys_len }
         ensures { HasTakenKey self result }
     {
@@ -178,10 +177,8 @@ impl Work {
         text: &mut [u8; rules::INPUT_SIZE],
         t: Terms,
     ) -> Work
-        requires counted_flow { CountedFlow self.flow }
         requires text_len { length text.old ≡ input_size }
         requires can_take_key { CanTakeKey self.flow t }
-        ensures counted { CountedFlow result.flow }
         ensures sized { length text.new ≡ input_size }
         ensures rule { (l : Line) → length l.keys ≡ type_ahead_size →
             DoesAcross (λ j. takes_key (on_flow self.flow j) then taken_rule k (idle_at_zero (on_flow self.flow j))) (lent t text.old l) self
@@ -200,8 +197,6 @@ impl Work {
 
     // A tick that does not reach TIMEOUT.
     pub(crate) fn sets_idle(self, idle: u16) -> Work
-        requires { CountedFlow self.flow }
-        ensures counted { CountedFlow result.flow }
         ensures rule { (l : Line) (a m : List ℕ) → DoesOn (λ k. rules.sets_idle idle (reading_of k self.flow.reading)) l self a m result a m }
     {
         let flow = self.flow;

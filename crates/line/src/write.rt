@@ -9,7 +9,6 @@ ghost use Rattle.fields.specs.Spans.{span_of};
 ghost use Rattle.message.specs.Found.{write_in};
 ghost use Rattle.screen.specs.View as screen;
 ghost use Rattle.line.specs.declared.Line.{Line};
-ghost use Rattle.line.specs.Bounded.{CountedFlow};
 ghost use Rattle.line.specs.With.{lent};
 ghost use Rattle.line.specs.Promise.{on, Does, DoesOn};
 
@@ -62,8 +61,6 @@ fn has_output(f: WriteFields, data: &[u8]) -> bool
 impl Work {
     // Don't-discard turns discarding off.
     fn stops_discarding(self, keeps: u8) -> Work
-        requires { CountedFlow self.flow }
-        ensures counted { CountedFlow result.flow }
         ensures rule { (l : Line) (t m : List ℕ) → Does (rules.stops_discarding keeps) (on l self) t m (on l result) t m }
     {
         if keeps == fields::ON {
@@ -77,8 +74,6 @@ impl Work {
 
     // Own bytes, or a part of them. A first LF is left out where the mark is set, and where there are any the mark falls.
     fn writes_own(self, terminal: &mut [u8], own: &[u8]) -> Work
-        requires { CountedFlow self.flow }
-        ensures counted { CountedFlow result.flow }
         ensures rule { (l : Line) (m : List ℕ) → Does (rules.writes_own own.now) (on l self) terminal.old m (on l result) terminal.new m }
     {
         let flow = self.flow;
@@ -93,8 +88,6 @@ impl Work {
 
     // A prefix or a postfix.
     fn writes_affix(self, terminal: &mut [u8], code: u8, value: u8) -> Work
-        requires { CountedFlow self.flow }
-        ensures counted { CountedFlow result.flow }
         ensures rule { (l : Line) (m : List ℕ) → Does (rules.writes_own (rules.affix_bytes code value)) (on l self) terminal.old m (on l result) terminal.new m }
     {
         if code == NEW_LINES {
@@ -112,8 +105,6 @@ impl Work {
 
     // L: an LF at the very end, which sets the mark.
     fn ends_line(self, terminal: &mut [u8], newline: u8) -> Work
-        requires { CountedFlow self.flow }
-        ensures counted { CountedFlow result.flow }
         ensures rule { (l : Line) (m : List ℕ) → Does (rules.ends_line newline) (on l self) terminal.old m (on l result) terminal.new m }
     {
         if newline == fields::ON {
@@ -128,8 +119,6 @@ impl Work {
 
     // Prefix, data, postfix and L's LF, unless output is discarded.
     fn writes_output(self, terminal: &mut [u8], f: WriteFields, data: &[u8]) -> Work
-        requires { CountedFlow self.flow }
-        ensures counted { CountedFlow result.flow }
         ensures rule { (s : List ℕ) → «data».now ≡ span_of s f.text → (l : Line) (m : List ℕ) →
             Does (rules.writes_output (write_in s f)) (on l self) terminal.old m (on l result) terminal.new m }
     {
@@ -146,8 +135,6 @@ impl Work {
 
     // Write Completion: whether output was lost, and how far the cursor has moved.
     fn sends_completion(self, messages: &mut [u8], wants: u8, some: bool, before: Screen) -> Work
-        requires { CountedFlow self.flow }
-        ensures counted { CountedFlow result.flow }
         ensures rule { (x : forms.Message ℕ) (b : State ℕ) → some ≡ rules.has_output x → screen.screen_view before ≡ b.terminal.screen → (l : Line) (t : List ℕ) →
             Does (rules.sends_completion wants x b) (on l self) t messages.old (on l result) t messages.new }
     {
@@ -172,10 +159,8 @@ impl Work {
 
     // UU 3: a pending read is redisplayed as 18 does.
     fn redisplays_if_asked(self, terminal: &mut [u8], lock: u8, text: &[u8], t: Terms) -> Work
-        requires counted_flow { CountedFlow self.flow }
         requires text_len { length text.now ≡ input_size }
         requires prompt_len_bound { t.prompt_len ≤ input_size }
-        ensures counted { CountedFlow result.flow }
         ensures rule { (l : Line) (m : List ℕ) →
             DoesOn (λ k. rules.redisplays_if_asked codes lock) (lent t text.now l) self terminal.old m result terminal.new m }
     {
@@ -197,10 +182,8 @@ impl Work {
         text: &[u8],
         t: Terms,
     ) -> Work
-        requires counted_flow { CountedFlow self.flow }
         requires text_len { length text.now ≡ input_size }
         requires prompt_len_bound { t.prompt_len ≤ input_size }
-        ensures counted { CountedFlow result.flow }
         ensures rule { (l : Line) →
             DoesOn (λ k. rules.writes_out codes (write_in s.now f)) (lent t text.now l) self terminal.old messages.old result
             terminal.new messages.new }

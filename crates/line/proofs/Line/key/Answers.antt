@@ -13,13 +13,13 @@ acts_on_key-arrived-requires c =
     let pre = c.requires in
     let l = c.args.self in
     let act = c.act_if-arrival.ensures in
-    record { counted_flow = pre.counted.flow; text_len = pre.counted.text; doable = act_doable l 0 0 pre.counted (λ y. act.rule [] l y (refl, refl)) act.none; act_value = act.kind }
+    record { text_len = pre.counted.text; doable = act_doable l 0 0 pre.counted (λ y. act.rule [] l y (refl, refl)) act.none; act_value = act.kind }
 
 pub move_keys-requires-2 : goal.move_keys-requires-2
 move_keys-requires-2 c =
     let l = c.args.self in
     let kept = ap length c.move_keys.ensures ∙ after_length c.act_if-arrival.result l.flow.typed.keys_len l.keys in
-    record { keys_len = kept ∙ c.requires.counted.keys; waiting_le_type_ahead_size = c.acts_on_key-arrived.ensures.counted.typed.keys_length }
+    record { keys_len = kept ∙ c.requires.counted.keys; waiting_le_type_ahead_size = c.acts_on_key-arrived.result.counted.typed.keys_length }
 
 pub acts_on_step-done-requires : goal.acts_on_step-done-requires
 unfolding event_rule
@@ -29,9 +29,9 @@ acts_on_step-done-requires c =
     let arrived = c.acts_on_key-arrived in
     let act = c.act_if-act.ensures in
     let can = keystroke_doable a.code (omega (arith, c.well_formed)) l c.requires a.terminal.now a.messages.now (λ y. c.act_if-arrival.ensures.rule [] l y (refl, refl)) c.act_if-arrival.ensures.none
-    arrived.result _ _ _ c.move_keys.ensures arrived.ensures.counted (arrived.ensures.rule l) arrived.ensures.none
+    arrived.result _ _ _ c.move_keys.ensures (arrived.ensures.rule l) arrived.ensures.none
     (λ y bounded. act.rule [] (on_keys _ l) y (c.look_up_for_step-lookup.ensures [] (on_keys _ l) bounded refl refl)) act.none in
-    record { counted_flow = arrived.ensures.counted; text_len = c.requires.counted.text; doable = can; act_value = act.kind }
+    record { text_len = c.requires.counted.text; doable = can; act_value = act.kind }
 
 pub returns : goal.returns
 unfolding event_rule
@@ -42,7 +42,7 @@ returns c =
     let act = c.act_if-act.ensures in
     let done = c.acts_on_step-done in
     keystroke_answers a.code (omega (arith, c.well_formed)) l c.requires a.terminal.now a.messages.now (λ y. c.act_if-arrival.ensures.rule [] l y (refl, refl)) c.act_if-arrival.ensures.none
-    arrived.result _ _ _ c.move_keys.ensures arrived.ensures.counted (arrived.ensures.rule l) arrived.ensures.none
+    arrived.result _ _ _ c.move_keys.ensures (arrived.ensures.rule l) arrived.ensures.none
     (λ y bounded. act.rule [] (on_keys _ l) y (c.look_up_for_step-lookup.ensures [] (on_keys _ l) bounded refl refl)) act.none
-    c.are_roomy-roomy.ensures done.result _ _ _ _ c.move_keys-2.ensures done.ensures.counted done.ensures.sized
+    c.are_roomy-roomy.ensures done.result _ _ _ _ c.move_keys-2.ensures done.ensures.sized
     (done.ensures.rule (on_flow arrived.result.flow (on_keys _ l))) done.ensures.none c.row_of.ensures

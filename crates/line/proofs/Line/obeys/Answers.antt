@@ -21,7 +21,7 @@ acts_on_host-done-requires c =
     let next = set.result in
     let counted = set_counted a.s.now a.self next a.m c.requires.bounded.counted set.ensures in
     let doable = subst (Doable a.s.now next.flow next.terms) (sym (c.act_of-act.ensures.obeys a.m refl)) (startables a.self a.s.now a.m c.requires.accepted) in
-    record { counted_flow = counted.flow; text_len = counted.text; prompt_len_bound = counted.prompt; doable = doable; act_value = c.act_of-act.ensures.kind }
+    record { text_len = counted.text; prompt_len_bound = counted.prompt; doable = doable; act_value = c.act_of-act.ensures.kind }
 
 pub returns : goal.returns
 returns c =
@@ -31,5 +31,5 @@ returns c =
     let act = c.act_of-act.ensures.obeys a.m refl in
     let done = c.acts_on_host-done in
     let counted = set_counted a.s.now a.self set.result a.m c.requires.bounded.counted set.ensures in
-    host_answers a.s.now a.terminal.now a.messages.now _ _ _ _ a.self set.result report.result done.result a.m c.requires.bounded c.requires.accepted c.requires.messages_value
-    set.ensures report.ensures act done.ensures.rule done.ensures.counted counted.text
+    host_answers a.s.now a.terminal.now a.messages.now _ _ _ _ a.self set.result report.result done.result a.m c.requires.bounded counted.flow c.requires.accepted c.requires.messages_value
+    set.ensures report.ensures act done.ensures.rule counted.text

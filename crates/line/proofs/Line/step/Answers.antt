@@ -14,7 +14,7 @@ unfolding event_rule
 acts_on_step-done-requires c =
     let l = c.args.self in
     let act = c.act_if-act.ensures in
-    record { counted_flow = c.requires.counted.flow; text_len = c.requires.counted.text; doable = act_doable {rule = steps codes} l 0 0 c.requires.counted (λ y. act.rule [] l y (c.look_up_for_step-lookup.ensures [] l c.requires refl refl)) act.none; act_value = act.kind }
+    record { text_len = c.requires.counted.text; doable = act_doable {rule = steps codes} l 0 0 c.requires.counted (λ y. act.rule [] l y (c.look_up_for_step-lookup.ensures [] l c.requires refl refl)) act.none; act_value = act.kind }
 
 pub returns : goal.returns
 unfolding answers is_byte_event event_rule
@@ -25,5 +25,5 @@ returns c =
     let done = c.acts_on_step-done in
     acted_answers rules.step l c.requires a.terminal.now a.messages.now (steps codes) refl refl refl c.are_roomy-roomy.ensures
     (act_done l 0 0 c.requires.counted (λ y. act.rule [] l y (c.look_up_for_step-lookup.ensures [] l c.requires refl refl)) act.none
-    done.result _ _ _ _ c.move_keys.ensures done.ensures.counted done.ensures.sized (done.ensures.rule l) done.ensures.none)
+    done.result _ _ _ _ c.move_keys.ensures done.ensures.sized (done.ensures.rule l) done.ensures.none)
     c.row_of.ensures

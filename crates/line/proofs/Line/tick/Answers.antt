@@ -12,7 +12,7 @@ use Rattle.line.proofs.Line.tick.Goals as goal
 pub acts_on_tick-done-requires : goal.acts_on_tick-done-requires
 acts_on_tick-done-requires c =
     let act = c.act_if-act.ensures in
-    record { counted_flow = c.requires.counted.flow; text_len = c.requires.counted.text; act_value = act.kind }
+    record { text_len = c.requires.counted.text; act_value = act.kind }
 
 pub returns : goal.returns
 unfolding answers is_byte_event event_rule
@@ -23,5 +23,5 @@ returns c =
     let done = c.acts_on_tick-done in
     acted_answers rules.tick l c.requires a.terminal.now a.messages.now (ticks codes) refl refl refl c.are_roomy-roomy.ensures
     (act_done l 0 0 c.requires.counted (λ y. act.rule [] l y c.is_held-held.ensures) act.none
-    done.result _ l.text _ _ c.move_keys.ensures done.ensures.counted c.requires.counted.text (done.ensures.rule l _) (λ n. (done.ensures.none n, refl)))
+    done.result _ l.text _ _ c.move_keys.ensures c.requires.counted.text (done.ensures.rule l _) (λ n. (done.ensures.none n, refl)))
     c.row_of.ensures

@@ -9,16 +9,16 @@ pub obeys-requires : goal.obeys-requires
 obeys-requires c =
     let pre = c.requires in
     let a = c.args in
-    record { counted_flow = pre.counted_flow; text_len = pre.text_len; prompt_len_bound = pre.prompt_len_bound; startable_message = subst (Doable a.s.now a.self.flow a.t) c.in-Obeys.is pre.doable }
+    record { text_len = pre.text_len; prompt_len_bound = pre.prompt_len_bound; startable_message = subst (Doable a.s.now a.self.flow a.t) c.in-Obeys.is pre.doable }
 
 pub returns-in-Obeys : goal.returns-in-Obeys
 returns-in-Obeys c =
     let a = c.args in
     let done = c.obeys.ensures in
-    record { counted = done.counted; rule = λ l. done_as a.s.now a.t l a.self c.in-Obeys.is (λ size p. done.rule l p) }
+    record { rule = λ l. done_as a.s.now a.t l a.self c.obeys.result c.in-Obeys.is (λ size p. done.rule l p) }
 
 pub returns-in_default : goal.returns-in_default
 returns-in_default c =
     let a = c.args in
     let none = (rest a.act).host c.requires.act_value (opened c.in_default.in_default-own.keys2) in
-    record { counted = c.requires.counted_flow; rule = λ l. done_as a.s.now a.t l a.self none (λ size p. still_does _ _ _) }
+    record { rule = λ l. done_as a.s.now a.t l a.self a.self none (λ size p. still_does _ _ _) }

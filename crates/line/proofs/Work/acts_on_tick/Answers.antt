@@ -11,17 +11,17 @@ returns-in-TimesOut c =
     let a = c.args in
     let done = c.completes.ensures in
     let e = c.in-TimesOut.is in
-    record { counted = done.counted; rule = λ l terminal. done_as [] a.t l a.self e (λ size p. done.rule (lent a.t a.text.now l) l _); none = λ n. absurd (moved e tt n) }
+    record { rule = λ l terminal. done_as [] a.t l a.self c.completes.result e (λ size p. done.rule (lent a.t a.text.now l) l _); none = λ n. absurd (moved e tt n) }
 
 pub returns-in-Idles : goal.returns-in-Idles
 returns-in-Idles c =
     let a = c.args in
     let done = c.sets_idle.ensures in
     let e = c.in-Idles.is in
-    record { counted = done.counted; rule = λ l terminal. done_as [] a.t l a.self e (λ size p. done.rule (lent a.t a.text.now l) _ _); none = λ n. absurd (moved e tt n) }
+    record { rule = λ l terminal. done_as [] a.t l a.self c.sets_idle.result e (λ size p. done.rule (lent a.t a.text.now l) _ _); none = λ n. absurd (moved e tt n) }
 
 pub returns-in_default : goal.returns-in_default
 returns-in_default c =
     let a = c.args in
     let none = (rest a.act).tick c.requires.act_value (opened c.in_default.in_default-own.keys3) in
-    record { counted = c.requires.counted_flow; rule = λ l terminal. done_as [] a.t l a.self none (λ size p. still_does _ _ _); none = λ n. refl }
+    record { rule = λ l terminal. done_as [] a.t l a.self a.self none (λ size p. still_does _ _ _); none = λ n. refl }

@@ -14,28 +14,19 @@ use Rattle.line.proofs.Work.begins.Goals as goal
 pub reading_at-r-requires : goal.reading_at-r-requires
 reading_at-r-requires c = c.requires.startable.prompt
 
-pub empties_typed_if-emptied-requires : goal.empties_typed_if-emptied-requires
-empties_typed_if-emptied-requires c = c.requires.counted_flow
-
-pub puts_if-formatted-requires : goal.puts_if-formatted-requires
-puts_if-formatted-requires c = c.empties_typed_if-emptied.ensures.counted
-
-pub puts_if-prompted-requires : goal.puts_if-prompted-requires
-puts_if-prompted-requires c = c.puts_if-formatted.ensures.counted
-
 pub displays-displayed-requires : goal.displays-displayed-requires
 displays-displayed-requires c =
     let pre = c.requires in
     let k = pre.startable in
     let count = ap (λ r. r.input_len) c.reading_at-r.ensures in
-    record { counted_flow = c.puts_if-prompted.ensures.counted; counted_reading = record { within = omega (arith, count, k.within, k.largest); full = pre.text_len }; prompt_len_bound = pre.prompt_len_bound }
+    record { counted_reading = record { within = omega (arith, count, k.within, k.largest); full = pre.text_len }; prompt_len_bound = pre.prompt_len_bound }
 
 pub completes_if-requires : goal.completes_if-requires
 completes_if-requires c =
     let pre = c.requires in
     let k = pre.startable in
     let count = ap (λ r. r.input_len) c.reading_at-r.ensures in
-    record { counted_flow = c.displays-displayed.ensures.counted; counted_reading = record { within = omega (arith, count, k.within, k.largest); full = pre.text_len } }
+    record { counted_reading = record { within = omega (arith, count, k.within, k.largest); full = pre.text_len } }
 
 pub returns : goal.returns
 unfolding begins clears_first feeds_line auto_prompts completes_if_full start_read_in
@@ -44,7 +35,6 @@ returns c =
     let f = a.f in
     let done = c.completes_if.ensures in
     let r = c.reading_at-r.ensures in record {
-      counted = done.counted;
       rule = λ l prompting.
           let line = lent a.t a.text.now l in
           for_equal (λ e. begins codes (start_read_in a.s.now f) e) (ap (reading_of line) r)

@@ -18,9 +18,8 @@ pub returns : goal.returns
 unfolding checks_input held_in spans_of inside
 returns c =
     let sent = c.sends_plain.ensures in record {
-      counted = sent.counted;
       rule = λ l t.
-          let count = waiting_count_lem l.keys c.args.self.flow.typed c.requires.typed in
+          let count = waiting_count_lem l.keys c.args.self.flow.typed c.args.self.counted.typed in
           here_rule refl
           (sent.rule _ _ (λ s. ap (λ n. codec.message (plain input_count (n ∷ []))) count) refl l t);
     }

@@ -7,15 +7,14 @@ use Rattle.line.proofs.Work.clears.Goals as goal
 
 pub clears_rubbing_out-requires : goal.clears_rubbing_out-requires
 clears_rubbing_out-requires c =
-    let counted = c.empties_typed-next.ensures.counted in
-    record { counted_flow = counted; counted_reading = record { within = counted.within; full = c.requires.text_len } }
+    let counted = c.empties_typed-next.result.counted in
+    record { counted_reading = record { within = counted.within; full = c.requires.text_len } }
 
 pub returns : goal.returns
 unfolding clear_rule
 returns c =
     let a = c.args in
     let cleared = c.clears_rubbing_out.ensures in record {
-      counted = cleared.counted;
       rule = λ l m.
           then_does (c.empties_typed-next.ensures.rule (lent a.t a.text.now l) _ m)
           (here_rule refl (cleared.rule l m));

@@ -5,19 +5,13 @@ use Rattle.line.proofs.FlowChanges.{here_rule}
 use Rattle.line.proofs.Turns.{then_does}
 use Rattle.line.proofs.Work.clears_at_once.Goals as goal
 
-pub sets_locked-unlocked-requires : goal.sets_locked-unlocked-requires
-sets_locked-unlocked-requires c = c.sends_out_of_band-said.ensures.counted
-
-pub empties_typed-emptied-requires : goal.empties_typed-emptied-requires
-empties_typed-emptied-requires c = c.sets_locked-unlocked.ensures.counted
-
 pub clears_without_rubbing-cleared-requires : goal.clears_without_rubbing-cleared-requires
-clears_without_rubbing-cleared-requires c = let counted = c.empties_typed-emptied.ensures.counted in record { counted_flow = counted; input_len_bound = counted.within }
+clears_without_rubbing-cleared-requires c = let counted = c.empties_typed-emptied.result.counted in record { input_len_bound = counted.within }
 
 pub ends_out_of_band-requires : goal.ends_out_of_band-requires
 ends_out_of_band-requires c =
-    let counted = c.clears_without_rubbing-cleared.ensures.counted in
-    record { counted_flow = counted; counted_reading = record { within = counted.within; full = c.requires.text_len } }
+    let counted = c.clears_without_rubbing-cleared.result.counted in
+    record { counted_reading = record { within = counted.within; full = c.requires.text_len } }
 
 pub returns : goal.returns
 unfolding clears_at_once clear_rule unlocks
@@ -28,7 +22,6 @@ returns c =
     let emptied = c.empties_typed-emptied.ensures in
     let unlocked = c.sets_locked-unlocked.ensures in
     let sent = c.sends_out_of_band-said.ensures in record {
-      counted = ended.counted;
       rule = λ l x.
           let line = lent a.t a.text.now l in
           then_does (sent.rule line x)

@@ -12,10 +12,10 @@ unfolding clears_input
 returns-then-pending c =
     let a = c.args in
     let deleted = c.deletes.ensures in
-    record { counted = deleted.counted; rule = λ l m. pending_does (clears_input codes rubbing_out) (reading_of (lent a.t a.text.now l) a.r) c.if-pending.true (deleted.rule cleared l m) }
+    record { rule = λ l m. pending_does (clears_input codes rubbing_out) (reading_of (lent a.t a.text.now l) a.r) c.if-pending.true (deleted.rule cleared l m) }
 
 pub returns : goal.returns
 unfolding clears_input
 returns c =
     let a = c.args in
-    record { counted = c.requires.counted_flow; rule = λ l m. idle_does (clears_input codes rubbing_out) (reading_of (lent a.t a.text.now l) a.r) c.if-pending.false (still_does _ _ m) }
+    record { rule = λ l m. idle_does (clears_input codes rubbing_out) (reading_of (lent a.t a.text.now l) a.r) c.if-pending.false (still_does _ _ m) }

@@ -12,10 +12,10 @@ unfolding clears_input
 returns-then-pending c =
     let a = c.args in
     let deleted = c.deletes_without_rubbing.ensures in
-    record { counted = deleted.counted; rule = λ text l x m. pending_does (clears_input codes without_rubbing) (reading_of (lent a.t text l) a.r) c.if-pending.true (deleted.rule cleared text l x m) }
+    record { rule = λ text l x m. pending_does (clears_input codes without_rubbing) (reading_of (lent a.t text l) a.r) c.if-pending.true (deleted.rule cleared text l x m) }
 
 pub returns : goal.returns
 unfolding clears_input
 returns c =
     let a = c.args in
-    record { counted = c.requires.counted_flow; rule = λ text l x m. idle_does (clears_input codes without_rubbing) (reading_of (lent a.t text l) a.r) c.if-pending.false (still_does _ x m) }
+    record { rule = λ text l x m. idle_does (clears_input codes without_rubbing) (reading_of (lent a.t text l) a.r) c.if-pending.false (still_does _ x m) }

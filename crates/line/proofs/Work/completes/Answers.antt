@@ -1,20 +1,19 @@
 use mathlib.Core.Path.{ap}
 use Rattle.rules.specs.ReadData.{completes}
 use Rattle.line.proofs.Turns.{then_does}
-use Rattle.line.proofs.FlowChanges.{goes_counted, off_does}
+use Rattle.line.proofs.FlowChanges.{off_does}
 use Rattle.line.proofs.Work.completes.Goals as goal
 
 pub sends_read_data-answered-requires : goal.sends_read_data-answered-requires
-sends_read_data-answered-requires c = record { counted_flow = c.loses_partial-ready.ensures.counted; counted_reading = c.requires.counted_reading; ending_bound = c.requires.ending_bound }
+sends_read_data-answered-requires c = record { counted_reading = c.requires.counted_reading; ending_bound = c.requires.ending_bound }
 
 pub returns : goal.returns
 unfolding completes
 returns c =
     let answered = c.sends_read_data-answered in
     let off = c.without_read.ensures in record {
-      counted = goes_counted answered.result off (record { typed = answered.ensures.counted.typed; within = answered.ensures.counted.within });
       rule = λ k l x.
           then_does (c.loses_partial-ready.ensures.rule k x _)
           (then_does (answered.ensures.rule k l x) (off_does answered.result off k x _));
-      ended = ap (λ w. w.flow.pending) off;
+      ended = ap (λ f. f.pending) off.flow;
     }

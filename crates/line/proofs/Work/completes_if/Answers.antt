@@ -6,7 +6,7 @@ pub returns-then-full : goal.returns-then-full
 returns-then-full c =
     let a = c.args in
     let done = c.completes.ensures in
-    record { counted = done.counted; rule = λ l x. only_does _ c.if-full.true (done.rule (lent a.t a.text.now l) l x) }
+    record { rule = λ l x. only_does _ c.if-full.true (done.rule (lent a.t a.text.now l) l x) }
 
 pub returns : goal.returns
-returns c = record { counted = c.requires.counted_flow; rule = λ l x. not_does _ c.if-full.false (still_does _ x _) }
+returns c = record { rule = λ l x. not_does _ c.if-full.false (still_does _ x _) }

@@ -9,7 +9,7 @@ in_one_pass-requires c = λ l. (c.find_marks-found.ensures l).once
 
 pub deletes_without_rubbing-requires : goal.deletes_without_rubbing-requires
 deletes_without_rubbing-requires c =
-    record { counted_flow = c.rub_out-rubbed.ensures.counted; input_len_bound = c.requires.counted_reading.within; left_bound = c.requires.left_bound }
+    record { input_len_bound = c.requires.counted_reading.within; left_bound = c.requires.left_bound }
 
 pub returns : goal.returns
 unfolding deletes
@@ -18,7 +18,6 @@ returns c =
     let found = c.find_marks-found.ensures in
     let a = c.args in
     let deleted = c.deletes_without_rubbing.ensures in record {
-      counted = deleted.counted;
       rule = λ fate l m.
           let line = lent a.t a.text.now l in
           then_does (same_writes (found l).marks (rubbed.rule line m)) (deleted.rule fate a.text.now l _ m);

@@ -1,8 +1,7 @@
 use Rattle.rules.specs.Editing.{deletes_without_rubbing}
 use Rattle.line.proofs.Turns.{told_does}
-use Rattle.line.proofs.FlowChanges.{read_counted, read_does}
+use Rattle.line.proofs.FlowChanges.{read_does}
 use Rattle.line.specs.With.{lent}
-use native.Mathlib.Omega.{arith}
 use Rattle.line.proofs.Work.deletes_without_rubbing.Goals as goal
 
 pub returns : goal.returns
@@ -10,4 +9,4 @@ unfolding deletes_without_rubbing
 returns c =
     let next = c.shortened-next in
     let short = next.ensures in
-    let read = c.with_read.ensures in record { counted = read_counted c.args.self next.result read c.requires.counted_flow (omega (arith, short.count, c.requires.counted_flow, c.requires.input_len_bound, c.requires.left_bound)); rule = λ fate text l x m. told_does _ (read_does c.args.self next.result read (lent c.args.t text l) (short.same text l) x m) }
+    let read = c.with_read.ensures in record { rule = λ fate text l x m. told_does _ (read_does c.args.self next.result read (lent c.args.t text l) (short.same text l) x m) }

@@ -28,7 +28,7 @@ pub slice_bounds-write-end : goal.slice_bounds-write-end
 slice_bounds-write-end c = omega (arith, input_size_lem)
 
 pub displays_data-requires : goal.displays_data-requires
-displays_data-requires c = record { counted_flow = c.write-prompted.ensures.counted; counted_reading = c.requires.counted_reading }
+displays_data-requires c = record { counted_reading = c.requires.counted_reading }
 
 pub returns : goal.returns
 unfolding displays prompt_of
@@ -40,4 +40,4 @@ returns c =
     let place : from ≡ input_size - a.t.prompt_len = omega (arith, input_size_lem) in
     let prompt = all_behind text from (length text - from) all ∙ ap (λ n. drop n text) place in
     let shown = c.displays_data.ensures in
-    record { counted = shown.counted; rule = λ l m. then_does (same_writes prompt (c.write-prompted.ensures.rule (lent a.t text l) m)) (shown.rule l m) }
+    record { rule = λ l m. then_does (same_writes prompt (c.write-prompted.ensures.rule (lent a.t text l) m)) (shown.rule l m) }

@@ -1,6 +1,6 @@
 use Rattle.rules.specs.Arrival.{drops}
 use Rattle.line.proofs.Turns.{then_does, told_does}
-use Rattle.line.proofs.ArrivalLaws.{terminal_counted, count_does}
+use Rattle.line.proofs.ArrivalLaws.{count_does}
 use Rattle.line.proofs.Work.drops.Goals as goal
 
 pub returns : goal.returns
@@ -8,4 +8,4 @@ unfolding drops
 returns c =
     let belled = c.put-belled in
     let n = c.one_more.ensures in
-    let next = c.with_terminal.ensures in record { counted = terminal_counted belled.result _ next belled.ensures.counted; rule = λ k l m. told_does _ (then_does (belled.ensures.rule l m) (count_does belled.result _ n next l _ m)) }
+    let next = c.with_terminal.ensures in record { rule = λ k l m. told_does _ (then_does (belled.ensures.rule l m) (count_does belled.result _ n next l _ m)) }

@@ -6,5 +6,4 @@ use Rattle.line.proofs.Work.echo_terminator.Goals as goal
 pub returns : goal.returns
 returns c =
     let shown = λ (k : ℕ). echo_terminator k c.args.n in
-    let whole = writes_does c.args.self shown c.requires c.display-display.ensures c.echo_terminator.ensures (search rules) c.showing.ensures in
-    record { counted = whole.0; rule = whole.1 }
+    record { rule = writes_does c.args.self shown c.display-display.ensures c.echo_terminator.ensures (search rules) c.showing.ensures }

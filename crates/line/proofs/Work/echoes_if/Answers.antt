@@ -9,8 +9,8 @@ pub returns-then-wanted : goal.returns-then-wanted
 unfolding echoes_if
 returns-then-wanted c =
     let echoed = c.echo.ensures in
-    record { counted = echoed.counted; rule = λ l m. here_rule refl (same_writes (sym (pick_true _ [] c.if-wanted.true)) (echoed.rule l m)) }
+    record { rule = λ l m. here_rule refl (same_writes (sym (pick_true _ [] c.if-wanted.true)) (echoed.rule l m)) }
 
 pub returns : goal.returns
 unfolding echoes_if
-returns c = record { counted = c.requires; rule = λ l m. here_rule refl (blank_does _ _ m (pick-false _ [] c.if-wanted.false)) }
+returns c = record { rule = λ l m. here_rule refl (blank_does _ _ m (pick-false _ [] c.if-wanted.false)) }

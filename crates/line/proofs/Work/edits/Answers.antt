@@ -13,7 +13,7 @@ use Rattle.line.proofs.FlowChanges.{for_equal}
 use Rattle.line.proofs.Work.edits.Goals as goal
 
 pub erases-requires : goal.erases-requires
-erases-requires c = let pre = c.requires in record { counted_flow = pre.counted_flow; counted_reading = pre.counted_reading; has_room = pre.has_room; left_bound = omega (arith, c.left_by_delete-left.ensures) }
+erases-requires c = let pre = c.requires in record { counted_reading = pre.counted_reading; has_room = pre.has_room; left_bound = omega (arith, c.left_by_delete-left.ensures) }
 
 pub returns-then-c-eq-DELETE_KEY : goal.returns-then-c-eq-DELETE_KEY
 unfolding edits
@@ -22,7 +22,6 @@ returns-then-c-eq-DELETE_KEY c =
     let text = a.text.now in
     let left = c.left_by_delete-left.ensures ∙ ap (λ n. n - 1) (sym (input-length a.r.input_len text (omega (arith, c.requires.counted_reading.within, c.requires.counted_reading.full)))) in
     let done = c.erases.ensures in record {
-      counted = done.counted;
       sized = done.sized;
       rule = λ l.
           first_does _ _ (eq-eqb _ 127 c.if-c-eq-DELETE_KEY.true)
@@ -33,14 +32,13 @@ pub left_by_delete_word-left-requires : goal.left_by_delete_word-left-requires
 left_by_delete_word-left-requires c = c.requires.counted_reading
 
 pub erases-requires-then-c-eq-DELETE_WORD_KEY : goal.erases-requires-then-c-eq-DELETE_WORD_KEY
-erases-requires-then-c-eq-DELETE_WORD_KEY c = let pre = c.requires in record { counted_flow = pre.counted_flow; counted_reading = pre.counted_reading; has_room = pre.has_room; left_bound = c.left_by_delete_word-left.ensures.within }
+erases-requires-then-c-eq-DELETE_WORD_KEY c = let pre = c.requires in record { counted_reading = pre.counted_reading; has_room = pre.has_room; left_bound = c.left_by_delete_word-left.ensures.within }
 
 pub returns-then-c-eq-DELETE_WORD_KEY : goal.returns-then-c-eq-DELETE_WORD_KEY
 unfolding edits
 returns-then-c-eq-DELETE_WORD_KEY c =
     let a = c.args in
     let done = c.erases-then-c-eq-DELETE_WORD_KEY.ensures in record {
-      counted = done.counted;
       sized = done.sized;
       rule = λ l.
           second_does _ _ (ne_eqb _ 127 c.if-c-eq-DELETE_KEY.false)
@@ -49,13 +47,12 @@ returns-then-c-eq-DELETE_WORD_KEY c =
     }
 
 pub deletes-requires : goal.deletes-requires
-deletes-requires c = let pre = c.requires in record { counted_flow = pre.counted_flow; counted_reading = pre.counted_reading; left_bound = omega arith }
+deletes-requires c = let pre = c.requires in record { counted_reading = pre.counted_reading; left_bound = omega arith }
 
 pub returns-then-c-eq-DELETE_LINE_KEY : goal.returns-then-c-eq-DELETE_LINE_KEY
 unfolding edits erases_all
 returns-then-c-eq-DELETE_LINE_KEY c =
     let done = c.deletes.ensures in record {
-      counted = done.counted;
       sized = c.requires.counted_reading.full;
       rule = λ l.
           second_does _ _ (ne_eqb _ 127 c.if-c-eq-DELETE_KEY.false)
@@ -66,13 +63,12 @@ returns-then-c-eq-DELETE_LINE_KEY c =
 pub redisplays-requires : goal.redisplays-requires
 redisplays-requires c =
     let pre = c.requires in
-    record { counted_flow = pre.counted_flow; counted_reading = pre.counted_reading; prompt_len_bound = omega (arith, pre.has_room.prompt, pre.has_room.room, pre.has_room.largest) }
+    record { counted_reading = pre.counted_reading; prompt_len_bound = omega (arith, pre.has_room.prompt, pre.has_room.room, pre.has_room.largest) }
 
 pub returns : goal.returns
 unfolding edits shows_again
 returns c =
     let done = c.redisplays.ensures in record {
-      counted = done.counted;
       sized = c.requires.counted_reading.full;
       rule = λ l.
           second_does _ _ (ne_eqb _ 127 c.if-c-eq-DELETE_KEY.false)

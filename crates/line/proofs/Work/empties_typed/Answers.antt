@@ -1,6 +1,5 @@
 use mathlib.Core.Path.{refl}
-use Rattle.line.proofs.TokenBytes.{emptied_counted}
-use Rattle.line.proofs.FlowChanges.{here_rule, typed_counted}
+use Rattle.line.proofs.FlowChanges.{here_rule}
 use Rattle.rules.specs.Arrival.{empties_typed}
 use Rattle.line.proofs.Turns.{told_does}
 use Rattle.line.proofs.ArrivalLaws.{emptied_does}
@@ -12,7 +11,6 @@ returns c =
     let self = c.args.self in
     let e = c.emptied-next.ensures in
     let next = c.with_typed.ensures in record {
-      counted = typed_counted self next c.requires (emptied_counted self.flow.typed c.requires.typed e);
       rule = λ l t m.
           here_rule refl (told_does _ (emptied_does self next e l t m));
     }

@@ -4,7 +4,7 @@ use Rattle.line.proofs.Work.empties_typed_if.Goals as goal
 pub returns-then-wanted : goal.returns-then-wanted
 returns-then-wanted c =
     let done = c.empties_typed.ensures in
-    record { counted = done.counted; rule = λ l t m. only_does _ c.if-wanted.true (done.rule l t m) }
+    record { rule = λ l t m. only_does _ c.if-wanted.true (done.rule l t m) }
 
 pub returns : goal.returns
-returns c = record { counted = c.requires; rule = λ l t m. not_does _ c.if-wanted.false (still_does _ t m) }
+returns c = record { rule = λ l t m. not_does _ c.if-wanted.false (still_does _ t m) }

@@ -5,46 +5,45 @@ use Rattle.line.specs.With.{lent}
 use Rattle.rules.specs.Steps.{ends_by_token}
 use Rattle.rules.proofs.Numbers.{waiting_byte}
 use Rattle.line.proofs.Turns.{then_does}
-use Rattle.line.proofs.TokenBytes.{token-length, token_counted, untokened_counted}
-use Rattle.line.proofs.FlowChanges.{here_rule, completes_as, typed_counted, cleared_does, ended_does}
+use Rattle.line.proofs.TokenBytes.{token-length, token_counted}
+use Rattle.line.proofs.FlowChanges.{here_rule, completes_as, cleared_does, ended_does}
 use Rattle.line.proofs.Work.ends_by_token.Goals as goal
 
 pub slice_bounds-push_all-end : goal.slice_bounds-push_all-end
-slice_bounds-push_all-end c = token-length c.args.self.flow.typed c.requires.counted_flow.typed
+slice_bounds-push_all-end c = token-length c.args.self.flow.typed c.args.self.counted.typed
 
 pub push_all-next-requires : goal.push_all-next-requires
 push_all-next-requires c =
-    let long = token-length c.args.self.flow.typed c.requires.counted_flow.typed in
+    let long = token-length c.args.self.flow.typed c.args.self.counted.typed in
     record { counted_reading = c.requires.counted_reading; cs_bound = omega (arith, c.requires.prompt_len_bound) }
 
 pub token_completion-by-requires : goal.token_completion-by-requires
-token_completion-by-requires c = c.requires.counted_flow.typed
+token_completion-by-requires c = c.args.self.counted.typed
 
 pub overflow_cast-size-2 : goal.overflow_cast-size-2
-overflow_cast-size-2 c = omega (arith, c.requires.counted_flow.typed.token_length, waiting_byte)
+overflow_cast-size-2 c = omega (arith, c.args.self.counted.typed.token_length, waiting_byte)
 
 pub completes-requires : goal.completes-requires
 completes-requires c =
     let self = c.args.self in
     let next = c.push_all-next.ensures in
     let typed = c.with_typed-ready.ensures in
-    let long = token-length self.flow.typed c.requires.counted_flow.typed in record { counted_flow = typed_counted self typed c.requires.counted_flow (untokened_counted self.flow.typed c.requires.counted_flow.typed c.without_token-without.ensures); counted_reading = record { within = omega (arith, next.count, c.requires.prompt_len_bound); full = next.size ∙ c.requires.counted_reading.full }; ending_bound = omega (arith, next.count) }
+    let long = token-length self.flow.typed c.args.self.counted.typed in record { counted_reading = record { within = omega (arith, next.count, c.requires.prompt_len_bound); full = next.size ∙ c.requires.counted_reading.full }; ending_bound = omega (arith, next.count) }
 
 pub returns : goal.returns
 unfolding ends_by_token token_of
 returns c =
     let a = c.args in
     let typed = a.self.flow.typed in
-    let long = token-length typed c.requires.counted_flow.typed in
+    let long = token-length typed c.args.self.counted.typed in
     let next = c.push_all-next.ensures in
     let done = c.completes in record {
-      counted = done.ensures.counted;
       sized = next.size ∙ c.requires.counted_reading.full;
       rule = λ l x.
           let line = lent a.t a.text.now l in
           ended_does done.result a.t a.text.now _ l done.ensures.ended
           (here_rule refl
           (then_does (cleared_does a.self c.with_typed-ready.ensures c.without_token-without.ensures line x _)
-          (completes_as c.token_completion-by.ensures (sym (token_counted typed c.requires.counted_flow.typed))
+          (completes_as c.token_completion-by.ensures (sym (token_counted typed c.args.self.counted.typed))
           (next.same a.t l (omega (arith, c.requires.prompt_len_bound))) (done.ensures.rule line l x))));
     }

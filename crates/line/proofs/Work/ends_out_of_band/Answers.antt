@@ -11,10 +11,10 @@ unfolding ends_out_of_band
 returns-then-pending c =
     let a = c.args in
     let ended = c.completes.ensures in
-    record { counted = ended.counted; rule = λ l x. pending_does (ends_out_of_band codes) (reading_of (lent a.t a.text.now l) a.r) c.if-pending.true (ended.rule (lent a.t a.text.now l) l x) }
+    record { rule = λ l x. pending_does (ends_out_of_band codes) (reading_of (lent a.t a.text.now l) a.r) c.if-pending.true (ended.rule (lent a.t a.text.now l) l x) }
 
 pub returns : goal.returns
 unfolding ends_out_of_band
 returns c =
     let a = c.args in
-    record { counted = c.requires.counted_flow; rule = λ l x. idle_does (ends_out_of_band codes) (reading_of (lent a.t a.text.now l) a.r) c.if-pending.false (still_does _ x _) }
+    record { rule = λ l x. idle_does (ends_out_of_band codes) (reading_of (lent a.t a.text.now l) a.r) c.if-pending.false (still_does _ x _) }

@@ -7,7 +7,7 @@ use Rattle.line.proofs.InputAppended.{input_empty}
 use Rattle.line.proofs.Work.erases.Goals as goal
 
 pub underflows-requires : goal.underflows-requires
-underflows-requires c = let pre = c.requires in record { counted_flow = pre.counted_flow; counted_reading = pre.counted_reading; has_room = pre.has_room }
+underflows-requires c = let pre = c.requires in record { counted_reading = pre.counted_reading; has_room = pre.has_room }
 
 pub returns-then-count-eq0 : goal.returns-then-count-eq0
 unfolding erases
@@ -15,10 +15,10 @@ returns-then-count-eq0 c =
     let a = c.args in
     let empty = input_empty a.r a.text.now c.requires.counted_reading ∙ eq-eqb _ 0 c.if-count-eq0.true in
     let done = c.underflows.ensures in
-    record { counted = done.counted; sized = done.sized; rule = λ l. first_does _ _ empty (done.rule l) }
+    record { sized = done.sized; rule = λ l. first_does _ _ empty (done.rule l) }
 
 pub deletes-requires : goal.deletes-requires
-deletes-requires c = let pre = c.requires in record { counted_flow = pre.counted_flow; counted_reading = pre.counted_reading; left_bound = pre.left_bound }
+deletes-requires c = let pre = c.requires in record { counted_reading = pre.counted_reading; left_bound = pre.left_bound }
 
 pub returns : goal.returns
 unfolding erases
@@ -26,4 +26,4 @@ returns c =
     let a = c.args in
     let some = input_empty a.r a.text.now c.requires.counted_reading ∙ ne_eqb _ 0 c.if-count-eq0.false in
     let done = c.deletes.ensures in
-    record { counted = done.counted; sized = c.requires.counted_reading.full; rule = λ l. second_does _ _ some (told_does _ (done.rule edited l _)) }
+    record { sized = c.requires.counted_reading.full; rule = λ l. second_does _ _ some (told_does _ (done.rule edited l _)) }

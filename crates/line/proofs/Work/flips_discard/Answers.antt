@@ -10,24 +10,17 @@ use Rattle.message.specs.Found.{held_in}
 use Rattle.writing.specs.Spans.{spans_of, inside}
 use Rattle.line.proofs.FlowChanges.{here_rule}
 use Rattle.line.proofs.Turns.{then_does, told_does}
-use Rattle.line.proofs.ArrivalLaws.{terminal_counted, terminal_does}
+use Rattle.line.proofs.ArrivalLaws.{terminal_does}
 use Rattle.line.proofs.Work.flips_discard.Goals as goal
-
-pub sends_plain-said-requires : goal.sends_plain-said-requires
-sends_plain-said-requires c = terminal_counted c.args.self _ c.with_terminal-next.ensures c.requires
-
-pub unlocks_if_discarding-requires : goal.unlocks_if_discarding-requires
-unlocks_if_discarding-requires c = c.sends_plain-said.ensures.counted
 
 pub returns : goal.returns
 unfolding flips_discard sends_discard_state held_in spans_of inside
 returns c =
     let flipped = c.with_terminal-next.ensures in
     let self = c.args.self in
-    let kept = c.bit_of-kept.ensures ∙ ap (λ v. bit (not v.flow.terminal.discarding)) (sym flipped) in
+    let kept = c.bit_of-kept.ensures ∙ ap (λ f. bit (not f.terminal.discarding)) (sym flipped.flow) in
     let sent = c.sends_plain-said.ensures in
     let unlocked = c.unlocks_if_discarding.ensures in record {
-      counted = unlocked.counted;
       rule = λ k l t.
           told_does _
           (then_does (terminal_does self _ flipped (λ x. with_discarding (not x.discarding) x) refl l t _)

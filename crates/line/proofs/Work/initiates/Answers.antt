@@ -1,9 +1,9 @@
 use Rattle.std.proofs.Common.{rules}
-use Rattle.line.proofs.SentMessages.{sent_does, sent_counted}
+use Rattle.line.proofs.SentMessages.{sent_does}
 use Rattle.line.proofs.Work.initiates.Goals as goal
 
 pub returns : goal.returns
 returns c =
     let e = c.sent_up_to.ensures in
     let puts = c.put_initiate.ensures in
-    record { counted = sent_counted c.args.self e c.requires; rule = λ l t. sent_does _ (search rules) e l t }
+    record { rule = λ l t. sent_does _ (search rules) e l t }

@@ -1,6 +1,6 @@
 use native.Mathlib.Omega.{arith}
 use Rattle.rules.proofs.Numbers.{waiting_byte}
-use Rattle.line.proofs.ArrivalLaws.{kept_counted, keeps_does}
+use Rattle.line.proofs.ArrivalLaws.{keeps_does}
 use Rattle.line.proofs.Work.keeps.Goals as goal
 
 pub overflow_add-typed : goal.overflow_add-typed
@@ -9,4 +9,4 @@ overflow_add-typed c = omega (arith, waiting_byte)
 pub returns : goal.returns
 returns c =
     let self = c.args.self in
-    record { counted = kept_counted self c.requires.counted_flow c.requires.keys_len_bound; rule = keeps_does self c.requires.counted_flow c.requires.keys_len_bound }
+    record { rule = keeps_does self c.args.self.counted c.requires.keys_len_bound }

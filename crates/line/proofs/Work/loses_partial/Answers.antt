@@ -1,8 +1,7 @@
 use mathlib.Core.Path.{refl, sym, ◌∙◌}
 use Rattle.rules.specs.ReadData.{loses_partial}
 use Rattle.line.proofs.Turns.{told_does}
-use Rattle.line.proofs.TokenBytes.{untokened_counted}
-use Rattle.line.proofs.FlowChanges.{here_only, here_not, typed_counted, cleared_does}
+use Rattle.line.proofs.FlowChanges.{here_only, here_not, cleared_does}
 use Rattle.line.proofs.Work.loses_partial.Goals as goal
 
 pub returns-then-is_partial : goal.returns-then-is_partial
@@ -11,10 +10,10 @@ returns-then-is_partial c =
     let partial = sym c.is_partial.ensures ∙ c.if-is_partial.true in
     let self = c.args.self in
     let next = c.without_token-next.ensures in
-    let typed = c.with_typed.ensures in record { counted = typed_counted self typed c.requires (untokened_counted c.args.self.flow.typed c.requires.typed next); rule = λ l t m. here_only _ refl partial (told_does _ (cleared_does self typed next l t m)) }
+    let typed = c.with_typed.ensures in record { rule = λ l t m. here_only _ refl partial (told_does _ (cleared_does self typed next l t m)) }
 
 pub returns : goal.returns
 unfolding loses_partial
 returns c =
     let whole = sym c.is_partial.ensures ∙ c.if-is_partial.false in
-    record { counted = c.requires; rule = λ l t m. here_not _ t m refl whole }
+    record { rule = λ l t m. here_not _ t m refl whole }

@@ -4,7 +4,7 @@ use Rattle.line.proofs.Work.puts_if.Goals as goal
 pub returns-then-wanted : goal.returns-then-wanted
 returns-then-wanted c =
     let done = c.put.ensures in
-    record { counted = done.counted; rule = λ l m. only_does _ c.if-wanted.true (done.rule l m) }
+    record { rule = λ l m. only_does _ c.if-wanted.true (done.rule l m) }
 
 pub returns : goal.returns
-returns c = record { counted = c.requires; rule = λ l m. not_does _ c.if-wanted.false (still_does _ _ m) }
+returns c = record { rule = λ l m. not_does _ c.if-wanted.false (still_does _ _ m) }

@@ -3,7 +3,7 @@ use mathlib.Core.Bool.{true}
 use Rattle.rules.specs.State.{with_quoting}
 use Rattle.rules.specs.Arrival.{quotes}
 use Rattle.line.proofs.Turns.{told_does}
-use Rattle.line.proofs.ArrivalLaws.{terminal_counted, terminal_does}
+use Rattle.line.proofs.ArrivalLaws.{terminal_does}
 use Rattle.line.proofs.Work.quotes.Goals as goal
 
 pub returns : goal.returns
@@ -11,4 +11,4 @@ unfolding quotes
 returns c =
     let self = c.args.self in
     let next = c.with_terminal.ensures in
-    record { counted = terminal_counted self _ next c.requires; rule = λ k l t m. told_does _ (terminal_does self _ next (with_quoting true) refl l t m) }
+    record { rule = λ k l t m. told_does _ (terminal_does self _ next (with_quoting true) refl l t m) }

@@ -4,11 +4,11 @@ use Rattle.line.proofs.Turns.{then_does}
 use Rattle.line.proofs.Work.redisplays.Goals as goal
 
 pub displays-requires : goal.displays-requires
-displays-requires c = record { counted_flow = c.write-next.ensures.counted; counted_reading = c.requires.counted_reading; prompt_len_bound = c.requires.prompt_len_bound }
+displays-requires c = record { counted_reading = c.requires.counted_reading; prompt_len_bound = c.requires.prompt_len_bound }
 
 pub returns : goal.returns
 unfolding redisplays
 returns c =
     let a = c.args in
     let shown = c.displays.ensures in
-    record { counted = shown.counted; rule = λ l m. then_does (c.write-next.ensures.rule (lent a.t a.text.now l) m) (shown.rule l m) }
+    record { rule = λ l m. then_does (c.write-next.ensures.rule (lent a.t a.text.now l) m) (shown.rule l m) }

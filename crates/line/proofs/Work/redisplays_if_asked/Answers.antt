@@ -6,15 +6,15 @@ use Rattle.line.proofs.Work.redisplays_if_asked.Goals as goal
 pub redisplays-requires : goal.redisplays-requires
 redisplays-requires c =
     let pre = c.requires in
-    record { counted_flow = pre.counted_flow; counted_reading = record { within = pre.counted_flow.within; full = pre.text_len }; prompt_len_bound = pre.prompt_len_bound }
+    record { counted_reading = record { within = c.args.self.counted.within; full = pre.text_len }; prompt_len_bound = pre.prompt_len_bound }
 
 pub returns-then-lock-flow : goal.returns-then-lock-flow
 returns-then-lock-flow c =
     let a = c.args in
     let shown = c.redisplays.ensures in
-    record { counted = shown.counted; rule = λ l m. redisplays_now (on (lent a.t a.text.now l) a.self) a.lock c.if-lock-flow.true (shown.rule l m) }
+    record { rule = λ l m. redisplays_now (on (lent a.t a.text.now l) a.self) a.lock c.if-lock-flow.true (shown.rule l m) }
 
 pub returns : goal.returns
 returns c =
     let a = c.args in
-    record { counted = c.requires.counted_flow; rule = λ l m. redisplays_not (on (lent a.t a.text.now l) a.self) a.lock _ m c.if-lock-flow.false }
+    record { rule = λ l m. redisplays_not (on (lent a.t a.text.now l) a.self) a.lock _ m c.if-lock-flow.false }

@@ -6,5 +6,4 @@ use Rattle.line.proofs.Work.rub_out.Goals as goal
 pub returns : goal.returns
 returns c =
     let shown = λ (_ : ℕ). rub_out c.args.marks in
-    let whole = writes_does c.args.self shown c.requires c.display-display.ensures c.rub_out.ensures (search rules) c.showing.ensures in
-    record { counted = whole.0; rule = whole.1 }
+    record { rule = writes_does c.args.self shown c.display-display.ensures c.rub_out.ensures (search rules) c.showing.ensures }

@@ -1,10 +1,7 @@
 use Rattle.std.proofs.Common.{rules}
-use Rattle.line.proofs.SentMessages.{sent_does, sent_counted}
+use Rattle.line.proofs.SentMessages.{sent_does}
 use Rattle.line.proofs.Work.send.Goals as goal
 
 pub returns : goal.returns
 returns c =
-    record {
-      counted = sent_counted c.args.self c.sent_up_to.ensures c.requires;
-      rule = λ x k. let puts = c.put_framed.ensures.sent x k in sent_does x (search rules) c.sent_up_to.ensures;
-    }
+    record { rule = λ x k. let puts = c.put_framed.ensures.sent x k in sent_does x (search rules) c.sent_up_to.ensures }

@@ -18,7 +18,6 @@ unfolding sends_completion completion held_in spans_of inside
 returns-then-wants-eq-ON c =
     let now = c.args.self.flow.terminal in
     let sent = c.sends_plain.ensures in record {
-      counted = sent.counted;
       rule = λ x b some before l t.
           let lost = c.bit_of-lost.ensures ∙ ap (λ f. bit (now.discarding && f)) some in
           let across = c.change-horizontal.ensures ∙ ap (λ s. change now.screen.column s.column) before in
@@ -31,4 +30,4 @@ returns-then-wants-eq-ON c =
 pub returns : goal.returns
 unfolding sends_completion
 returns c =
-    record { counted = c.requires; rule = λ x b some before l t. not_does _ (ne_eqb c.args.wants 1 c.if-wants-eq-ON.false) (still_does _ t _) }
+    record { rule = λ x b some before l t. not_does _ (ne_eqb c.args.wants 1 c.if-wants-eq-ON.false) (still_does _ t _) }

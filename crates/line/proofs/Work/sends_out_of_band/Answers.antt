@@ -9,4 +9,4 @@ pub returns : goal.returns
 unfolding sends_out_of_band held_in spans_of inside
 returns c =
     let sent = c.sends_plain.ensures in
-    record { counted = sent.counted; rule = λ l t. told_does _ (sent.rule _ _ (λ s. refl) refl l t) }
+    record { rule = λ l t. told_does _ (sent.rule _ _ (λ s. refl) refl l t) }

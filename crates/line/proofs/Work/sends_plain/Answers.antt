@@ -6,4 +6,4 @@ use Rattle.line.proofs.Work.sends_plain.Goals as goal
 pub returns : goal.returns
 returns c =
     let sent = c.send.ensures in
-    record { counted = sent.counted; rule = λ kind numbers h i. sent.rule (plain kind numbers) (record { held = h _; listless = refl; set = omega arith; lie = i }) }
+    record { rule = λ kind numbers h i. sent.rule (plain kind numbers) (record { held = h _; listless = refl; set = omega arith; lie = i }) }

@@ -9,7 +9,6 @@ unfolding sends_read_data read_data_of
 returns c =
     let sent = c.send.ensures in
     let a = c.args in record {
-      counted = sent.counted;
       rule = λ k l x.
           let answer = c.read_data_of-message.ensures a.text.now k l c.requires.counted_reading in
           here_rule refl (sent.rule _ (record { held = answer.0; listless = refl; set = omega arith; lie = answer.1 }) k x);

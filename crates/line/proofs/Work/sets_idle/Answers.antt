@@ -1,6 +1,6 @@
 use Rattle.rules.specs.Steps.{sets_idle}
-use Rattle.line.proofs.FlowChanges.{read_counted, read_does}
-use Rattle.line.proofs.FlowChanges.{idle_same, idle_count}
+use Rattle.line.proofs.FlowChanges.{read_does}
+use Rattle.line.proofs.FlowChanges.{idle_same}
 use Rattle.line.proofs.Work.sets_idle.Goals as goal
 
 pub returns : goal.returns
@@ -9,4 +9,4 @@ returns c =
     let self = c.args.self in
     let r = self.flow.reading in
     let next = c.with_idle-next in
-    let read = c.with_read.ensures in record { counted = read_counted self next.result read c.requires (idle_count r next.ensures c.requires.within); rule = λ l x m. read_does self next.result read l (idle_same r next.ensures l) x m }
+    let read = c.with_read.ensures in record { rule = λ l x m. read_does self next.result read l (idle_same r next.ensures l) x m }

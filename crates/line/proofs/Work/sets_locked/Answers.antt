@@ -1,10 +1,10 @@
 use mathlib.Core.Path.{refl}
 use Rattle.rules.specs.State.{with_locked}
-use Rattle.line.proofs.ArrivalLaws.{terminal_counted, terminal_does}
+use Rattle.line.proofs.ArrivalLaws.{terminal_does}
 use Rattle.line.proofs.Work.sets_locked.Goals as goal
 
 pub returns : goal.returns
 returns c =
     let self = c.args.self in
     let next = c.with_terminal.ensures in
-    record { counted = terminal_counted self _ next c.requires; rule = λ l t m. terminal_does self _ next (with_locked c.args.locked) refl l t m }
+    record { rule = λ l t m. terminal_does self _ next (with_locked c.args.locked) refl l t m }

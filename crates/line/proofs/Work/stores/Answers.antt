@@ -11,14 +11,13 @@ use Rattle.line.proofs.KeyArrays.{has_room, no_room}
 use Rattle.line.proofs.Work.stores.Goals as goal
 
 pub keeps-requires : goal.keeps-requires
-keeps-requires c = record { counted_flow = c.requires; keys_len_bound = omega (arith, c.if-typed-lt-TYPE_AHEAD_SIZE.true, type_ahead_size_lem) }
+keeps-requires c = record { keys_len_bound = omega (arith, c.if-typed-lt-TYPE_AHEAD_SIZE.true, type_ahead_size_lem) }
 
 pub returns-then-typed-lt-TYPE_AHEAD_SIZE : goal.returns-then-typed-lt-TYPE_AHEAD_SIZE
 unfolding stores
 returns-then-typed-lt-TYPE_AHEAD_SIZE c =
     let waiting = c.args.self.flow.typed.keys_len in
     let kept = c.keeps.ensures in record {
-      counted = kept.counted;
       rule = λ k l size m.
           here_first _ refl (has_room waiting type_ahead_size l.keys (omega (arith, c.if-typed-lt-TYPE_AHEAD_SIZE.true, type_ahead_size_lem))) (kept.rule k l size _ m);
     }
@@ -30,7 +29,6 @@ returns c =
     let waiting = self.flow.typed.keys_len in
     let full : type_ahead_size ≤ waiting = omega (arith, c.if-typed-lt-TYPE_AHEAD_SIZE.false, type_ahead_size_lem) in
     let dropped = c.drops in record {
-      counted = dropped.ensures.counted;
       rule = λ k l size m.
           here_second _ refl (no_room waiting type_ahead_size l.keys full)
           (dropped_key self.flow dropped.result k l (omega arith) (dropped.ensures.rule (key_of k).char l m));

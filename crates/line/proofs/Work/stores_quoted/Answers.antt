@@ -5,11 +5,8 @@ use mathlib.Core.Bool.{false}
 use Rattle.rules.specs.State.{with_quoting}
 use Rattle.rules.specs.Arrival.{stores, stores_quoted}
 use Rattle.line.proofs.Turns.{then_does}
-use Rattle.line.proofs.ArrivalLaws.{terminal_counted, terminal_does, quoted_key, waited_key}
+use Rattle.line.proofs.ArrivalLaws.{terminal_does, quoted_key, waited_key}
 use Rattle.line.proofs.Work.stores_quoted.Goals as goal
-
-pub stores-requires : goal.stores-requires
-stores-requires c = terminal_counted c.args.self _ c.with_terminal-next.ensures c.requires
 
 pub returns : goal.returns
 unfolding stores_quoted
@@ -18,9 +15,8 @@ returns c =
     let done = c.with_terminal-next in
     let self = c.args.self in
     let kept = c.stores.ensures in record {
-      counted = kept.counted;
       rule = λ k small l size m.
           then_does (terminal_does self _ next (with_quoting false) refl l _ m)
           (quoted_key k small (stores type_ahead_size)
-          (waited_key done.result.flow self.flow (k + 256) l (ap (λ v. v.flow.typed.keys_len) next) (kept.rule (k + 256) l size m)));
+          (waited_key c.stores.result done.result.flow self.flow (k + 256) l (ap (λ f. f.typed.keys_len) next.flow) (kept.rule (k + 256) l size m)));
     }

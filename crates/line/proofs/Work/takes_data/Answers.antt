@@ -7,17 +7,11 @@ use Rattle.rules.proofs.Numbers.{input_word}
 use Rattle.line.specs.With.{lent}
 use Rattle.line.proofs.InputAppended.{end_is}
 use Rattle.line.proofs.Turns.{then_does, only_does, not_does, still_does}
-use Rattle.line.proofs.FlowChanges.{completes_as, read_counted, text_does}
+use Rattle.line.proofs.FlowChanges.{completes_as, text_does}
 use Rattle.line.proofs.Work.takes_data.Goals as goal
 
 pub push-next-requires : goal.push-next-requires
 push-next-requires c = let pre = c.requires in record { counted_reading = pre.counted_reading; input_len_bound = omega (arith, pre.has_room.room, pre.has_room.largest) }
-
-pub echoes_if-shown-requires : goal.echoes_if-shown-requires
-echoes_if-shown-requires c =
-    let next = c.push-next in
-    let room = c.requires.has_room in
-    read_counted c.args.self next.result c.with_read-ready.ensures c.requires.counted_flow (omega (arith, next.ensures.count, room.room, room.largest))
 
 pub overflow_add-end : goal.overflow_add-end
 overflow_add-end c = let room = c.requires.has_room in omega (arith, c.end.ensures, room.room, room.largest, input_word)
@@ -26,7 +20,7 @@ pub completes-requires : goal.completes-requires
 completes-requires c =
     let pre = c.requires in
     let next = c.push-next.ensures in
-    let room = pre.has_room in record { counted_flow = c.echoes_if-shown.ensures.counted; counted_reading = record { within = omega (arith, next.count, room.room, room.largest); full = next.size ∙ pre.counted_reading.full }; ending_bound = omega arith }
+    let room = pre.has_room in record { counted_reading = record { within = omega (arith, next.count, room.room, room.largest); full = next.size ∙ pre.counted_reading.full }; ending_bound = omega arith }
 
 pub returns-then-end-t : goal.returns-then-end-t
 unfolding takes_data
@@ -36,7 +30,6 @@ returns-then-end-t c =
     let room = c.requires.has_room in
     let next = c.push-next in
     let done = c.completes.ensures in record {
-      counted = done.counted;
       sized = next.ensures.size ∙ c.requires.counted_reading.full;
       rule = λ l.
           let same = next.ensures.same a.t l (omega (arith, room.room, room.largest, room.prompt)) in
@@ -54,7 +47,6 @@ returns c =
     let room = c.requires.has_room in
     let next = c.push-next in
     let shown = c.echoes_if-shown.ensures in record {
-      counted = shown.counted;
       sized = next.ensures.size ∙ c.requires.counted_reading.full;
       rule = λ l.
           let same = next.ensures.same a.t l (omega (arith, room.room, room.largest, room.prompt)) in

@@ -16,21 +16,20 @@ use Rattle.line.proofs.Work.takes_token.Goals as goal
 pub overflow_add-end : goal.overflow_add-end
 overflow_add-end c =
     let pre = c.requires in
-    omega (arith, c.end.ensures, pre.has_room.room, pre.has_room.largest, pre.counted_flow.typed.token_length, input_word, waiting_byte)
+    omega (arith, c.end.ensures, pre.has_room.room, pre.has_room.largest, c.args.self.counted.typed.token_length, input_word, waiting_byte)
 
 pub ends_by_token-requires : goal.ends_by_token-requires
 ends_by_token-requires c =
     let pre = c.requires in
-    record { counted_flow = pre.counted_flow; counted_reading = pre.counted_reading; prompt_len_bound = omega (arith, c.end.ensures, c.if-end-typed.true, pre.has_room.largest, pre.has_room.prompt) }
+    record { counted_reading = pre.counted_reading; prompt_len_bound = omega (arith, c.end.ensures, c.if-end-typed.true, pre.has_room.largest, pre.has_room.prompt) }
 
 pub returns-then-end-typed : goal.returns-then-end-typed
 unfolding takes_token
 returns-then-end-typed c =
     let a = c.args in
     let typed = a.self.flow.typed in
-    let long = token_counted typed c.requires.counted_flow.typed in
+    let long = token_counted typed c.args.self.counted.typed in
     let ended = c.ends_by_token.ensures in record {
-      counted = ended.counted;
       sized = ended.sized;
       rule = λ l x.
           let is = end_is a.t a.text.now l a.r c.requires.counted_reading in
@@ -40,16 +39,15 @@ returns-then-end-typed c =
     }
 
 pub completes-requires : goal.completes-requires
-completes-requires c = let pre = c.requires in record { counted_flow = pre.counted_flow; counted_reading = pre.counted_reading; ending_bound = omega arith }
+completes-requires c = let pre = c.requires in record { counted_reading = pre.counted_reading; ending_bound = omega arith }
 
 pub returns : goal.returns
 unfolding takes_token
 returns c =
     let a = c.args in
     let typed = a.self.flow.typed in
-    let long = token_counted typed c.requires.counted_flow.typed in
+    let long = token_counted typed c.args.self.counted.typed in
     let done = c.completes.ensures in record {
-      counted = done.counted;
       sized = c.requires.counted_reading.full;
       rule = λ l x.
           let line = lent a.t a.text.now l in

@@ -9,14 +9,11 @@ use Rattle.line.proofs.Work.terminates.Goals as goal
 pub push-next-requires : goal.push-next-requires
 push-next-requires c = let pre = c.requires in record { counted_reading = pre.counted_reading; input_len_bound = omega (arith, pre.has_room.room, pre.has_room.largest) }
 
-pub echoes_terminator_if-shown-requires : goal.echoes_terminator_if-shown-requires
-echoes_terminator_if-shown-requires c = c.requires.counted_flow
-
 pub completes-requires : goal.completes-requires
 completes-requires c =
     let pre = c.requires in
     let next = c.push-next.ensures in
-    let room = pre.has_room in record { counted_flow = c.echoes_terminator_if-shown.ensures.counted; counted_reading = record { within = omega (arith, next.count, room.room, room.largest); full = next.size ∙ pre.counted_reading.full }; ending_bound = omega (arith, next.count) }
+    let room = pre.has_room in record { counted_reading = record { within = omega (arith, next.count, room.room, room.largest); full = next.size ∙ pre.counted_reading.full }; ending_bound = omega (arith, next.count) }
 
 pub returns : goal.returns
 unfolding terminates
@@ -25,7 +22,6 @@ returns c =
     let room = c.requires.has_room in
     let next = c.push-next.ensures in
     let done = c.completes in record {
-      counted = done.ensures.counted;
       sized = next.size ∙ c.requires.counted_reading.full;
       rule = λ l.
           let line = lent a.t a.text.now l in

@@ -14,7 +14,7 @@ pub completes-requires : goal.completes-requires
 completes-requires c =
     let pre = c.requires in
     let next = c.push-next.ensures in
-    record { counted_flow = pre.counted_flow; counted_reading = record { within = omega (arith, next.count, pre.has_room.room, pre.has_room.largest); full = next.size ∙ pre.counted_reading.full }; ending_bound = omega (arith, next.count) }
+    record { counted_reading = record { within = omega (arith, next.count, pre.has_room.room, pre.has_room.largest); full = next.size ∙ pre.counted_reading.full }; ending_bound = omega (arith, next.count) }
 
 pub returns-then-underflow-eq-UNDERFLOW_COMPLETES : goal.returns-then-underflow-eq-UNDERFLOW_COMPLETES
 unfolding underflows
@@ -23,7 +23,6 @@ returns-then-underflow-eq-UNDERFLOW_COMPLETES c =
     let room = c.requires.has_room in
     let next = c.push-next.ensures in
     let done = c.completes in record {
-      counted = done.ensures.counted;
       sized = next.size ∙ c.requires.counted_reading.full;
       rule = λ l.
           ended_does done.result a.t a.text.now _ l done.ensures.ended
@@ -37,7 +36,6 @@ unfolding underflows
 returns-then-underflow-eq-UNDERFLOW_RINGS c =
     let a = c.args in
     let belled = c.put.ensures in record {
-      counted = belled.counted;
       sized = c.requires.counted_reading.full;
       rule = λ l.
           second_does _ _ (ne_eqb _ 2 c.if-underflow-eq-UNDERFLOW_COMPLETES.false)
@@ -47,4 +45,4 @@ returns-then-underflow-eq-UNDERFLOW_RINGS c =
 pub returns : goal.returns
 unfolding underflows
 returns c =
-    let pre = c.requires in record { counted = pre.counted_flow; sized = pre.counted_reading.full; rule = λ l. second_does _ _ (ne_eqb _ 2 c.if-underflow-eq-UNDERFLOW_COMPLETES.false) (told_does _ (not_does _ (ne_eqb _ 1 c.if-underflow-eq-UNDERFLOW_RINGS.false) (still_does _ _ _))) }
+    let pre = c.requires in record { sized = pre.counted_reading.full; rule = λ l. second_does _ _ (ne_eqb _ 2 c.if-underflow-eq-UNDERFLOW_COMPLETES.false) (told_does _ (not_does _ (ne_eqb _ 1 c.if-underflow-eq-UNDERFLOW_RINGS.false) (still_does _ _ _))) }

@@ -5,8 +5,8 @@ use Rattle.line.proofs.Work.unlocks_if_discarding.Goals as goal
 
 pub returns-then-known : goal.returns-then-known
 unfolding unlocks unlocks_if_discarding
-returns-then-known c = let done = c.sets_locked.ensures in record { counted = done.counted; rule = λ l t m. here_only _ refl c.if-known.true (done.rule l t m) }
+returns-then-known c = let done = c.sets_locked.ensures in record { rule = λ l t m. here_only _ refl c.if-known.true (done.rule l t m) }
 
 pub returns : goal.returns
 unfolding unlocks_if_discarding
-returns c = record { counted = c.requires; rule = λ l t m. here_not _ t m refl c.if-known.false }
+returns c = record { rule = λ l t m. here_not _ t m refl c.if-known.false }

@@ -6,24 +6,22 @@ use Rattle.line.proofs.Work.unreads.Goals as goal
 
 pub returns-then-not-flow : goal.returns-then-not-flow
 returns-then-not-flow c =
-    let a = c.args in record { counted = c.requires.counted_flow; rule = λ l x. unreads_none (on (lent a.t a.text.now l) a.self) a.condition x _ (not-true a.self.flow.pending c.if-not-flow.true) }
+    let a = c.args in record { rule = λ l x. unreads_none (on (lent a.t a.text.now l) a.self) a.condition x _ (not-true a.self.flow.pending c.if-not-flow.true) }
 
 pub returns-then-condition-nothing : goal.returns-then-condition-nothing
 returns-then-condition-nothing c =
     let a = c.args in
     let done = c.completes.ensures in record {
-      counted = done.counted;
       rule = λ l x.
           let line = lent a.t a.text.now l in
           let pending = not-false a.self.flow.pending c.if-not-flow.false in
-          unreads_now (on line a.self) a.condition pending c.requires.counted_flow c.requires.text_len c.if-condition-nothing.true (done.rule line l x);
+          unreads_now (on line a.self) a.condition pending c.args.self.counted c.requires.text_len c.if-condition-nothing.true (done.rule line l x);
     }
 
 pub returns : goal.returns
 returns c =
     let a = c.args in record {
-      counted = c.requires.counted_flow;
       rule = λ l x.
           let pending = not-false a.self.flow.pending c.if-not-flow.false in
-          unreads_not (on (lent a.t a.text.now l) a.self) a.condition pending c.requires.counted_flow c.requires.text_len x _ c.if-condition-nothing.false;
+          unreads_not (on (lent a.t a.text.now l) a.self) a.condition pending c.args.self.counted c.requires.text_len x _ c.if-condition-nothing.false;
     }

@@ -20,16 +20,16 @@ returns-then-code-eq-NEW_LINES c =
     let a = c.args in
     let written = c.writes_own.ensures in
     let same = affix_lines a.code a.value (omega arith) c.if-code-eq-NEW_LINES.true in
-    record { counted = written.counted; rule = λ l m. for_equal writes_own same (written.rule l m) }
+    record { rule = λ l m. for_equal writes_own same (written.rule l m) }
 
 pub returns-then-code-eq-CHARACTER : goal.returns-then-code-eq-CHARACTER
 returns-then-code-eq-CHARACTER c =
     let a = c.args in
     let written = c.writes_own-then-code-eq-CHARACTER.ensures in
     let same = affix_character a.code a.value c.if-code-eq-NEW_LINES.false c.if-code-eq-CHARACTER.true in
-    record { counted = written.counted; rule = λ l m. for_equal writes_own same (written.rule l m) }
+    record { rule = λ l m. for_equal writes_own same (written.rule l m) }
 
 pub returns : goal.returns
 returns c =
     let a = c.args in
-    record { counted = c.requires; rule = λ l m. for_equal writes_own (affix_none a.code a.value c.if-code-eq-NEW_LINES.false c.if-code-eq-CHARACTER.false) (none_own_does _ _ m) }
+    record { rule = λ l m. for_equal writes_own (affix_none a.code a.value c.if-code-eq-NEW_LINES.false c.if-code-eq-CHARACTER.false) (none_own_does _ _ m) }

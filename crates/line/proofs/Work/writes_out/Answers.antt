@@ -6,18 +6,9 @@ use Rattle.line.proofs.Turns.{then_does}
 use Rattle.line.proofs.FlowChanges.{here_rule}
 use Rattle.line.proofs.Work.writes_out.Goals as goal
 
-pub writes_output-written-requires : goal.writes_output-written-requires
-writes_output-written-requires c = c.stops_discarding-kept.ensures.counted
-
-pub sends_completion-said-requires : goal.sends_completion-said-requires
-sends_completion-said-requires c = c.writes_output-written.ensures.counted
-
-pub sets_locked-locked-requires : goal.sets_locked-locked-requires
-sets_locked-locked-requires c = c.sends_completion-said.ensures.counted
-
 pub redisplays_if_asked-requires : goal.redisplays_if_asked-requires
 redisplays_if_asked-requires c =
-    record { counted_flow = c.sets_locked-locked.ensures.counted; text_len = c.requires.text_len; prompt_len_bound = c.requires.prompt_len_bound }
+    record { text_len = c.requires.text_len; prompt_len_bound = c.requires.prompt_len_bound }
 
 pub returns : goal.returns
 unfolding writes_out locks_by
@@ -30,7 +21,6 @@ returns c =
     let said = c.sends_completion-said.ensures.rule in
     let locked = c.sets_locked-locked.ensures.rule in
     let shown = c.redisplays_if_asked.ensures in record {
-      counted = shown.counted;
       rule = λ l.
           let line = lent a.t a.text.now l in
           here_rule refl

@@ -11,7 +11,7 @@ use Rattle.fields.proofs.Pieces.{all_behind}
 use Rattle.line.specs.View.{terminal_of}
 use Rattle.line.proofs.Turns.{then_does}
 use Rattle.line.proofs.FlowChanges.{here_rule, same_writes}
-use Rattle.line.proofs.ArrivalLaws.{terminal_counted, terminal_does}
+use Rattle.line.proofs.ArrivalLaws.{terminal_does}
 use Rattle.line.proofs.Work.writes_own.Goals as goal
 
 pub slice_bounds-write-count : goal.slice_bounds-write-count
@@ -33,7 +33,6 @@ returns c =
     let all : length own ≤ first.result + (length own - first.result) = omega arith in
     let left = all_behind own first.result (length own - first.result) all ∙ first.ensures.left in
     let known = terminal_of written.result.flow.terminal in record {
-      counted = terminal_counted written.result _ next written.ensures.counted;
       rule = λ l m.
           then_does (here_rule refl (same_writes left (written.ensures.rule l m)))
           (terminal_does written.result _ next (λ x. with_skip_linefeed (is_empty own && x.skip_linefeed) x)
