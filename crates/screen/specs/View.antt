@@ -11,7 +11,7 @@ use Rattle.screen.specs.declared.display.Display.{Display}
 abbrev pub screen_view : Screen → rules.Screen
 screen_view s = record { column = s.column; line = s.line; after_cr = s.after_cr }
 
-unfoldable pub echoed : Echo → List ℕ
+abbrev pub echoed : Echo → List ℕ
 echoed (Mark b) = b ∷ []
 echoed (Spaces count) = replicate count SP
 echoed (Control b) = CARET ∷ b ∷ []
