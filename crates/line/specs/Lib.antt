@@ -5,6 +5,7 @@ pub mod Promise
 pub mod TokenChanges
 pub mod KeyArray
 pub mod ReadChanges
+pub mod Completions
 pub mod StartRead
 pub mod Host
 pub mod Acts

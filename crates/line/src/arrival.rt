@@ -12,8 +12,8 @@ ghost use Rattle.line.specs.Promise.{on, Does, DoesOn};
 ghost use Rattle.line.specs.Acts.{event_kinds_of, Meets};
 
 use crate::acts::Act;
-use crate::read_data::NO_ENDING;
-use crate::{Flow, Reading, Terms, Work, read_data};
+use crate::read_data::{Completion, NO_ENDING};
+use crate::{Flow, Reading, Terms, Work};
 use message::Message;
 use rules::{characters, out_of_band};
 
@@ -250,7 +250,7 @@ impl Work {
             messages.new }
     {
         if pending {
-            return self.completes(messages, read_data::BY_OUT_OF_BAND, NO_ENDING, r, text, t);
+            return self.completes(messages, Completion::OutOfBand, NO_ENDING, r, text, t);
         }
         self
     }

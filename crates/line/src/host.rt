@@ -11,8 +11,8 @@ ghost use Rattle.line.specs.Host.{StartableMessage, Prompts, flow_rule};
 ghost use Rattle.line.specs.Promise.{on, Does, DoesOn};
 
 use crate::events::HostMessage;
-use crate::read_data::NO_ENDING;
-use crate::{Terms, Work, read_data};
+use crate::read_data::{Completion, NO_ENDING};
+use crate::{Terms, Work};
 use message::Message;
 
 // Unread's condition.
@@ -49,7 +49,7 @@ impl Work {
         let r = flow.reading;
         let nothing = (typed.keys_len == 0) & (typed.token_len == 0) & (r.input_len == 0);
         if (condition == ALWAYS) | nothing {
-            return self.completes(messages, read_data::BY_UNREAD, NO_ENDING, r, text, t);
+            return self.completes(messages, Completion::Unread, NO_ENDING, r, text, t);
         }
         self
     }

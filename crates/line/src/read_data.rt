@@ -9,30 +9,34 @@ ghost use Rattle.line.specs.declared.Line.{Line};
 ghost use Rattle.line.specs.View.{view, reading_of};
 ghost use Rattle.line.specs.Bounded.{CountedFlow, CountedReading};
 ghost use Rattle.line.specs.With.{lent, on_flow};
+ghost use Rattle.line.specs.Completions.{code_of};
 ghost use Rattle.line.specs.Promise.{on, Does};
 
 use crate::{Reading, Terms, Work};
 use fields::Span;
 use message::{Message, ReadDataFields};
 
-// Completion codes (000, 4.16.4).
-pub(crate) const BY_TERMINATOR: u8 = 0;
+// What completes a read, by its code (000, 4.16.4).
+#[derive(Clone, Copy, Debug, PartialEq, Eq)]
+pub(crate) enum Completion {
+    Terminator = 0,
+    ValidToken = 1,
+    InvalidToken = 2,
+    OutOfBand = 3,
+    FullBuffer = 4,
+    Timeout = 5,
+    Unread = 6,
+    Underflow = 7,
+    Absentee = 8,
+}
 
-pub(crate) const BY_VALID_TOKEN: u8 = 1;
-
-pub(crate) const BY_INVALID_TOKEN: u8 = 2;
-
-pub(crate) const BY_OUT_OF_BAND: u8 = 3;
-
-pub(crate) const BY_FULL_BUFFER: u8 = 4;
-
-pub(crate) const BY_TIMEOUT: u8 = 5;
-
-pub(crate) const BY_UNREAD: u8 = 6;
-
-pub(crate) const BY_UNDERFLOW: u8 = 7;
-
-pub(crate) const BY_ABSENTEE: u8 = 8;
+impl Completion {
+    fn code(self) -> u8
+        ensures { result ≡ code_of self }
+    {
+        self as u8
+    }
+}
 
 // How many characters at the end of a read are a terminator or an underflow code; a token's are as many as it has.
 pub(crate) const NO_ENDING: u16 = 0;
@@ -56,11 +60,11 @@ impl Work {
     }
 
     // The Read Data of a read; its data stands in front of the text.
-    fn read_data_of(self, code: u8, ending: u16, r: Reading, t: Terms) -> Message
+    fn read_data_of(self, by: Completion, ending: u16, r: Reading, t: Terms) -> Message
         requires counted_flow { CountedFlow self.flow }
         requires ending_bound { ending ≤ r.input_len }
         ensures { (text : List ℕ) (k l : Line) → CountedReading r text →
-            (held_in text result ≡ codec.message (rules.read_data_of codes code ending (reading_of (lent t text l) r) (view (on_flow self.flow k)))) ×
+            (held_in text result ≡ codec.message (rules.read_data_of codes (code_of by) ending (reading_of (lent t text l) r) (view (on_flow self.flow k)))) ×
             (inside (length text) (spans_of result) ≡ true) }
     {
         let flow = self.flow;
@@ -75,7 +79,7 @@ impl Work {
             len: r.input_len,
         };
         Message::ReadData(ReadDataFields {
-            code,
+            code: by.code(),
             more,
             low_water: r.low_water,
             vertical,
@@ -89,7 +93,7 @@ impl Work {
     fn sends_read_data(
         self,
         messages: &mut [u8],
-        code: u8,
+        by: Completion,
         ending: u16,
         r: Reading,
         text: &[u8],
@@ -100,18 +104,18 @@ impl Work {
         requires ending_bound { ending ≤ r.input_len }
         ensures counted { CountedFlow result.flow }
         ensures rule { (k l : Line) (a : List ℕ) →
-            Does (rules.sends_read_data codes code ending (reading_of (lent t text.now l) r)) (on k self) a messages.old (on k result) a
+            Does (rules.sends_read_data codes (code_of by) ending (reading_of (lent t text.now l) r)) (on k self) a messages.old (on k result) a
             messages.new }
     {
-        let message = self.read_data_of(code, ending, r, t);
+        let message = self.read_data_of(by, ending, r, t);
         self.send(messages, message, text)
     }
 
-    // The read completes with this code; so many characters at the end are a terminator, token or underflow code.
+    // The read completes; so many characters at the end are a terminator, token or underflow code.
     pub(crate) fn completes(
         self,
         messages: &mut [u8],
-        code: u8,
+        by: Completion,
         ending: u16,
         r: Reading,
         text: &[u8],
@@ -122,12 +126,12 @@ impl Work {
         requires ending_bound { ending ≤ r.input_len }
         ensures counted { CountedFlow result.flow }
         ensures rule { (k l : Line) (a : List ℕ) →
-            Does (rules.completes codes code ending (reading_of (lent t text.now l) r)) (on k self) a messages.old (on k result) a
+            Does (rules.completes codes (code_of by) ending (reading_of (lent t text.now l) r)) (on k self) a messages.old (on k result) a
             messages.new }
         ensures ended { result.flow.pending ≡ false }
     {
         let ready = self.loses_partial();
-        let answered = ready.sends_read_data(messages, code, ending, r, text, t);
+        let answered = ready.sends_read_data(messages, by, ending, r, text, t);
         answered.without_read()
     }
 }

@@ -20,8 +20,8 @@ ghost use Rattle.line.specs.View.{reading_of};
 ghost use Rattle.line.specs.With.{lent};
 ghost use Rattle.line.specs.Promise.{on, Does, DoesOn};
 
-use crate::read_data::NO_ENDING;
-use crate::{Line, Reading, Terms, Work, read_data};
+use crate::read_data::{Completion, NO_ENDING};
+use crate::{Line, Reading, Terms, Work};
 use characteristics::Switches;
 use message::StartReadFields;
 use rules::characters;
@@ -242,7 +242,7 @@ impl Work {
             messages.new }
     {
         if full {
-            return self.completes(messages, read_data::BY_FULL_BUFFER, NO_ENDING, r, text, t);
+            return self.completes(messages, Completion::FullBuffer, NO_ENDING, r, text, t);
         }
         self
     }

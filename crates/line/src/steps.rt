@@ -10,8 +10,8 @@ ghost use Rattle.line.specs.With.{lent};
 ghost use Rattle.line.specs.ReadChanges.{HasRoom};
 ghost use Rattle.line.specs.Promise.{on, Does, DoesAcross};
 
-use crate::read_data::{NO_ENDING, ONE_ENDING};
-use crate::{Reading, Terms, Work, read_data};
+use crate::read_data::{Completion, NO_ENDING, ONE_ENDING};
+use crate::{Reading, Terms, Work};
 use rules::characters;
 
 // Codes that edit, by step rule 6.
@@ -51,10 +51,10 @@ impl Work {
         let token = typed.token;
         let size = typed.token_len as usize;
         let next = r.push_all(text, &token[..size]);
-        let code = typed.token_code();
+        let by = typed.token_completion();
         let without = typed.without_token();
         let ready = self.with_typed(without);
-        ready.completes(messages, code, size as u16, next, text, t)
+        ready.completes(messages, by, size as u16, next, text, t)
     }
 
     // A whole token: one that does not fit stays held.
@@ -79,7 +79,7 @@ impl Work {
         if r.end(t) + typed.token_len as u32 <= t.max_length as u32 {
             return self.ends_by_token(messages, r, text, t);
         }
-        self.completes(messages, read_data::BY_ABSENTEE, NO_ENDING, r, text, t)
+        self.completes(messages, Completion::Absentee, NO_ENDING, r, text, t)
     }
 
     // Rules 1 and 3.
@@ -155,14 +155,7 @@ impl Work {
         let ready = self.with_read(next);
         let shown = ready.echoes_if(terminal, t.echoes, c);
         if r.end(t) + 1 == t.max_length as u32 {
-            return shown.completes(
-                messages,
-                read_data::BY_FULL_BUFFER,
-                NO_ENDING,
-                next,
-                text,
-                t,
-            );
+            return shown.completes(messages, Completion::FullBuffer, NO_ENDING, next, text, t);
         }
         shown
     }
@@ -188,14 +181,7 @@ impl Work {
     {
         let next = r.push(text, c);
         let shown = self.echoes_terminator_if(terminal, t.terminator_echo & t.echoes, c);
-        shown.completes(
-            messages,
-            read_data::BY_TERMINATOR,
-            ONE_ENDING,
-            next,
-            text,
-            t,
-        )
+        shown.completes(messages, Completion::Terminator, ONE_ENDING, next, text, t)
     }
 
     // 127 or 23 with nothing to delete.
@@ -220,7 +206,7 @@ impl Work {
         let underflow = t.underflow;
         if underflow == UNDERFLOW_COMPLETES {
             let next = r.push(text, c);
-            return self.completes(messages, read_data::BY_UNDERFLOW, ONE_ENDING, next, text, t);
+            return self.completes(messages, Completion::Underflow, ONE_ENDING, next, text, t);
         }
         if underflow == UNDERFLOW_RINGS {
             return self.put(terminal, characters::BEL);

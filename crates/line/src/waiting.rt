@@ -7,10 +7,12 @@ ghost use Rattle.rules.specs.Token as rules;
 ghost use Rattle.rules.specs.Steps.{token_code};
 ghost use Rattle.line.specs.View.{keys_of, token_of};
 ghost use Rattle.line.specs.Bounded.{CountedTyped};
+ghost use Rattle.line.specs.Completions.{code_of};
 ghost use Rattle.line.specs.TokenChanges.{codes_of, untokened, tokened, emptied};
 
 use crate::tokens::{is_valid, is_whole};
-use crate::{Typed, read_data};
+use crate::Typed;
+use crate::read_data::Completion;
 
 impl Typed {
     // A whole token is held.
@@ -29,15 +31,15 @@ impl Typed {
         (self.token_len != 0) & !self.is_held()
     }
 
-    // The completion code that its token gives a read.
-    pub(crate) fn token_code(self) -> u8
+    // How its token completes a read.
+    pub(crate) fn token_completion(self) -> Completion
         requires { CountedTyped self }
-        ensures { result ≡ token_code codes (token_of self) }
+        ensures { code_of result ≡ token_code codes (token_of self) }
     {
         if is_valid(&self.token[..self.token_len as usize]) {
-            return read_data::BY_VALID_TOKEN;
+            return Completion::ValidToken;
         }
-        read_data::BY_INVALID_TOKEN
+        Completion::InvalidToken
     }
 
     // Type-ahead or a held token remains.

@@ -17,8 +17,8 @@ push_all-next-requires c =
     let long = token-length c.args.self.flow.typed c.requires.counted_flow.typed in
     record { counted_reading = c.requires.counted_reading; cs_bound = omega (arith, c.requires.prompt_len_bound) }
 
-pub token_code-code-requires : goal.token_code-code-requires
-token_code-code-requires c = c.requires.counted_flow.typed
+pub token_completion-by-requires : goal.token_completion-by-requires
+token_completion-by-requires c = c.requires.counted_flow.typed
 
 pub overflow_cast-size-2 : goal.overflow_cast-size-2
 overflow_cast-size-2 c = omega (arith, c.requires.counted_flow.typed.token_length, waiting_byte)
@@ -45,6 +45,6 @@ returns c =
           ended_does done.result a.t a.text.now _ l done.ensures.ended
           (here_rule refl
           (then_does (cleared_does a.self c.with_typed-ready.ensures c.without_token-without.ensures line x _)
-          (completes_as c.token_code-code.ensures (sym (token_counted typed c.requires.counted_flow.typed))
+          (completes_as c.token_completion-by.ensures (sym (token_counted typed c.requires.counted_flow.typed))
           (next.same a.t l (omega (arith, c.requires.prompt_len_bound))) (done.ensures.rule line l x))));
     }
