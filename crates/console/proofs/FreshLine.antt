@@ -13,6 +13,7 @@ use Rattle.rules.specs.Bounds as bounds
 use Rattle.rules.proofs.Bounds.Calls.{fresh_bounded}
 use Rattle.sets.specs.declared.Set.{Set}
 use Rattle.sets.specs.View.{set_of, CountedSet}
+use Rattle.line.specs.declared.Key.{Key}
 use Rattle.line.specs.declared.Terms.{Terms}
 use Rattle.line.specs.declared.Flow.{Flow}
 use Rattle.line.specs.declared.Line.{Line}
@@ -20,7 +21,7 @@ use Rattle.line.specs.View.{keys_of, token_of, reading_of, pending_of, view}
 use Rattle.line.specs.Bounded.{IsFresh}
 use Rattle.console.specs.FreshFlow.{IsFreshFlow}
 
-module _ (keys text : List ℕ) (set : Set) (terms : Terms) (flow : Flow) where
+module _ (keys : List Key) (text : List ℕ) (set : Set) (terms : Terms) (flow : Flow) where
   abbrev line_of : Line
   line_of =
       record {

@@ -7,7 +7,7 @@ ghost use Rattle.line.specs.Bounded.{IsFresh};
 ghost use Rattle.console.specs.FreshFlow.{IsFreshFlow};
 
 use characteristics::Switches;
-use line::{Flow, Line, Reading, Terminal, Terms, Typed};
+use line::{Flow, Key, Line, Reading, Terminal, Terms, Typed};
 use screen::Screen;
 use sets::Set;
 
@@ -86,9 +86,13 @@ pub fn fresh() -> Line
     let set = Set::universal();
     let terms = no_terms();
     let flow = fresh_flow();
+    let no_key = Key {
+        code: 0,
+        quoted: false,
+    };
     Line {
         attributes: [0u8; rules::CODE_COUNT],
-        keys: [0u16; rules::TYPE_AHEAD_SIZE],
+        keys: [no_key; rules::TYPE_AHEAD_SIZE],
         text: [0u8; rules::INPUT_SIZE],
         set,
         last_set: set,

@@ -24,6 +24,7 @@ use Rattle.rules.specs.Bounds.{is_byte_event}
 use Rattle.rules.proofs.Bounds.Calls.{arrives_bounded}
 use Rattle.rules.proofs.Choice.{row_applies}
 use Rattle.rules.proofs.Outcomes.{refused-sound}
+use Rattle.line.specs.declared.Key.{Key}
 use Rattle.line.specs.declared.Line.{Line}
 use Rattle.line.specs.declared.Terms.{Terms}
 use Rattle.line.specs.declared.Work.{Work}
@@ -187,10 +188,10 @@ module _ {rule : Rule ℕ} (l : Line) (at sent : ℕ) (c : Counted l) {roomy : B
   pub act_doable : Doable [] l.flow l.terms a
   act_doable = asks roomy refl
 
-  module _ {t m : List ℕ} (r : Work) (keys' text' t' m' : List ℕ) (k : keys' ≡ keys_after a l.flow.typed.keys_len l.keys)
+  module _ {t m : List ℕ} (r : Work) (keys' : List Key) (text' t' m' : List ℕ) (k : keys' ≡ keys_after a l.flow.typed.keys_len l.keys)
       (full : length text' ≡ input_size) {f : CountedFlow l.flow} (d : Done [] a l.terms l (work_on l f at sent) l.text t m r text' t' m')
       (same : a ≡ Nothing → (r ≡ work_on l f at sent) × (text' ≡ l.text)) where
-    abbrev after : List ℕ → List ℕ → Work → Progress
+    abbrev after : List Key → List ℕ → Work → Progress
     after keys text w = on (lent l.terms text (on_keys keys l)) w
 
     undone : a ≡ Nothing → (after keys' text' r ≡ under_way l at sent) × ((t' ≡ t) × (m' ≡ m))
@@ -243,7 +244,7 @@ module _ (e : rules.Event ℕ) (l : Line) (b : Bounded l) (t m : List ℕ) (rule
 -- A keystroke: the act of its arrival, and behind it the act of its step, which is chosen at the line that arrival left.
 module _ (code : ℕ) (byte : code < byte_values) (l : Line) (b : Bounded l) (t m : List ℕ) {roomy : Bool} {arrival : Act}
     (meets : roomy ≡ true → Meets (arrives codes code) [] l arrival) (none : roomy ≡ false → arrival ≡ Nothing)
-    (w : Work) (keys₁ t₁ m₁ : List ℕ) (k : keys₁ ≡ keys_after arrival l.flow.typed.keys_len l.keys)
+    (w : Work) (keys₁ : List Key) (t₁ m₁ : List ℕ) (k : keys₁ ≡ keys_after arrival l.flow.typed.keys_len l.keys)
     {f : CountedFlow l.flow} (d : Done [] arrival l.terms l (work_on l f 0 0) l.text t m w l.text t₁ m₁) (same : arrival ≡ Nothing → w ≡ work_on l f 0 0) where
   abbrev left : Line
   left = on_flow w.flow (on_keys keys₁ l)
@@ -259,7 +260,7 @@ module _ (code : ℕ) (byte : code < byte_values) (l : Line) (b : Bounded l) (t 
     pub keystroke_doable : Doable [] w.flow l.terms act
     keystroke_doable = act_doable left w.at w.sent arrived.counted (λ y. meets₂ y (left_bounded y)) none₂
 
-    pub keystroke_answers : (size : roomy ≡ are_roomy (length t) (length m)) (r : Work) (keys₂ text₂ t₂ m₂ : List ℕ) →
+    pub keystroke_answers : (size : roomy ≡ are_roomy (length t) (length m)) (r : Work) (keys₂ : List Key) (text₂ t₂ m₂ : List ℕ) →
         keys₂ ≡ keys_after act w.flow.typed.keys_len keys₁ → length text₂ ≡ input_size →
         Done [] act l.terms left w l.text t₁ m₁ r text₂ t₂ m₂ → (act ≡ Nothing → (r ≡ w) × (text₂ ≡ l.text)) → {n : ℕ} → n ≡ row_of roomy →
         Answers (rules.key code) l t m

@@ -5,7 +5,7 @@ use native.Mathlib.Omega.{arith}
 use lib.Dec.{eqb}
 use lib.ListN.{length, set}
 use lib.Seq.{set_out}
-use borrow.Author.Tests.{eq-eqb, ne_eqb, le-leb, lt-leb}
+use borrow.Author.Tests.{eq-eqb, ne_eqb}
 use Rattle.rules.specs.Numbers.{type_ahead_size, top_dropped}
 use mathlib.Core.Bool.{Bool, true, false, ◌&&◌}
 use mathlib.Core.List.{List, []}
@@ -14,6 +14,7 @@ use Rattle.rules.specs.State as state
 use Rattle.rules.specs.State.{with_typed, with_terminal, with_dropped}
 use Rattle.rules.specs.Arrival as rules
 use Rattle.rules.specs.Turns.{Rule, changes}
+use Rattle.line.specs.declared.Key.{Key}
 use Rattle.line.specs.declared.Terminal.{Terminal}
 use Rattle.line.specs.declared.Flow.{Flow}
 use Rattle.line.specs.declared.Line.{Line}
@@ -56,7 +57,7 @@ module _ (w : Work) (c : CountedFlow w.flow) (room : w.flow.typed.keys_len < typ
         within = c.within;
       }
 
-  pub keeps_does : (k : ℕ) (l : Line) → length l.keys ≡ type_ahead_size → (t m : List ℕ) →
+  pub keeps_does : (k : Key) (l : Line) → length l.keys ≡ type_ahead_size → (t m : List ℕ) →
       Does (rules.keeps (key_of k).quoted (key_of k).char) (on l w) t m (record { line = on_flow (kept w.flow) (stored k w.flow l); at = w.at; sent = w.sent }) t m
   unfolding rules.keeps token_of
   keeps_does k l size t m =
@@ -127,26 +128,14 @@ module _ {a b : ℕ} (k : ℕ) (e : a ≡ b) where
   pub band_not : (a % 4 ≡ k → ⊥) → eqb (b % 4) k ≡ false
   band_not h = ne_eqb (b % 4) k (rw (← e) h)
 
--- A key stored plain, and one stored quoted.
-module _ (c : ℕ) (small : c < 256) (F : Bool → ℕ → Rule ℕ) {w v : Progress} {t t' m m' : List ℕ} where
-  pub plain_key : Does (F (key_of c).quoted (key_of c).char) w t m v t' m' → Does (F false c) w t m v t' m'
-  plain_key h =
-      let char : c % 256 ≡ c = omega arith in
-      for_equal (λ n. F false n) char (for_equal (λ q. F q (c % 256)) (lt-leb 256 c small) h)
-
-  pub quoted_key : Does (F (key_of (c + 256)).quoted (key_of (c + 256)).char) w t m v t' m' → Does (F true c) w t m v t' m'
-  quoted_key h =
-      let char : (c + 256) % 256 ≡ c = omega arith in
-      for_equal (λ n. F true n) char (for_equal (λ q. F q ((c + 256) % 256)) (le-leb 256 (c + 256) (omega arith)) h)
-
 -- no room in the array: the key that is dropped changes nothing there
-pub dropped_key : {p : Rule ℕ} {w : Progress} (f : Flow) (v : Work) {t t' m m' : List ℕ} (k : ℕ) (l : Line) → length l.keys ≤ f.typed.keys_len →
+pub dropped_key : {p : Rule ℕ} {w : Progress} (f : Flow) (v : Work) {t t' m m' : List ℕ} (k : Key) (l : Line) → length l.keys ≤ f.typed.keys_len →
     Does p w t m (on l v) t' m' → Does p w t m (on (stored k f l) v) t' m'
 dropped_key {p} {w} f v {t} {t'} {m} {m'} k l out d =
     subst (λ keys. Does p w t m (on (on_keys keys l) v) t' m') (sym (set_out l.keys f.typed.keys_len k out)) d
 
 -- as many waited
-pub waited_key : {p : Rule ℕ} {w : Progress} {t t' m m' : List ℕ} (v : Work) (f g : Flow) (k : ℕ) (l : Line) → f.typed.keys_len ≡ g.typed.keys_len →
+pub waited_key : {p : Rule ℕ} {w : Progress} {t t' m m' : List ℕ} (v : Work) (f g : Flow) (k : Key) (l : Line) → f.typed.keys_len ≡ g.typed.keys_len →
     Does p w t m (on (stored k f l) v) t' m' → Does p w t m (on (stored k g l) v) t' m'
 waited_key {p} {w} {t} {t'} {m} {m'} v f g k l e d =
     subst (λ n. Does p w t m (on (on_keys (set l.keys n k) l) v) t' m') e d

@@ -7,6 +7,7 @@ use mathlib.Core.List.{List}
 use lib.Dec.{eqb}
 use Rattle.rules.specs.Choice.{is_empty}
 use Rattle.rules.specs.ReadData.{waiting_count}
+use Rattle.line.specs.declared.Key.{Key}
 use Rattle.line.specs.declared.Typed.{Typed}
 use Rattle.line.specs.declared.Flow.{Flow}
 use Rattle.line.specs.View.{keys_of, token_of, typed_of, input_of}
@@ -15,12 +16,12 @@ use Rattle.line.proofs.KeyArrays.{keys_length, keys_empty}
 use Rattle.line.proofs.TokenBytes.{empty_take, token_counted}
 use Rattle.line.proofs.InputAppended.{input_empty}
 
-pub waiting_count_lem : (keys : List ℕ) (t : Typed) → CountedTyped t → t.keys_len + t.token_len ≡ waiting_count (typed_of keys t)
+pub waiting_count_lem : (keys : List Key) (t : Typed) → CountedTyped t → t.keys_len + t.token_len ≡ waiting_count (typed_of keys t)
 unfolding waiting_count
 waiting_count_lem keys t c = sym (ap₂ ◌+◌ (keys_length t.keys_len keys) (token_counted t c))
 
 -- nothing typed, and nothing in the read
-pub nothing_typed : (keys text : List ℕ) (f : Flow) → CountedFlow f → CountedReading f.reading text →
+pub nothing_typed : (keys : List Key) (text : List ℕ) (f : Flow) → CountedFlow f → CountedReading f.reading text →
     eqb f.typed.keys_len 0 && eqb f.typed.token_len 0 && eqb f.reading.input_len 0
     ≡ is_empty (keys_of f.typed.keys_len keys) && is_empty (token_of f.typed) && is_empty (input_of f.reading.input_len text)
 unfolding token_of

@@ -15,66 +15,67 @@ use Rattle.rules.specs.Choice.{is_empty}
 use Rattle.line.specs.declared.acts.Act.{Act}
 use Rattle.line.specs.declared.acts.Act.TheVariants.{Nothing, Stores, StoresQuoted, SendsOutOfBand, ClearsAtOnce, Quotes, Clears, FlipsDiscard}
 use Rattle.line.specs.declared.acts.Act.TheVariants.{TakesToken, Takes, TimesOut, Idles, Obeys}
-use Rattle.line.specs.View.{key_of, keys_of}
+use Rattle.line.specs.declared.Key.{Key}
+use Rattle.line.specs.View.{plain_key, quoted_key, no_key, key_of, keys_of}
 use Rattle.line.specs.KeyArray.{shift, keys_after}
 use Rattle.line.specs.contracts.acts.Act.{the_type}
 
-pub keys_length : (n : ℕ) (keys : List ℕ) → length (keys_of n keys) ≡ n
+pub keys_length : (n : ℕ) (keys : List Key) → length (keys_of n keys) ≡ n
 unfolding keys_of
 keys_length zero keys = refl
 keys_length (suc n) [] = ap suc (keys_length n [])
 keys_length (suc n) (k ∷ keys) = ap suc (keys_length n keys)
 
-pub keys_empty : (n : ℕ) (keys : List ℕ) → is_empty (keys_of n keys) ≡ eqb n 0
+pub keys_empty : (n : ℕ) (keys : List Key) → is_empty (keys_of n keys) ≡ eqb n 0
 unfolding keys_of is_empty
 keys_empty zero keys = refl
 keys_empty (suc n) [] = sym (ne_eqb (suc n) 0 (λ e. omega arith))
 keys_empty (suc n) (k ∷ keys) = sym (ne_eqb (suc n) 0 (λ e. omega arith))
 
 -- one key more
-stored : (n k : ℕ) (keys : List ℕ) → n < length keys → keys_of (suc n) (set keys n k) ≡ keys_of n keys ++ key_of k ∷ []
+stored : (n : ℕ) (k : Key) (keys : List Key) → n < length keys → keys_of (suc n) (set keys n k) ≡ keys_of n keys ++ key_of k ∷ []
 unfolding keys_of
 stored n k [] h = absurd (omega arith)
 stored zero k (x ∷ keys) h = refl
 stored (suc n) k (x ∷ keys) h = ap (λ ks. key_of x ∷ ks) (stored n k keys (omega arith))
 
-pub stored_keys : (n k : ℕ) (keys : List ℕ) → n < length keys → keys_of (n + 1) (set keys n k) ≡ keys_of n keys ++ key_of k ∷ []
+pub stored_keys : (n : ℕ) (k : Key) (keys : List Key) → n < length keys → keys_of (n + 1) (set keys n k) ≡ keys_of n keys ++ key_of k ∷ []
 stored_keys n k keys h = ap (λ i. keys_of i (set keys n k)) (add-one n) ∙ stored n k keys h
 
 -- the first key, and those behind it
-pub first_key : (n : ℕ) (keys : List ℕ) → 0 < n → keys_of n keys ≡ key_of (get_or keys 0 0) ∷ drop 1 (keys_of n keys)
+pub first_key : (n : ℕ) (keys : List Key) → 0 < n → keys_of n keys ≡ key_of (get_or keys 0 no_key) ∷ drop 1 (keys_of n keys)
 unfolding keys_of
 first_key zero keys h = absurd (omega arith)
 first_key (suc n) [] h = refl
 first_key (suc n) (k ∷ keys) h = refl
 
-shifted : (n : ℕ) (keys : List ℕ) → suc n ≤ length keys → keys_of n (shift n keys) ≡ drop 1 (keys_of (suc n) keys)
+shifted : (n : ℕ) (keys : List Key) → suc n ≤ length keys → keys_of n (shift n keys) ≡ drop 1 (keys_of (suc n) keys)
 unfolding keys_of shift
 shifted n [] h = absurd (omega arith)
 shifted zero (k ∷ keys) h = refl
 shifted (suc n) (k ∷ []) h = absurd (omega arith)
 shifted (suc n) (k ∷ next ∷ keys) h = ap (λ ks. key_of next ∷ ks) (shifted n (next ∷ keys) (omega arith))
 
-pub first_gone : (n : ℕ) (keys : List ℕ) → 0 < n → n ≤ length keys → keys_of (n - 1) (shift (n - 1) keys) ≡ drop 1 (keys_of n keys)
+pub first_gone : (n : ℕ) (keys : List Key) → 0 < n → n ≤ length keys → keys_of (n - 1) (shift (n - 1) keys) ≡ drop 1 (keys_of n keys)
 first_gone zero keys h k = absurd (omega arith)
 first_gone (suc n) keys h k =
     let e : suc n - 1 ≡ n = omega arith in ap (λ i. keys_of i (shift i keys)) e ∙ shifted n keys k
 
 -- all keys but the first, copied a place further down
-moved : (n : ℕ) (keys : List ℕ) → n < length keys → shift n keys ≡ take n (drop 1 keys) ++ drop n keys
+moved : (n : ℕ) (keys : List Key) → n < length keys → shift n keys ≡ take n (drop 1 keys) ++ drop n keys
 unfolding shift
 moved zero keys h = refl
 moved (suc n) [] h = absurd (omega arith)
 moved (suc n) (k ∷ []) h = absurd (omega arith)
 moved (suc n) (k ∷ next ∷ keys) h = ap (λ l. next ∷ l) (moved n (next ∷ keys) (omega arith))
 
-pub shift_moves : (waiting : ℕ) (keys : List ℕ) → 0 < waiting → waiting ≤ length keys → copy_within keys 1 waiting 0 ≡ shift (waiting - 1) keys
+pub shift_moves : (waiting : ℕ) (keys : List Key) → 0 < waiting → waiting ≤ length keys → copy_within keys 1 waiting 0 ≡ shift (waiting - 1) keys
 shift_moves waiting keys h k =
     let n = waiting - 1 in
     let front : 0 + n ≡ n = omega arith in
     ap (λ i. take n (drop 1 keys) ++ drop i keys) front ∙ sym (moved n keys (omega arith))
 
-shift-length : (n : ℕ) (keys : List ℕ) → length (shift n keys) ≡ length keys
+shift-length : (n : ℕ) (keys : List Key) → length (shift n keys) ≡ length keys
 unfolding shift
 shift-length zero keys = refl
 shift-length (suc n) [] = refl
@@ -82,7 +83,7 @@ shift-length (suc n) (k ∷ []) = refl
 shift-length (suc n) (k ∷ next ∷ keys) = ap suc (shift-length n (next ∷ keys))
 
 -- The test for room.
-module _ (n size : ℕ) (keys : List ℕ) where
+module _ (n size : ℕ) (keys : List Key) where
   pub has_room : n < size → ltb (length (keys_of n keys)) size ≡ true
   has_room h = lt-ltb (length (keys_of n keys)) size (omega (arith, keys_length n keys))
 
@@ -90,10 +91,10 @@ module _ (n size : ℕ) (keys : List ℕ) where
   no_room h = le-ltb (length (keys_of n keys)) size (omega (arith, keys_length n keys))
 
 -- an act leaves as many places as there were
-pub after_length : (a : Act) (n : ℕ) (keys : List ℕ) → length (keys_after a n keys) ≡ length keys
+pub after_length : (a : Act) (n : ℕ) (keys : List Key) → length (keys_after a n keys) ≡ length keys
 after_length Nothing n keys = refl
-after_length (Stores c) n keys = length-set keys n c
-after_length (StoresQuoted c) n keys = length-set keys n (c + 256)
+after_length (Stores c) n keys = length-set keys n (plain_key c)
+after_length (StoresQuoted c) n keys = length-set keys n (quoted_key c)
 after_length (SendsOutOfBand c) n keys = refl
 after_length (ClearsAtOnce c) n keys = refl
 after_length Quotes n keys = refl
@@ -109,7 +110,7 @@ after_length (Obeys m) n keys = refl
 abbrev others : List ℕ
 others = 0 ∷ 3 ∷ 4 ∷ 5 ∷ 6 ∷ 7 ∷ 8 ∷ 10 ∷ 11 ∷ 12 ∷ []
 
-pub others_keep : (a : Act) (n : ℕ) (keys : List ℕ) → OneOf others (tag_of the_type a) → keys ≡ keys_after a n keys
+pub others_keep : (a : Act) (n : ℕ) (keys : List Key) → OneOf others (tag_of the_type a) → keys ≡ keys_after a n keys
 others_keep Nothing n keys h = refl
 others_keep (SendsOutOfBand c) n keys h = refl
 others_keep (ClearsAtOnce c) n keys h = refl

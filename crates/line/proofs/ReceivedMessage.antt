@@ -29,7 +29,7 @@ use Rattle.line.specs.Answers.{ruled}
 use Rattle.line.specs.Refusals.{first_row, early_row, last_row, late_row}
 use Rattle.line.specs.Host.{message_of, host_message_of, Accepted}
 use Rattle.line.specs.declared.events.HostMessage.{HostMessage}
-use Rattle.std.proofs.Common.{Some, None}
+use Rattle.std.proofs.Common.{None}
 
 pub is_pending_lem : (pending : Bool) (r : Reading ℕ) → pending ≡ is_pending (pending_of pending r)
 unfolding is_pending

@@ -1,9 +1,8 @@
 -- The table of refusals, a row at a time.
-use mathlib.Core.Path.{◌≡◌, refl, sym, ◌∙◌}
+use mathlib.Core.Path.{◌≡◌, refl, sym}
 use Prim.Native.Nat.{ℕ}
-use native.Mathlib.Omega.{arith}
 use mathlib.Core.Bool.{Bool, true, false, not}
-use mathlib.Core.List.{List, [], ◌∷◌}
+use mathlib.Core.List.{List, ◌∷◌}
 use Rattle.rules.specs.Choice.{Row, pick, ◌when◌, first_row_answer}
 use Rattle.rules.specs.Numbers.{accepted}
 use Rattle.line.specs.Refusals.{row}

@@ -3,18 +3,18 @@ use mathlib.Core.Path.{◌≡◌, refl, sym, ap, ap₂, ◌∙◌}
 use Prim.Native.Nat.{ℕ, zero, suc, ◌≤◌, ◌<◌}
 use native.Mathlib.Numerals.{add-one}
 use native.Mathlib.Omega.{arith}
-use mathlib.Core.Bool.{Bool, true, false, not, ◌&&◌, ◌||◌}
+use mathlib.Core.Bool.{Bool, false, not, ◌&&◌, ◌||◌}
 use mathlib.Core.List.{List, [], ◌∷◌, ◌++◌, map-id}
 use lib.Dec.{eqb}
 use lib.ListN.{length, take, set, length-set, length-map}
 use lib.Seq.{take-suc-set, length-take-le}
 use borrow.Author.Tests.{ne_eqb}
-use Rattle.rules.specs.Choice.{is_empty, bit}
+use Rattle.rules.specs.Choice.{is_empty}
 use Rattle.rules.specs.Numbers.{token_size}
 use Rattle.rules.specs.State as rules
 use Rattle.rules.specs.Token.{is_whole, is_partial}
-use Rattle.rules.proofs.Choice.{pick_true, pick-false}
 use Rattle.rules.proofs.Bounds.Steps.{whole_room}
+use Rattle.line.specs.declared.Key.{Key}
 use Rattle.line.specs.declared.Typed.{Typed}
 use Rattle.line.specs.View.{keys_of, token_of}
 use Rattle.line.specs.Bounded.{CountedTyped}
@@ -45,7 +45,7 @@ module _ (t : Typed) (c : CountedTyped t) where
   partial_is e = ap₂ (λ a b. not a && not b) (sym token_empty) e
 
   -- what remains
-  module _ {held : Bool} (e : held ≡ is_whole (codes_of t)) (keys : List ℕ) where
+  module _ {held : Bool} (e : held ≡ is_whole (codes_of t)) (keys : List Key) where
     pub remains_is : not (eqb t.keys_len 0) || held ≡ not (is_empty (keys_of t.keys_len keys)) || is_whole (codes_of t)
     remains_is = ap₂ (λ a b. not a || b) (sym (keys_empty t.keys_len keys)) e
 

@@ -19,7 +19,7 @@ use Rattle.line.specs.declared.acts.Taken.TheVariants.{Token, Terminator, Edit, 
 use Rattle.line.specs.declared.acts.Act.{Act}
 use Rattle.line.specs.declared.acts.Act.TheVariants.{Nothing, Stores, StoresQuoted, SendsOutOfBand, ClearsAtOnce, Quotes, Clears, FlipsDiscard}
 use Rattle.line.specs.declared.acts.Act.TheVariants.{TakesToken, Takes, TimesOut, Idles, Obeys}
-use Rattle.line.specs.View.{view, key_of, keys_of, reading_of}
+use Rattle.line.specs.View.{view, no_key, key_of, keys_of, reading_of}
 use Rattle.line.specs.ReadChanges.{HasRoom, idling}
 use Rattle.line.specs.With.{on_flow, on_keys, lent}
 use Rattle.line.specs.KeyArray.{keys_after, shifted}
@@ -123,7 +123,7 @@ pub record Meets (rule : Rule ℕ) (s : List ℕ) (l : Line) (a : Act) : Type 0 
 abbrev pub TakesFirst : List ℕ → Line → Taken → Type 0
 TakesFirst s l k =
     CanTakeKey l.flow l.terms →
-    Meets (takes_key l then steps.takes codes (key_of (get_or l.keys 0 0)) (idle_at_zero l)) s l (Takes k)
+    Meets (takes_key l then steps.takes codes (key_of (get_or l.keys 0 no_key)) (idle_at_zero l)) s l (Takes k)
 
 -- what is known of a call that has taken the first key
 pub record HasTakenKey (w v : Work) : Type 0 where

@@ -1,8 +1,8 @@
 -- The state of the rules that a line stands for. What lies behind a count is the program's own, and so are `terms`, `set`, `text` and
 -- `reading` while no read is pending, but for the counts within their arrays (`Counted`).
-use Rattle.std.specs.Prelude.{ℕ, zero, suc, ◌-◌, ◌%◌, Bool, true, false, List, [], ◌∷◌, leb, take, drop}
+use Rattle.std.specs.Prelude.{ℕ, zero, suc, ◌-◌, Bool, true, false, List, [], ◌∷◌, take, drop}
 use Rattle.std.proofs.Math.Option.{Option, none, some}
-use Rattle.rules.specs.Numbers.{code_count, input_size}
+use Rattle.rules.specs.Numbers.{input_size}
 use Rattle.rules.specs.State as rules
 use Rattle.screen.specs.View as screen
 use Rattle.sets.specs.View.{set_of}
@@ -10,6 +10,7 @@ use Rattle.characteristics.specs.View.{switches_of}
 use Rattle.line.specs.declared.Terminal.{Terminal}
 use Rattle.line.specs.declared.Typed.{Typed}
 use Rattle.line.specs.declared.Reading.{Reading}
+use Rattle.line.specs.declared.Key.{Key}
 use Rattle.line.specs.declared.Line.{Line}
 
 abbrev pub terminal_of : Terminal → rules.Terminal
@@ -23,24 +24,30 @@ terminal_of t =
       dropped = t.dropped;
     }
 
--- what a quoted key has above its code
-abbrev pub quoted_mark : ℕ
-quoted_mark = code_count
+-- a key as its array has it
+abbrev pub plain_key : ℕ → Key
+plain_key c = record { code = c; quoted = false }
 
--- a key as its array has it: its code, and the mark if it is quoted
-abbrev pub key_of : ℕ → rules.Key ℕ
-key_of k = record { char = k % quoted_mark; quoted = leb quoted_mark k }
+abbrev pub quoted_key : ℕ → Key
+quoted_key c = record { code = c; quoted = true }
 
--- the first so many keys of an array; behind its end stand keys of code 0
-unfoldable pub keys_of : ℕ → List ℕ → List (rules.Key ℕ)
+abbrev pub key_of : Key → rules.Key ℕ
+key_of k = record { char = k.code; quoted = k.quoted }
+
+-- what stands behind the end of an array: keys of code 0
+abbrev pub no_key : Key
+no_key = plain_key 0
+
+-- the first so many keys of an array
+unfoldable pub keys_of : ℕ → List Key → List (rules.Key ℕ)
 keys_of zero keys = []
-keys_of (suc n) [] = key_of 0 ∷ keys_of n []
+keys_of (suc n) [] = key_of no_key ∷ keys_of n []
 keys_of (suc n) (k ∷ keys) = key_of k ∷ keys_of n keys
 
 unfoldable pub token_of : Typed → List ℕ
 token_of t = take t.token_len t.token
 
-abbrev pub typed_of : List ℕ → Typed → rules.Typed ℕ
+abbrev pub typed_of : List Key → Typed → rules.Typed ℕ
 typed_of keys t = record { type_ahead = keys_of t.keys_len keys; token = token_of t }
 
 -- the text of a read: what stands after the prompt in front, the prompt at the end

@@ -8,6 +8,7 @@ use Rattle.line.specs.declared.Terms.{Terms}
 use Rattle.line.specs.declared.Reading.{Reading}
 use Rattle.line.specs.declared.Typed.{Typed}
 use Rattle.line.specs.declared.Flow.{Flow}
+use Rattle.line.specs.declared.Key.{Key}
 use Rattle.line.specs.declared.Line.{Line}
 use Rattle.line.specs.declared.Work.{Work}
 
@@ -71,7 +72,7 @@ on_flow f l =
       flow = f;
     }
 
-abbrev pub on_keys : List ℕ → Line → Line
+abbrev pub on_keys : List Key → Line → Line
 on_keys keys l =
     record {
       attributes = l.attributes;

@@ -3,8 +3,9 @@ ghost use Rattle.std.specs.Prelude.{List, ◌≡◌, true, length, get_or, ℕ, 
 ghost use Rattle.rules.specs.Numbers.{input_size, type_ahead_size, code_count, top_dropped};
 ghost use Rattle.rules.specs.State.{codes};
 ghost use Rattle.rules.specs.Arrival as rules;
+ghost use Rattle.line.specs.declared.Key.{Key};
 ghost use Rattle.line.specs.declared.Line.{Line};
-ghost use Rattle.line.specs.View.{quoted_mark, key_of, reading_of, pending_of};
+ghost use Rattle.line.specs.View.{quoted_key, key_of, reading_of, pending_of};
 ghost use Rattle.line.specs.Bounded.{CountedReading};
 ghost use Rattle.line.specs.With.{on_flow, lent};
 ghost use Rattle.line.specs.KeyArray.{stored};
@@ -41,7 +42,7 @@ impl Work {
     // One key more waits; idle is 0. `move_keys` puts the key itself into the array.
     fn keeps(self) -> Work
         requires keys_len_bound { self.flow.typed.keys_len < type_ahead_size }
-        ensures rule { (k : ℕ) (l : Line) → length l.keys ≡ type_ahead_size → (t m : List ℕ) →
+        ensures rule { (k : Key) (l : Line) → length l.keys ≡ type_ahead_size → (t m : List ℕ) →
             Does (rules.keeps (key_of k).quoted (key_of k).char) (on l self) t m (on (stored k self.flow l) result) t m }
     {
         let mut flow = self.flow;
@@ -71,7 +72,7 @@ impl Work {
 
     // Rule 4.
     pub(crate) fn stores(self, terminal: &mut [u8]) -> Work
-        ensures rule { (k : ℕ) (l : Line) → length l.keys ≡ type_ahead_size → (m : List ℕ) →
+        ensures rule { (k : Key) (l : Line) → length l.keys ≡ type_ahead_size → (m : List ℕ) →
             Does (rules.stores type_ahead_size (key_of k).quoted (key_of k).char) (on l self) terminal.old m (on (stored k self.flow l) result)
             terminal.new m }
     {
@@ -86,7 +87,7 @@ impl Work {
     // Rule 1.
     pub(crate) fn stores_quoted(self, terminal: &mut [u8]) -> Work
         ensures rule { (c : ℕ) → c < code_count → (l : Line) → length l.keys ≡ type_ahead_size → (m : List ℕ) →
-            Does (rules.stores_quoted c) (on l self) terminal.old m (on (stored (c + quoted_mark) self.flow l) result) terminal.new m }
+            Does (rules.stores_quoted c) (on l self) terminal.old m (on (stored (quoted_key c) self.flow l) result) terminal.new m }
     {
         let flow = self.flow;
         let mut known = flow.terminal;

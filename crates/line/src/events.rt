@@ -50,7 +50,7 @@ impl HostMessage {
     }
 }
 
-// What a call brings, with what is looked up for it besides the flow and the terms. A key is its arrival: the keystroke makes a step behind it.
+// What a call brings, with what is looked up for it besides the flow and the terms. A key is its arrival: a step follows it.
 #[derive(Clone, Copy)]
 pub(crate) enum Event {
     // its attribute, and whether Initiate was accepted

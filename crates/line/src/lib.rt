@@ -96,12 +96,19 @@ pub struct Flow {
     pub terminal: Terminal,
 }
 
+// A key as it was typed; quoted, it is data whatever its code.
+#[derive(Clone, Copy, Debug, PartialEq, Eq)]
+pub struct Key {
+    pub code: u8,
+    pub quoted: bool,
+}
+
 // The line between calls. What lies behind a count is left over.
 #[derive(Clone, Copy)]
 pub struct Line {
     pub attributes: [u8; rules::CODE_COUNT],
-    // keys that wait, each its code, and QUOTED more if it is quoted
-    pub keys: [u16; rules::TYPE_AHEAD_SIZE],
+    // keys that wait
+    pub keys: [Key; rules::TYPE_AHEAD_SIZE],
     // what stands after the read's prompt, from the front; the prompt as it is displayed, at the end
     pub text: [u8; rules::INPUT_SIZE],
     // the read's termination set, and the last given with ZZ 1 or loaded

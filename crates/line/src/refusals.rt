@@ -30,7 +30,11 @@ pub(crate) fn are_roomy(terminal: usize, messages: usize) -> bool
 pub(crate) fn row_of(roomy: bool) -> u8
     ensures { result ≡ row_of roomy }
 {
-    if roomy { rules::ACCEPTED } else { Refusal::SmallArea.number() }
+    if roomy {
+        rules::ACCEPTED
+    } else {
+        Refusal::SmallArea.number()
+    }
 }
 
 // A row of the table, which applies where its test is not passed.

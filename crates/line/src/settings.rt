@@ -15,14 +15,12 @@ impl Line {
     pub(crate) fn host_in(self) -> Host
         ensures { result ≡ host_in self }
     {
-        let switches = self.switches;
         let attributes = self.attributes;
-        let last_set = self.last_set;
         Host {
             initiated: self.initiated,
-            switches,
+            switches: self.switches,
             attributes,
-            last_set,
+            last_set: self.last_set,
             largest_read: self.largest_read,
         }
     }
@@ -30,25 +28,25 @@ impl Line {
     fn with_host(self, h: Host) -> Line
         ensures { result ≡ on_host h self }
     {
-        let switches = h.switches;
         let attributes = h.attributes;
-        let last_set = h.last_set;
-        let mut next = self;
-        next.attributes = attributes;
-        next.last_set = last_set;
-        next.largest_read = h.largest_read;
-        next.initiated = h.initiated;
-        next.switches = switches;
-        next
+        Line {
+            attributes,
+            last_set: h.last_set,
+            largest_read: h.largest_read,
+            initiated: h.initiated,
+            switches: h.switches,
+            ..self
+        }
     }
 
     // From now on messages other than Initiate are taken.
     fn initiated(self) -> Line
         ensures { result ≡ on_initiated self }
     {
-        let mut next = self;
-        next.initiated = true;
-        next
+        Line {
+            initiated: true,
+            ..self
+        }
     }
 
     // Characteristics: switches and attributes, as the parameters set them.

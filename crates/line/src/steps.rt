@@ -143,14 +143,7 @@ impl Work {
         let ready = self.with_read(next);
         let shown = ready.echoes_if(terminal, t.echoes, c);
         if r.end(t) + 1 == t.max_length as u32 {
-            return shown.completes(
-                messages,
-                Completion::FullBuffer,
-                NO_ENDING,
-                next,
-                text,
-                t,
-            );
+            return shown.completes(messages, Completion::FullBuffer, NO_ENDING, next, text, t);
         }
         shown
     }
@@ -174,14 +167,7 @@ impl Work {
     {
         let next = r.push(text, c);
         let shown = self.echoes_terminator_if(terminal, t.terminator_echo & t.echoes, c);
-        shown.completes(
-            messages,
-            Completion::Terminator,
-            ONE_ENDING,
-            next,
-            text,
-            t,
-        )
+        shown.completes(messages, Completion::Terminator, ONE_ENDING, next, text, t)
     }
 
     // 127 or 23 with nothing to delete.

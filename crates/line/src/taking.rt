@@ -9,7 +9,7 @@ ghost use Rattle.rules.specs.Token.{is_whole};
 ghost use Rattle.sets.specs.View.{set_of};
 ghost use Rattle.line.specs.declared.Line.{Line};
 ghost use Rattle.line.specs.declared.acts.Act.TheVariants.{Takes};
-ghost use Rattle.line.specs.View.{key_of, reading_of};
+ghost use Rattle.line.specs.View.{no_key, key_of, reading_of};
 ghost use Rattle.line.specs.Bounded.{CountedTyped, Bounded};
 ghost use Rattle.line.specs.With.{on_flow, lent};
 ghost use Rattle.line.specs.TokenChanges.{codes_of};
@@ -20,8 +20,7 @@ ghost use Rattle.line.specs.Acts.{CanTakeKey, idle_at_zero, takes_key, taken_rul
 
 use crate::acts::{Act, Taken};
 use crate::events::Lookup;
-use crate::keys::{code_of, is_quoted};
-use crate::{Flow, Terms, Work};
+use crate::{Flow, Key, Terms, Work};
 use sets::Set;
 
 impl Terms {
@@ -53,7 +52,7 @@ impl Terms {
 
 impl Flow {
     // The rules in order.
-    fn taken_as(self, key: u16, ends: bool, t: Terms) -> Taken
+    fn taken_as(self, key: Key, ends: bool, t: Terms) -> Taken
         requires { CountedTyped self.typed }
         ensures { (s : List ℕ) (l : Line) → CanTakeKey self t →
             ends ≡ in_set (set_of l.set) (rules.raised_by codes (reading_of (lent t l.text l) self.reading) (key_of key).char) →
@@ -61,11 +60,11 @@ impl Flow {
             (on_flow self (lent t l.text l)) (Takes result) }
     {
         let typed = self.typed;
-        let c = code_of(key);
+        let c = key.code;
         if typed.is_partial() {
             return Taken::Token(c);
         }
-        if is_quoted(key) {
+        if key.quoted {
             return Taken::Data(c);
         }
         if t.is_token_start(c) {
@@ -76,13 +75,13 @@ impl Flow {
     }
 
     // What a step looks up, from the first key and the read's set.
-    pub(crate) fn look_up_for_step(self, first: u16, set: Set, t: Terms) -> Lookup
+    pub(crate) fn look_up_for_step(self, first: Key, set: Set, t: Terms) -> Lookup
         requires { CountedTyped self.typed }
-        ensures { (s : List ℕ) (l : Line) → Bounded (on_flow self (lent t l.text l)) → first ≡ get_or l.keys 0 0 → set ≡ l.set →
+        ensures { (s : List ℕ) (l : Line) → Bounded (on_flow self (lent t l.text l)) → first ≡ get_or l.keys 0 no_key → set ≡ l.set →
             LookedUpForStep s (on_flow self (lent t l.text l)) result }
     {
         let typed = self.typed;
-        let raised = t.raised_by(code_of(first));
+        let raised = t.raised_by(first.code);
         let ends = set.has(raised);
         Lookup {
             held: typed.is_held(),

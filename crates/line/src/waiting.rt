@@ -1,18 +1,19 @@
 // Type-ahead and the token: what is asked of them, and how they change.
-ghost use Rattle.std.specs.Prelude.{◌≡◌, ℕ, ◌<◌, not, ◌||◌, List};
+ghost use Rattle.std.specs.Prelude.{◌≡◌, ◌<◌, not, ◌||◌, List};
 ghost use Rattle.rules.specs.Choice.{is_empty};
 ghost use Rattle.rules.specs.Numbers.{token_size};
 ghost use Rattle.rules.specs.State.{codes};
 ghost use Rattle.rules.specs.Token as rules;
 ghost use Rattle.rules.specs.Steps.{token_code};
+ghost use Rattle.line.specs.declared.Key.{Key};
 ghost use Rattle.line.specs.View.{keys_of, token_of};
 ghost use Rattle.line.specs.Bounded.{CountedTyped};
 ghost use Rattle.line.specs.Completions.{code_of};
 ghost use Rattle.line.specs.TokenChanges.{codes_of, untokened, tokened, emptied};
 
-use crate::tokens::{is_valid, is_whole};
 use crate::Typed;
 use crate::read_data::Completion;
+use crate::tokens::{is_valid, is_whole};
 
 impl Typed {
     // A whole token is held.
@@ -45,7 +46,7 @@ impl Typed {
     // Type-ahead or a held token remains.
     pub(crate) fn has_more_data(self) -> bool
         requires { CountedTyped self }
-        ensures { (keys : List ℕ) → result ≡ not (is_empty (keys_of self.keys_len keys)) || rules.is_whole (codes_of self) }
+        ensures { (keys : List Key) → result ≡ not (is_empty (keys_of self.keys_len keys)) || rules.is_whole (codes_of self) }
     {
         (self.keys_len != 0) | self.is_held()
     }

@@ -6,7 +6,7 @@ use Rattle.rules.specs.Steps as steps
 use Rattle.rules.specs.Steps.{raised_by}
 use Rattle.sets.specs.View.{set_of}
 use Rattle.line.specs.declared.acts.Act.TheVariants.{Takes}
-use Rattle.line.specs.View.{key_of, reading_of}
+use Rattle.line.specs.View.{key_of}
 use Rattle.line.specs.With.{on_flow, lent}
 use Rattle.line.specs.Acts.{idle_at_zero, takes_key, Meets}
 use Rattle.line.proofs.Flow.look_up_for_step.Goals as goal
@@ -16,8 +16,7 @@ returns c =
     let a = c.args in
     λ s l bounded first set.
     let line = on_flow a.self (lent a.t l.text l) in
-    let raised = c.raised_by-raised.ensures l.text l a.self.reading
-    ∙ ap (raised_by codes (reading_of line a.self.reading)) c.code_of.ensures in
+    let raised = c.raised_by-raised.ensures l.text l a.self.reading in
     let ends = c.has-ends.ensures ∙ ap (λ x. in_set (set_of x) c.raised_by-raised.result) set ∙ ap (in_set (set_of l.set)) raised in
     let taken = c.taken_as in
     record {

@@ -1,4 +1,4 @@
-use Rattle.std.proofs.Common.{rules as found_alone, ◌≡◌, Ok, Err, sym, ap, ◌∙◌, arith}
+use Rattle.std.proofs.Common.{rules as found_alone, ◌≡◌, Err, ap, ◌∙◌, arith}
 use Rattle.rules.specs.Refusals.{answered}
 use Rattle.rules.proofs.RefusalNumbers.{never-accepted}
 use Rattle.line.proofs.RefusalRows.{row_stops, row_passes}

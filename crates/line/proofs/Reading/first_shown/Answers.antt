@@ -1,4 +1,3 @@
-use Rattle.line.specs.ReadChanges.{ShownFrom}
 use Rattle.line.proofs.InputAppended.{shown_from}
 use Rattle.line.proofs.Reading.first_shown.Goals as goal
 

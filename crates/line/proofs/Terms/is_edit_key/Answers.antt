@@ -12,14 +12,18 @@ use Rattle.line.proofs.Terms.is_edit_key.Goals as goal
 pub returns-in-127 : goal.returns-in-127
 unfolding is_edit_key
 returns-in-127 c text l r =
-    elim c.in-127.is [ inl word ↦ sym (ap (λ n. is_edit_key n (reading_of (lent c.args.self text l) r)) word ∙ or-false _)
-    | inr character ↦ sym (ap (λ n. is_edit_key n (reading_of (lent c.args.self text l) r)) character ∙ or-false _) ]
+    elim c.in-127.is [
+      | inl word ↦ sym (ap (λ n. is_edit_key n (reading_of (lent c.args.self text l) r)) word ∙ or-false _)
+      | inr character ↦ sym (ap (λ n. is_edit_key n (reading_of (lent c.args.self text l) r)) character ∙ or-false _)
+    ]
 
 pub returns-in-21 : goal.returns-in-21
 unfolding is_edit_key
 returns-in-21 c text l r =
-    elim c.in-21.is [ inl show ↦ sym (ap (λ n. is_edit_key n (reading_of (lent c.args.self text l) r)) show)
-    | inr line ↦ sym (ap (λ n. is_edit_key n (reading_of (lent c.args.self text l) r)) line) ]
+    elim c.in-21.is [
+      | inl show ↦ sym (ap (λ n. is_edit_key n (reading_of (lent c.args.self text l) r)) show)
+      | inr line ↦ sym (ap (λ n. is_edit_key n (reading_of (lent c.args.self text l) r)) line)
+    ]
 
 pub returns-in_default : goal.returns-in_default
 unfolding is_edit_key

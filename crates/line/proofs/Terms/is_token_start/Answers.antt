@@ -1,5 +1,5 @@
 use mathlib.Core.Logic.◌⊎◌.{inl, inr}
-use mathlib.Core.Path.{sym, ap, ap₂, ◌∙◌}
+use mathlib.Core.Path.{sym, ap, ap₂}
 use mathlib.Core.Bool.{◌&&◌, ◌||◌}
 use native.Mathlib.Omega.{arith}
 use borrow.Author.Tests.{ne_eqb}
@@ -11,8 +11,10 @@ use Rattle.line.proofs.Terms.is_token_start.Goals as goal
 pub returns-in-27 : goal.returns-in-27
 unfolding is_token_start
 returns-in-27 c text l r =
-    elim c.in-27.is [ inl csi ↦ sym (ap (λ n. is_token_start n (reading_of (lent c.args.self text l) r)) csi)
-    | inr esc ↦ sym (ap (λ n. is_token_start n (reading_of (lent c.args.self text l) r)) esc) ]
+    elim c.in-27.is [
+      | inl csi ↦ sym (ap (λ n. is_token_start n (reading_of (lent c.args.self text l) r)) csi)
+      | inr esc ↦ sym (ap (λ n. is_token_start n (reading_of (lent c.args.self text l) r)) esc)
+    ]
 
 pub returns-in_default : goal.returns-in_default
 unfolding is_token_start

@@ -1,11 +1,8 @@
 use mathlib.Core.Path.{refl, subst}
 use mathlib.Core.List.{[]}
-use Rattle.rules.specs.Numbers.{type_ahead_size}
-use Rattle.rules.specs.Arrival.{stores}
 use Rattle.line.specs.With.{lent}
 use Rattle.line.specs.Acts.{Doable}
 use Rattle.line.proofs.Turns.{still_does}
-use Rattle.line.proofs.ArrivalLaws.{plain_key}
 use Rattle.line.proofs.ActsDone.{done_as, moved, rest}
 use Rattle.line.proofs.Work.acts_on_key.Goals as goal
 
@@ -14,7 +11,7 @@ returns-in-Stores c =
     let a = c.args in
     let done = c.stores.ensures in
     let e = c.in-Stores.is in
-    record { rule = λ l. done_as [] a.t l a.self c.stores.result e (λ size p. plain_key _ (subst (Doable [] a.self.flow a.t) e c.requires.doable) (stores type_ahead_size) (done.rule _ (lent a.t a.text.now l) size _)); none = λ n. absurd (moved e tt n) }
+    record { rule = λ l. done_as [] a.t l a.self c.stores.result e (λ size p. done.rule _ (lent a.t a.text.now l) size _); none = λ n. absurd (moved e tt n) }
 
 pub returns-in-StoresQuoted : goal.returns-in-StoresQuoted
 returns-in-StoresQuoted c =

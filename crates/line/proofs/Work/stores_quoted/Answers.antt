@@ -1,11 +1,10 @@
-use Prim.Native.Nat.{◌+◌}
-use Rattle.rules.specs.Numbers.{type_ahead_size}
 use mathlib.Core.Path.{refl, ap}
 use mathlib.Core.Bool.{false}
 use Rattle.rules.specs.State.{with_quoting}
-use Rattle.rules.specs.Arrival.{stores, stores_quoted}
+use Rattle.rules.specs.Arrival.{stores_quoted}
 use Rattle.line.proofs.Turns.{then_does}
-use Rattle.line.proofs.ArrivalLaws.{terminal_does, quoted_key, waited_key}
+use Rattle.line.proofs.ArrivalLaws.{terminal_does, waited_key}
+use Rattle.line.specs.View.{quoted_key}
 use Rattle.line.proofs.Work.stores_quoted.Goals as goal
 
 pub returns : goal.returns
@@ -17,6 +16,5 @@ returns c =
     let kept = c.stores.ensures in record {
       rule = λ k small l size m.
           then_does (terminal_does self _ next (with_quoting false) refl l _ m)
-          (quoted_key k small (stores type_ahead_size)
-          (waited_key c.stores.result done.result.flow self.flow (k + 256) l (ap (λ f. f.typed.keys_len) next.flow) (kept.rule (k + 256) l size m)));
+          (waited_key c.stores.result done.result.flow self.flow (quoted_key k) l (ap (λ f. f.typed.keys_len) next.flow) (kept.rule (quoted_key k) l size m));
     }

@@ -10,4 +10,4 @@ pub returns-else-waiting-lt-TYPE_AHEAD_SIZE : goal.returns-else-waiting-lt-TYPE_
 returns-else-waiting-lt-TYPE_AHEAD_SIZE c =
     let keys = c.args.keys.now in
     let out : length keys ≤ c.args.waiting = omega (arith, type_ahead_size_lem, c.if-waiting-lt-TYPE_AHEAD_SIZE.false, c.requires) in
-    sym (set_out keys c.args.waiting c.args.key out)
+    sym (set_out keys c.args.waiting (record { code = c.args.code; quoted = c.args.quoted }) out)

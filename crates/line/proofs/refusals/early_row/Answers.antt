@@ -1,8 +1,7 @@
-use Rattle.std.proofs.Common.{rules as found_alone, ◌≡◌, Ok, Err, sym, ap, ◌∙◌, arith}
+use Rattle.std.proofs.Common.{rules as found_alone, ◌≡◌, Err, ap, ◌∙◌, arith}
 use Rattle.rules.specs.Refusals.{answered}
 use Rattle.rules.proofs.RefusalNumbers.{never-accepted}
 use Rattle.line.proofs.RefusalRows.{row_stops, row_passes}
-use mathlib.Core.List.{List, []}
 use Rattle.rules.specs.Calls.{is_hosts, is_timely}
 use Rattle.rules.specs.Numbers.{small_area, wrong_length, wrong_type, wrong_time}
 use Rattle.line.specs.Refusals.{row, first_row}

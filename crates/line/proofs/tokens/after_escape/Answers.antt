@@ -10,8 +10,10 @@ use Rattle.line.proofs.tokens.after_escape.Goals as goal
 pub returns-in-59 : goal.returns-in-59
 unfolding next place_of
 returns-in-59 c =
-    elim c.in-59.is [ inl semicolon ↦ sym (pick_true _ _ (eq-eqb _ 59 semicolon))
-    | inr question ↦ sym (pick-false _ _ (ne_eqb _ 59 (λ e. omega arith)) ∙ pick_true _ _ (eq-eqb _ 63 question)) ]
+    elim c.in-59.is [
+      | inl semicolon ↦ sym (pick_true _ _ (eq-eqb _ 59 semicolon))
+      | inr question ↦ sym (pick-false _ _ (ne_eqb _ 59 (λ e. omega arith)) ∙ pick_true _ _ (eq-eqb _ 63 question))
+    ]
 
 pub returns-in-79 : goal.returns-in-79
 unfolding next place_of
