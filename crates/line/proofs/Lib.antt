@@ -1,5 +1,6 @@
 mod Turns
 mod KeyArrays
+mod LentText
 mod TokenBytes
 mod WordDeletion
 mod InputLaws

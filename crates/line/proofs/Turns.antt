@@ -13,10 +13,12 @@ use Rattle.screen.specs.declared.Shown.{Shown}
 use Rattle.screen.specs.View.{Writes}
 use Rattle.rules.proofs.Area.{puts_append}
 use Rattle.line.specs.declared.Line.{Line}
+use Rattle.line.specs.declared.Flow.{Flow}
 use Rattle.line.specs.declared.Work.{Work}
 use Rattle.line.specs.View.{view, terminal_of}
-use Rattle.line.specs.With.{AfterShown, on_terminal, on_screen, on_flow}
+use Rattle.line.specs.With.{Has, AfterShown, on_flow}
 use Rattle.line.specs.Promise.{Progress, on, Does}
+use Rattle.line.proofs.Answers.{under_way}
 
 joined_append : (xs ys : List (List ℕ)) → joined (xs ++ ys) ≡ joined xs ++ joined ys
 unfolding joined
@@ -44,24 +46,25 @@ module _ {f g : Rule ℕ} {w v r : Progress} {t₀ t₁ t₂ m₀ m₁ m₂ : Li
         messages_length = b.messages_length ∙ a.messages_length;
       }
 
+-- a rule done to what a call then has is done by the call
+pub has_does : {p : Rule ℕ} {q : Progress} {t t' m m' : List ℕ} {f : Flow} {at sent : ℕ} {w : Work} → Has f at sent w → (l : Line) →
+    Does p q t m (under_way (on_flow f l) at sent) t' m' → Does p q t m (on l w) t' m'
+has_does {p} {q} {t} {t'} {m} {m'} h l d =
+    subst (λ r. Does p q t m r t' m') (λ i. under_way (on_flow (sym h.flow i) l) (sym h.at i) (sym h.sent i)) d
+
 -- what was shown, as a rule
 module _ (w : Work) (s : Shown) {bs t t' : List ℕ} (h : Writes bs t w.at w.flow.terminal.screen s t') where
-  shown_does : (l : Line) (m : List ℕ) → Does (writes bs) (on l w) t m (record { line = on_flow (on_terminal (on_screen s.screen w.flow.terminal) w.flow) l; at = s.at; sent = w.sent }) t' m
+  pub writes_does : {r : Work} → AfterShown s w r → (l : Line) (m : List ℕ) → Does (writes bs) (on l w) t m (on l r) t' m
   unfolding writes message_bytes joined puts
-  shown_does l m =
-      record {
+  writes_does e l m =
+      has_does e l
+      (record {
         state = λ i. with_terminal (with_screen (h.screen i) (terminal_of w.flow.terminal)) (view (on_flow w.flow l));
         shows = h.area;
         sends = refl;
         terminal_length = h.same;
         messages_length = refl;
-      }
-
-  pub writes_does : {r : Work} → AfterShown s w r → (l : Line) (m : List ℕ) → Does (writes bs) (on l w) t m (on l r) t' m
-  writes_does {r} e l m =
-      let there : Progress = record { line = on_flow (on_terminal (on_screen s.screen w.flow.terminal) w.flow) l; at = s.at; sent = w.sent } in
-      let to : there ≡ on l r = λ i. record { line = on_flow (sym e.flow i) l; at = sym e.at i; sent = sym e.sent i } in
-      subst (λ p. Does (writes bs) (on l w) t m p t' m) to (shown_does l m)
+      })
 
 -- What a rule tells of fates does not show.
 module _ {g : Rule ℕ} {w r : Progress} {t t' m m' : List ℕ} where

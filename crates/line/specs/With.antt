@@ -34,21 +34,21 @@ on_read r f = record { terminal = f.terminal; typed = f.typed; pending = true; r
 abbrev pub off_read : Flow → Flow
 off_read f = record { terminal = f.terminal; typed = f.typed; pending = false; reading = f.reading }
 
+-- what a call on its way then has: this flow, and these next places in the areas
+pub record Has (f : Flow) (a s : ℕ) (w : Work) : Type 0 where
+  pub flow : w.flow ≡ f
+  pub at : w.at ≡ a
+  pub sent : w.sent ≡ s
+
 -- the call goes on with another flow, behind what was shown, and behind what was sent
-pub record GoesOn (f : Flow) (w r : Work) : Type 0 where
-  pub flow : r.flow ≡ f
-  pub at : r.at ≡ w.at
-  pub sent : r.sent ≡ w.sent
+abbrev pub GoesOn : Flow → Work → Work → Type 0
+GoesOn f w r = Has f w.at w.sent r
 
-pub record AfterShown (s : Shown) (w r : Work) : Type 0 where
-  pub flow : r.flow ≡ on_terminal (on_screen s.screen w.flow.terminal) w.flow
-  pub at : r.at ≡ s.at
-  pub sent : r.sent ≡ w.sent
+abbrev pub AfterShown : Shown → Work → Work → Type 0
+AfterShown s w r = Has (on_terminal (on_screen s.screen w.flow.terminal) w.flow) s.at w.sent r
 
-pub record AfterSent (n : ℕ) (w r : Work) : Type 0 where
-  pub flow : r.flow ≡ w.flow
-  pub at : r.at ≡ w.at
-  pub sent : r.sent ≡ n
+abbrev pub AfterSent : ℕ → Work → Work → Type 0
+AfterSent n w r = Has w.flow w.at n r
 
 -- A line with one part changed.
 abbrev pub on_flow : Flow → Line → Line

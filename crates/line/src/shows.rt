@@ -1,5 +1,5 @@
 // What only writes to the terminal.
-ghost use Rattle.std.specs.Prelude.{ℕ, List, [], ◌∷◌, ◌≡◌};
+ghost use Rattle.std.specs.Prelude.{ℕ, List, [], ◌∷◌};
 ghost use Rattle.rules.specs.Screen as rules;
 ghost use Rattle.rules.specs.Turns.{writes};
 ghost use Rattle.line.specs.With.{AfterShown};

@@ -3,4 +3,4 @@ use Rattle.line.proofs.Work.send.Goals as goal
 
 pub returns : goal.returns
 returns c =
-    record { rule = λ x k. sent_does x (c.put_framed-sent.ensures.sent x k) c.sent_up_to.ensures }
+    record { rule = λ x k. sent_does c.args.self x (c.put_framed-sent.ensures.sent x k) c.sent_up_to.ensures }
