@@ -50,13 +50,6 @@ kept f =
     }
 
 module _ (w : Work) (c : CountedFlow w.flow) (room : w.flow.typed.keys_len < type_ahead_size) where
-  pub kept_counted : CountedFlow (kept w.flow)
-  kept_counted =
-      record {
-        typed = record { keys_length = omega arith; token = c.typed.token; token_length = c.typed.token_length };
-        within = c.within;
-      }
-
   pub keeps_does : (k : Key) (l : Line) → length l.keys ≡ type_ahead_size → (t m : List ℕ) →
       Does (rules.keeps (key_of k).quoted (key_of k).char) (on l w) t m (record { line = on_flow (kept w.flow) (stored k w.flow l); at = w.at; sent = w.sent }) t m
   unfolding rules.keeps token_of
@@ -73,9 +66,6 @@ module _ (w : Work) (c : CountedFlow w.flow) (room : w.flow.typed.keys_len < typ
 
 -- A call that goes on with another terminal.
 module _ (w : Work) {v : Work} (x : Terminal) (h : GoesOn (on_terminal x w.flow) w v) where
-  pub terminal_counted : CountedFlow v.flow
-  terminal_counted = v.counted
-
   pub terminal_does : (f : state.Terminal → state.Terminal) → terminal_of x ≡ f (terminal_of w.flow.terminal) → (l : Line) (t m : List ℕ) →
       Does (changes (λ s. with_terminal (f s.terminal) s)) (on l w) t m (on l v) t m
   terminal_does f e l t m =

@@ -1,13 +1,13 @@
 -- Rules that change the flow: nothing written, another read or token, no read.
-use mathlib.Core.Path.{◌≡◌, refl, sym, ap, ◌∙◌, subst}
-use Prim.Native.Nat.{ℕ, ◌-◌, ◌≤◌, ◌<◌}
+use mathlib.Core.Path.{◌≡◌, refl, sym, ap, ◌∙◌}
+use Prim.Native.Nat.{ℕ, ◌-◌, ◌<◌}
 use native.Mathlib.Omega.{arith}
 use mathlib.Core.Bool.{Bool, true, false, not, ◌||◌}
 use mathlib.Core.List.{List, [], ◌∷◌, ◌++◌}
 use mathlib.Core.Option.{none, some}
 use lib.ListN.{length, take}
 use Rattle.rules.specs.Choice.{pick, bit, is_empty, joined}
-use Rattle.rules.specs.Numbers.{input_size, token_size}
+use Rattle.rules.specs.Numbers.{token_size}
 use Rattle.rules.specs.Area.{puts, spot}
 use Rattle.rules.specs.State as rules
 use Rattle.rules.specs.State.{codes, with_typed, with_token, with_read, with_display_column, with_idle}
@@ -28,13 +28,13 @@ use Rattle.line.specs.declared.Typed.{Typed}
 use Rattle.line.specs.declared.Terms.{Terms}
 use Rattle.line.specs.declared.Flow.{Flow}
 use Rattle.line.specs.View.{view, input_of, reading_of, pending_of, keys_of, token_of}
-use Rattle.line.specs.Bounded.{CountedTyped, CountedFlow, CountedReading}
-use Rattle.line.specs.With.{GoesOn, on_read, on_typed, off_read, on_flow, lent}
+use Rattle.line.specs.Bounded.{CountedTyped, CountedReading}
+use Rattle.line.specs.With.{Has, GoesOn, on_read, on_typed, off_read, on_flow, lent}
 use Rattle.line.specs.ReadChanges.{idling, shown_at}
 use Rattle.line.specs.TokenChanges.{codes_of, untokened, tokened}
 use Rattle.line.specs.Promise.{Progress, on, Does}
 use Rattle.rules.proofs.Choice.{pick_true, pick-false}
-use Rattle.line.proofs.Turns.{changes_does, still_does}
+use Rattle.line.proofs.Turns.{has_does, changes_does, still_does}
 use Rattle.line.proofs.InputAppended.{input-length}
 use Rattle.line.proofs.TokenBytes.{tokened_token}
 
@@ -96,25 +96,16 @@ module _ {rule : Rule ℕ} {w : Progress} {test : Bool} (f : Rule ℕ) where
   here_not t m e b = here_second f e b (still_does w t m)
 
 -- A call that goes on with another flow.
-pub goes_as : {f g : Flow} {w r : Work} → f ≡ g → GoesOn f w r → GoesOn g w r
+pub goes_as : {f g : Flow} {a s : ℕ} {r : Work} → f ≡ g → Has f a s r → Has g a s r
 goes_as e h = record { flow = h.flow ∙ e; at = h.at; sent = h.sent }
-
-pub goes_counted : {f : Flow} (w : Work) {v : Work} → GoesOn f w v → CountedFlow v.flow
-goes_counted w {v} h = v.counted
 
 module _ (w : Work) {v : Work} where
   pub goes_does : {f : Flow} (l : Line) (g : rules.State ℕ → rules.State ℕ) → GoesOn f w v → view (on_flow f l) ≡ g (view (on_flow w.flow l)) →
       (t m : List ℕ) → Does (changes g) (on l w) t m (on l v) t m
-  goes_does {f} l g h e t m =
-      let there : Progress = record { line = on_flow f l; at = w.at; sent = w.sent } in
-      let same : there ≡ on l v = λ i. record { line = on_flow (sym h.flow i) l; at = sym h.at i; sent = sym h.sent i } in
-      subst (λ p. Does (changes g) (on l w) t m p t m) same (changes_does t m g e refl refl)
+  goes_does l g h e t m = has_does h l (changes_does t m g e refl refl)
 
   -- with this read pending, which stands for another; and with none
   module _ (r : Reading) (h : GoesOn (on_read r w.flow) w v) where
-    pub read_counted : CountedFlow v.flow
-    read_counted = v.counted
-
     pub read_does : (l : Line) {e : rules.Reading ℕ} → reading_of l r ≡ e → (t m : List ℕ) →
         Does (changes (with_read (some e))) (on l w) t m (on l v) t m
     read_does l {e} same t m =
@@ -126,9 +117,6 @@ module _ (w : Work) {v : Work} where
 
   -- with another token, and the keys that wait
   module _ {next : Typed} (h : GoesOn (on_typed next w.flow) w v) where
-    pub typed_counted : CountedFlow v.flow
-    typed_counted = v.counted
-
     -- without the token
     pub cleared_does : next ≡ untokened w.flow.typed → (l : Line) (t m : List ℕ) →
         Does (changes (with_token [])) (on l w) t m (on l v) t m
@@ -152,9 +140,7 @@ module _ (w : Work) {v : Work} (r : Reading) (h : GoesOn (on_read r w.flow) w v)
   pub text_does : (t : Terms) (text text' : List ℕ) (l : Line) {e : rules.Reading ℕ} → reading_of (lent t text' l) r ≡ e → (a m : List ℕ) →
       Does (changes (with_read (some e))) (on (lent t text l) w) a m (on (lent t text' l) v) a m
   text_does t text text' l {e} same a m =
-      let there : Progress = record { line = on_flow (on_read r w.flow) (lent t text' l); at = w.at; sent = w.sent } in
-      let to : there ≡ on (lent t text' l) v = λ i. record { line = on_flow (sym h.flow i) (lent t text' l); at = sym h.at i; sent = sym h.sent i } in
-      subst (λ p. Does (changes (with_read (some e))) (on (lent t text l) w) a m p a m) to
+      has_does h (lent t text' l)
       (changes_does a m (with_read (some e)) (λ i. with_read (some (same i)) (view (on_flow w.flow (lent t text l)))) refl refl)
 
 -- with no read pending the text does not show
@@ -177,12 +163,6 @@ display_column_same r e l = rw e refl
 
 pub idle_same : (r : Reading) {next : Reading} {idle : ℕ} → next ≡ idling idle r → (l : Line) → reading_of l next ≡ with_idle idle (reading_of l r)
 idle_same r e l = rw e refl
-
-pub display_column_count : (r : Reading) {next : Reading} {column : ℕ} → next ≡ shown_at column r → r.input_len ≤ input_size → next.input_len ≤ input_size
-display_column_count r e h = rw e h
-
-pub idle_count : (r : Reading) {next : Reading} {idle : ℕ} → next ≡ idling idle r → r.input_len ≤ input_size → next.input_len ≤ input_size
-idle_count r e h = rw e h
 
 -- the answer of a read, as the program sends it
 module _ (f : Flow) (t : Terms) (r : Reading) (code ending : ℕ) {more vertical horizontal : ℕ} where

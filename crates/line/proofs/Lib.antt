@@ -1,6 +1,7 @@
 mod Turns
 mod RefusalRows
 mod KeyArrays
+mod LentText
 mod TokenBytes
 mod WordDeletion
 mod InputLaws

@@ -13,7 +13,6 @@ use Rattle.line.specs.declared.Line.{Line}
 use Rattle.line.specs.declared.Flow.{Flow}
 use Rattle.line.specs.declared.Work.{Work}
 use Rattle.line.specs.declared.Terms.{Terms}
-use Rattle.line.specs.declared.Reading.{Reading}
 use Rattle.line.specs.declared.acts.Taken.{Taken}
 use Rattle.line.specs.View.{view, prompt_of, reading_of, token_of}
 use Rattle.line.specs.Bounded.{CountedFlow, CountedReading, Bounded}
@@ -45,30 +44,30 @@ pending_room l b e =
     record { largest = largest; room = omega arith; prompt = omega arith }
 
 -- the first key goes, and the read is no longer idle
-abbrev pub taken : Reading → Flow → Flow
-taken next f =
+abbrev pub taken : Flow → Flow
+taken f =
     let t = f.typed in
     record {
       terminal = f.terminal;
       typed = record { keys_len = t.keys_len - 1; token = t.token; token_len = t.token_len };
       pending = true;
-      reading = next;
+      reading = idling 0 f.reading;
     }
 
-pub has_taken : (w : Work) (next : Reading) (k : CountedFlow (taken next w.flow)) → 0 < w.flow.typed.keys_len → next ≡ idling 0 w.flow.reading →
-    HasTakenKey w (record { flow = taken next w.flow; at = w.at; sent = w.sent; counted = k })
+pub has_taken : (w : Work) (k : CountedFlow (taken w.flow)) → 0 < w.flow.typed.keys_len →
+    HasTakenKey w (record { flow = taken w.flow; at = w.at; sent = w.sent; counted = k })
 unfolding token_of
-has_taken w next k waits e =
+has_taken w k waits =
     let f = w.flow in
     let c = w.counted in
     record {
       does = λ l size t m.
           changes_does t m (key_taken (on_flow f l))
           (λ i.
-          with_read (some (reading_of l (e i)))
+          with_read (some (reading_of l (idling 0 f.reading)))
           (with_typed (first_gone f.typed.keys_len l.keys waits (omega (arith, size, c.typed.keys_length)) i) (token_of f.typed) (view (on_flow f l))))
           refl refl;
-      reading = e;
+      reading = refl;
       token = refl;
     }
 
@@ -76,9 +75,6 @@ has_taken w next k waits e =
 module _ {w v : Work} (k : HasTakenKey w v) where
   pub key_room : (t : Terms) → HasRoom t w.flow.reading → HasRoom t v.flow.reading
   key_room t h = subst (HasRoom t) (sym k.reading) (record { largest = h.largest; room = h.room; prompt = h.prompt })
-
-  pub key_text : (text : List ℕ) → length text ≡ input_size → CountedReading v.flow.reading text
-  key_text text e = record { within = v.counted.within; full = e }
 
   pub key_then : {a b : Taken} → a ≡ b → (t : Terms) (text : List ℕ) (l : Line) → length l.keys ≡ type_ahead_size → {u : Progress} {x x' m m' : List ℕ} →
       Does (taken_rule b (reading_of (lent t text l) v.flow.reading)) (on (lent t text (shifted w.flow l)) v) x m u x' m' →

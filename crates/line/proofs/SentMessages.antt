@@ -1,5 +1,5 @@
 -- A message that was put behind its length is a message sent.
-use mathlib.Core.Path.{◌≡◌, refl, sym, ap, ◌∙◌, subst}
+use mathlib.Core.Path.{◌≡◌, refl, sym, ap, ◌∙◌}
 use Prim.Native.Nat.{ℕ, ◌+◌, ◌≤◌}
 use native.Mathlib.Omega.{arith}
 use lib.Dec.{leb-zero}
@@ -22,6 +22,7 @@ use Rattle.line.specs.With.{AfterSent, on_flow}
 use Rattle.line.specs.declared.Line.{Line}
 use Rattle.line.specs.Promise.{on, Does}
 use Rattle.line.proofs.Answers.{under_way}
+use Rattle.line.proofs.Turns.{has_does}
 
 -- one message, in the bytes of a turn
 one_message : (x : forms.Message ℕ) → joined (framed (sent_bytes (map_text (λ n. n) x)) ∷ []) ≡ framed (sent_bytes x)
@@ -42,11 +43,9 @@ put_does {at} {sent} {n} {a} {a'} x p l t =
     }
 
 -- and the call goes on behind it
-pub sent_does : {w v : Work} {n : ℕ} {a a' : List ℕ} (x : forms.Message ℕ) → Puts (framed (sent_bytes x)) a w.sent n a' →
+pub sent_does : (w : Work) {v : Work} {n : ℕ} {a a' : List ℕ} (x : forms.Message ℕ) → Puts (framed (sent_bytes x)) a w.sent n a' →
     AfterSent n w v → (l : Line) (t : List ℕ) → Does (sends x) (on l w) t a (on l v) t a'
-sent_does {w} {v} {n} {a} {a'} x p e l t =
-    let there : under_way (on_flow w.flow l) w.at n ≡ on l v = λ i. record { line = on_flow (sym e.flow i) l; at = sym e.at i; sent = sym e.sent i } in
-    subst (λ q. Does (sends x) (on l w) t a q t a') there (put_does x p (on_flow w.flow l) t)
+sent_does w x p e l t = has_does e l (put_does x p (on_flow w.flow l) t)
 
 -- a text in front of a slice lies inside it
 pub text_inside : (n size : ℕ) → n ≤ size → inside size (spans.with_text 3 8 (record { start = 0; len = n })) ≡ true

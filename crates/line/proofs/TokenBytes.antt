@@ -19,7 +19,7 @@ use Rattle.line.specs.declared.Typed.{Typed}
 use Rattle.line.specs.View.{keys_of, token_of}
 use Rattle.line.specs.Bounded.{CountedTyped}
 use Rattle.line.proofs.KeyArrays.{keys_empty}
-use Rattle.line.specs.TokenChanges.{codes_of, untokened, tokened, emptied}
+use Rattle.line.specs.TokenChanges.{codes_of, tokened}
 
 -- a list counted into an array is empty where its count is 0
 pub empty_take : {A : Type 0} (n : ℕ) (xs : List A) → n ≤ length xs → is_empty (take n xs) ≡ eqb n 0
@@ -75,9 +75,3 @@ module _ (t : Typed) (c : CountedTyped t) where
 
   pub grown_counted : (b : ℕ) {next : Typed} → t.token_len < token_size → next ≡ tokened b t → CountedTyped next
   grown_counted b h e = rw e (tokened_counted b h)
-
-  pub untokened_counted : {next : Typed} → next ≡ untokened t → CountedTyped next
-  untokened_counted e = rw e (record { keys_length = c.keys_length; token = c.token; token_length = omega arith })
-
-  pub emptied_counted : {next : Typed} → next ≡ emptied t → CountedTyped next
-  emptied_counted e = rw e (record { keys_length = omega arith; token = c.token; token_length = omega arith })

@@ -15,10 +15,12 @@ use Rattle.screen.specs.View.{Shows}
 use lib.ListN.{length}
 use Rattle.rules.proofs.Area.{puts_append}
 use Rattle.line.specs.declared.Line.{Line}
+use Rattle.line.specs.declared.Flow.{Flow}
 use Rattle.line.specs.declared.Work.{Work}
 use Rattle.line.specs.View.{view, terminal_of}
-use Rattle.line.specs.With.{AfterShown, display_of, on_terminal, on_screen, on_flow}
+use Rattle.line.specs.With.{Has, AfterShown, display_of, on_flow}
 use Rattle.line.specs.Promise.{Progress, on, Does}
+use Rattle.line.proofs.Answers.{under_way}
 
 joined_append : (xs ys : List (List ℕ)) → joined (xs ++ ys) ≡ joined xs ++ joined ys
 unfolding joined
@@ -46,31 +48,30 @@ module _ {f g : Rule ℕ} {w v r : Progress} {t₀ t₁ t₂ m₀ m₁ m₂ : Li
         messages_length = b.messages_length ∙ a.messages_length;
       }
 
+-- a rule done to what a call then has is done by the call
+pub has_does : {p : Rule ℕ} {q : Progress} {t t' m m' : List ℕ} {f : Flow} {at sent : ℕ} {w : Work} → Has f at sent w → (l : Line) →
+    Does p q t m (under_way (on_flow f l) at sent) t' m' → Does p q t m (on l w) t' m'
+has_does {p} {q} {t} {t'} {m} {m'} h l d =
+    subst (λ r. Does p q t m r t' m') (λ i. under_way (on_flow (sym h.flow i) l) (sym h.at i) (sym h.sent i)) d
+
 -- what was shown, bytes that go by the column they begin at, as a rule
 module _ (w : Work) (bytes : ℕ → List ℕ) {area : MutBor (List ℕ)} {old new : Display} {t : List ℕ}
     (e : old ≡ display_of area w) (h : Shows (bytes old.screen.column) old new) (last : new.area.now ≡ t) where
   abbrev shown_bytes : List ℕ
   shown_bytes = bytes w.flow.terminal.screen.column
 
-  abbrev shown_there : Line → Progress
-  shown_there l = record { line = on_flow (on_terminal (on_screen new.screen w.flow.terminal) w.flow) l; at = new.at; sent = w.sent }
-
-  shown_does : (l : Line) (m : List ℕ) → Does (writes shown_bytes) (on l w) area.now m (shown_there l) t m
+  pub writes_does : {r : Work} → AfterShown new.at new.screen w r → (l : Line) (m : List ℕ) → Does (writes shown_bytes) (on l w) area.now m (on l r) t m
   unfolding writes message_bytes joined puts
-  shown_does l m =
+  writes_does after l m =
       let shown : Shows shown_bytes (display_of area w) new = rw e at h in
-      record {
+      has_does after l
+      (record {
         state = λ i. with_terminal (with_screen (shown.screen i) (terminal_of w.flow.terminal)) (view (on_flow w.flow l));
         shows = ap (λ l. spot l new.at) (sym last) ∙ shown.area;
         sends = refl;
         terminal_length = ap length (sym last) ∙ shown.same;
         messages_length = refl;
-      }
-
-  pub writes_does : {r : Work} → AfterShown new.at new.screen w r → (l : Line) (m : List ℕ) → Does (writes shown_bytes) (on l w) area.now m (on l r) t m
-  writes_does {r} e l m =
-      let to : shown_there l ≡ on l r = λ i. record { line = on_flow (sym e.flow i) l; at = sym e.at i; sent = sym e.sent i } in
-      subst (λ p. Does (writes shown_bytes) (on l w) area.now m p t m) to (shown_does l m)
+      })
 
 -- What a rule tells of fates does not show.
 module _ {g : Rule ℕ} {w r : Progress} {t t' m m' : List ℕ} where

@@ -40,21 +40,21 @@ off_read f = record { terminal = f.terminal; typed = f.typed; pending = false; r
 abbrev pub display_of : MutBor (List ℕ) → Work → Display
 display_of area w = record { area = area; at = w.at; screen = w.flow.terminal.screen }
 
+-- what a call on its way then has: this flow, and these next places in the areas
+pub record Has (f : Flow) (a s : ℕ) (w : Work) : Type 0 where
+  pub flow : w.flow ≡ f
+  pub at : w.at ≡ a
+  pub sent : w.sent ≡ s
+
 -- the call goes on with another flow, behind what was shown, and behind what was sent
-pub record GoesOn (f : Flow) (w r : Work) : Type 0 where
-  pub flow : r.flow ≡ f
-  pub at : r.at ≡ w.at
-  pub sent : r.sent ≡ w.sent
+abbrev pub GoesOn : Flow → Work → Work → Type 0
+GoesOn f w r = Has f w.at w.sent r
 
-pub record AfterShown (place : ℕ) (s : Screen) (w r : Work) : Type 0 where
-  pub flow : r.flow ≡ on_terminal (on_screen s w.flow.terminal) w.flow
-  pub at : r.at ≡ place
-  pub sent : r.sent ≡ w.sent
+abbrev pub AfterShown : ℕ → Screen → Work → Work → Type 0
+AfterShown at s w r = Has (on_terminal (on_screen s w.flow.terminal) w.flow) at w.sent r
 
-pub record AfterSent (n : ℕ) (w r : Work) : Type 0 where
-  pub flow : r.flow ≡ w.flow
-  pub at : r.at ≡ w.at
-  pub sent : r.sent ≡ n
+abbrev pub AfterSent : ℕ → Work → Work → Type 0
+AfterSent n w r = Has w.flow w.at n r
 
 -- A line with one part changed.
 abbrev pub on_flow : Flow → Line → Line

@@ -6,7 +6,6 @@ ghost use Rattle.rules.specs.Arrival as rules;
 ghost use Rattle.line.specs.declared.Key.{Key};
 ghost use Rattle.line.specs.declared.Line.{Line};
 ghost use Rattle.line.specs.View.{quoted_key, key_of, reading_of, pending_of};
-ghost use Rattle.line.specs.Bounded.{CountedReading};
 ghost use Rattle.line.specs.With.{on_flow, lent};
 ghost use Rattle.line.specs.KeyArray.{stored};
 ghost use Rattle.line.specs.Promise.{on, Does, DoesOn};
@@ -45,18 +44,10 @@ impl Work {
         ensures rule { (k : Key) (l : Line) → length l.keys ≡ type_ahead_size → (t m : List ℕ) →
             Does (rules.keeps (key_of k).quoted (key_of k).char) (on l self) t m (on (stored k self.flow l) result) t m }
     {
-        let mut flow = self.flow;
-        let mut typed = flow.typed;
-        typed.keys_len = typed.keys_len + 1;
-        flow.typed = typed;
-        let mut reading = flow.reading;
-        reading.idle = 0;
-        flow.reading = reading;
-        Work {
-            flow,
-            at: self.at,
-            sent: self.sent,
-        }
+        let mut next = self;
+        next.flow.typed.keys_len += 1;
+        next.flow.reading.idle = 0;
+        next
     }
 
     // No room: BEL, and the dropped count rises up to its top.
@@ -169,10 +160,10 @@ impl Work {
         terminal: &mut [u8],
         pending: bool,
         r: Reading,
-        text: &[u8],
+        text: &[u8; rules::INPUT_SIZE],
         t: Terms,
     ) -> Work
-        requires counted_reading { CountedReading r text.now }
+        requires input_len_bound { r.input_len ≤ input_size }
         ensures rule { (l : Line) (m : List ℕ) →
             DoesOn (λ k. rules.clears_input codes rules.rubbing_out (pending_of pending (reading_of k r))) (lent t text.now l) self terminal.old
             m result terminal.new m }
@@ -184,8 +175,12 @@ impl Work {
     }
 
     // The clear rule of 24 and Clear Input.
-    pub(crate) fn clears(self, terminal: &mut [u8], text: &[u8], t: Terms) -> Work
-        requires text_len { length text.now ≡ input_size }
+    pub(crate) fn clears(
+        self,
+        terminal: &mut [u8],
+        text: &[u8; rules::INPUT_SIZE],
+        t: Terms,
+    ) -> Work
         ensures rule { (l : Line) (m : List ℕ) →
             DoesOn (λ k. rules.clear_rule codes rules.rubbing_out) (lent t text.now l) self terminal.old m result terminal.new m }
     {
@@ -214,10 +209,10 @@ impl Work {
         messages: &mut [u8],
         pending: bool,
         r: Reading,
-        text: &[u8],
+        text: &[u8; rules::INPUT_SIZE],
         t: Terms,
     ) -> Work
-        requires counted_reading { CountedReading r text.now }
+        requires input_len_bound { r.input_len ≤ input_size }
         ensures rule { (l : Line) (a : List ℕ) →
             DoesOn (λ k. rules.ends_out_of_band codes (pending_of pending (reading_of k r))) (lent t text.now l) self a messages.old result a
             messages.new }
@@ -229,8 +224,13 @@ impl Work {
     }
 
     // Rule 2, immediate clear: Out-of-Band, unlocked, the clear rule without rubbing out, then a pending read completes.
-    pub(crate) fn clears_at_once(self, messages: &mut [u8], c: u8, text: &[u8], t: Terms) -> Work
-        requires text_len { length text.now ≡ input_size }
+    pub(crate) fn clears_at_once(
+        self,
+        messages: &mut [u8],
+        c: u8,
+        text: &[u8; rules::INPUT_SIZE],
+        t: Terms,
+    ) -> Work
         ensures rule { (l : Line) (a : List ℕ) → DoesOn (λ k. rules.clears_at_once codes c) (lent t text.now l) self a messages.old result a messages.new }
     {
         let said = self.sends_out_of_band(messages, c);

@@ -10,26 +10,18 @@ impl Work {
     pub(crate) fn with_terminal(self, t: Terminal) -> Work
         ensures { GoesOn (on_terminal t self.flow) self result }
     {
-        let mut flow = self.flow;
-        flow.terminal = t;
-        Work {
-            flow,
-            at: self.at,
-            sent: self.sent,
-        }
+        let mut next = self;
+        next.flow.terminal = t;
+        next
     }
 
     pub(crate) fn with_typed(self, t: Typed) -> Work
         requires { CountedTyped t }
         ensures { GoesOn (on_typed t self.flow) self result }
     {
-        let mut flow = self.flow;
-        flow.typed = t;
-        Work {
-            flow,
-            at: self.at,
-            sent: self.sent,
-        }
+        let mut next = self;
+        next.flow.typed = t;
+        next
     }
 
     // With this read pending.
@@ -37,25 +29,17 @@ impl Work {
         requires { read.input_len ≤ input_size }
         ensures { GoesOn (on_read read self.flow) self result }
     {
-        let mut flow = self.flow;
-        flow.pending = true;
-        flow.reading = read;
-        Work {
-            flow,
-            at: self.at,
-            sent: self.sent,
-        }
+        let mut next = self;
+        next.flow.pending = true;
+        next.flow.reading = read;
+        next
     }
 
     pub(crate) fn without_read(self) -> Work
         ensures { GoesOn (off_read self.flow) self result }
     {
-        let mut flow = self.flow;
-        flow.pending = false;
-        Work {
-            flow,
-            at: self.at,
-            sent: self.sent,
-        }
+        let mut next = self;
+        next.flow.pending = false;
+        next
     }
 }

@@ -6,7 +6,6 @@ ghost use Rattle.rules.specs.Editing as rules;
 ghost use Rattle.rules.specs.Numbers.{input_size};
 ghost use Rattle.line.specs.declared.Line.{Line};
 ghost use Rattle.line.specs.View.{reading_of};
-ghost use Rattle.line.specs.Bounded.{CountedReading};
 ghost use Rattle.line.specs.ReadChanges.{InOnePass};
 ghost use Rattle.line.specs.With.{lent};
 ghost use Rattle.line.specs.Promise.{DoesOn};
@@ -18,7 +17,7 @@ use rules::characters;
 const NEW_LINE: [u8; 2] = [characters::CR, characters::LF];
 
 // Does nothing: what it requires, `deletes` has to show of the columns worked out.
-fn in_one_pass(columns: usize, left: u16, r: Reading, text: &[u8], t: Terms)
+fn in_one_pass(columns: usize, left: u16, r: Reading, text: &[u8; rules::INPUT_SIZE], t: Terms)
     requires { (l : Line) → InOnePass left (reading_of (lent t text.now l) r) columns }
 {}
 
@@ -39,10 +38,10 @@ impl Work {
         terminal: &mut [u8],
         left: u16,
         r: Reading,
-        text: &[u8],
+        text: &[u8; rules::INPUT_SIZE],
         t: Terms,
     ) -> Work
-        requires counted_reading { CountedReading r text.now }
+        requires input_len_bound { r.input_len ≤ input_size }
         requires left_bound { left ≤ r.input_len }
         ensures rule { (fate : ℕ → Fate ℕ) (l : Line) (m : List ℕ) →
             DoesOn (λ k. rules.deletes codes fate left (reading_of k r)) (lent t text.now l) self terminal.old m result terminal.new m }
@@ -54,8 +53,14 @@ impl Work {
     }
 
     // What follows the prompt, from where the cursor stands.
-    fn displays_data(self, terminal: &mut [u8], r: Reading, text: &[u8], t: Terms) -> Work
-        requires counted_reading { CountedReading r text.now }
+    fn displays_data(
+        self,
+        terminal: &mut [u8],
+        r: Reading,
+        text: &[u8; rules::INPUT_SIZE],
+        t: Terms,
+    ) -> Work
+        requires input_len_bound { r.input_len ≤ input_size }
         ensures rule { (l : Line) (m : List ℕ) →
             DoesOn (λ k. rules.displays_data codes (reading_of k r)) (lent t text.now l) self terminal.old m result terminal.new m }
     {
@@ -73,8 +78,14 @@ impl Work {
     }
 
     // The prompt, and the echo of what follows it if the read echoes.
-    pub(crate) fn displays(self, terminal: &mut [u8], r: Reading, text: &[u8], t: Terms) -> Work
-        requires counted_reading { CountedReading r text.now }
+    pub(crate) fn displays(
+        self,
+        terminal: &mut [u8],
+        r: Reading,
+        text: &[u8; rules::INPUT_SIZE],
+        t: Terms,
+    ) -> Work
+        requires input_len_bound { r.input_len ≤ input_size }
         requires prompt_len_bound { t.prompt_len ≤ input_size }
         ensures rule { (l : Line) (m : List ℕ) →
             DoesOn (λ k. rules.displays codes (reading_of k r)) (lent t text.now l) self terminal.old m result terminal.new m }
@@ -85,8 +96,14 @@ impl Work {
     }
 
     // CR LF, and the display again.
-    pub(crate) fn redisplays(self, terminal: &mut [u8], r: Reading, text: &[u8], t: Terms) -> Work
-        requires counted_reading { CountedReading r text.now }
+    pub(crate) fn redisplays(
+        self,
+        terminal: &mut [u8],
+        r: Reading,
+        text: &[u8; rules::INPUT_SIZE],
+        t: Terms,
+    ) -> Work
+        requires input_len_bound { r.input_len ≤ input_size }
         requires prompt_len_bound { t.prompt_len ≤ input_size }
         ensures rule { (l : Line) (m : List ℕ) →
             DoesOn (λ k. rules.redisplays codes (reading_of k r)) (lent t text.now l) self terminal.old m result terminal.new m }

@@ -1,5 +1,5 @@
 // What an accepted host message does to the flow. What it sets, and the report, are in settings.rt.
-ghost use Rattle.std.specs.Prelude.{ℕ, ◌≤◌, ◌≡◌, List, [], ◌∷◌, length};
+ghost use Rattle.std.specs.Prelude.{ℕ, ◌≤◌, List, [], ◌∷◌};
 ghost use Rattle.rules.specs.Numbers.{input_size};
 ghost use Rattle.rules.specs.State.{codes};
 ghost use Rattle.rules.specs.Messages.Forms.{plain, unread};
@@ -30,8 +30,13 @@ impl Work {
     }
 
     // Unread: always, or only with nothing typed.
-    fn unreads(self, messages: &mut [u8], condition: u8, text: &[u8], t: Terms) -> Work
-        requires text_len { length text.now ≡ input_size }
+    fn unreads(
+        self,
+        messages: &mut [u8],
+        condition: u8,
+        text: &[u8; rules::INPUT_SIZE],
+        t: Terms,
+    ) -> Work
         ensures rule { (l : Line) (a : List ℕ) →
             DoesOn (λ k. reads.unreads codes (plain unread (condition ∷ []))) (lent t text.now l) self a messages.old result a
             messages.new }
@@ -56,10 +61,9 @@ impl Work {
         s: &[u8],
         terminal: &mut [u8],
         messages: &mut [u8],
-        text: &[u8],
+        text: &[u8; rules::INPUT_SIZE],
         t: Terms,
     ) -> Work
-        requires text_len { length text.now ≡ input_size }
         requires prompt_len_bound { t.prompt_len ≤ input_size }
         requires startable_message { StartableMessage s.now m }
         ensures rule { (l : Line) → Prompts t l m →

@@ -1,5 +1,6 @@
 // A read completes.
 ghost use Rattle.std.specs.Prelude.{ℕ, ◌≤◌, ◌≡◌, true, false, length, List};
+ghost use Rattle.rules.specs.Numbers.{input_size};
 ghost use Rattle.rules.specs.State.{codes};
 ghost use Rattle.rules.specs.Messages.Codec as codec;
 ghost use Rattle.rules.specs.ReadData as rules;
@@ -93,10 +94,10 @@ impl Work {
         by: Completion,
         ending: u16,
         r: Reading,
-        text: &[u8],
+        text: &[u8; rules::INPUT_SIZE],
         t: Terms,
     ) -> Work
-        requires counted_reading { CountedReading r text.now }
+        requires input_len_bound { r.input_len ≤ input_size }
         requires ending_bound { ending ≤ r.input_len }
         ensures rule { (k l : Line) (a : List ℕ) →
             Does (rules.sends_read_data codes (code_of by) ending (reading_of (lent t text.now l) r)) (on k self) a messages.old (on k result) a
@@ -113,10 +114,10 @@ impl Work {
         by: Completion,
         ending: u16,
         r: Reading,
-        text: &[u8],
+        text: &[u8; rules::INPUT_SIZE],
         t: Terms,
     ) -> Work
-        requires counted_reading { CountedReading r text.now }
+        requires input_len_bound { r.input_len ≤ input_size }
         requires ending_bound { ending ≤ r.input_len }
         ensures rule { (k l : Line) (a : List ℕ) →
             Does (rules.completes codes (code_of by) ending (reading_of (lent t text.now l) r)) (on k self) a messages.old (on k result) a

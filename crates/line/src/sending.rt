@@ -20,12 +20,9 @@ impl Work {
     pub(crate) fn sent_up_to(self, sent: usize) -> Work
         ensures { AfterSent sent self result }
     {
-        let flow = self.flow;
-        Work {
-            flow,
-            at: self.at,
-            sent,
-        }
+        let mut next = self;
+        next.sent = sent;
+        next
     }
 
     // A message without parameters, whose text stands in a slice.

@@ -9,7 +9,7 @@ ghost use Rattle.rules.specs.StartRead.Acceptance as rules;
 ghost use Rattle.fields.specs.Spans.{span_of};
 ghost use Rattle.message.specs.Found.{start_read_in};
 ghost use Rattle.sets.specs.View.{set_of, CountedSet};
-ghost use Rattle.line.specs.Bounded.{Counted, CountedReading};
+ghost use Rattle.line.specs.Bounded.{Counted};
 ghost use Rattle.line.specs.StartRead.{Startable, reading_at, terms_for, Opens};
 ghost use Rattle.rules.specs.State.{codes};
 ghost use Rattle.rules.specs.Turns.{writes, only};
@@ -128,7 +128,6 @@ fn data_of(f: StartReadFields, s: &[u8]) -> &[u8]
 
 // A piece of a read's text, put at its place.
 fn put_text(text: &mut [u8; rules::INPUT_SIZE], at: usize, piece: &[u8])
-    requires text_len { length text.old ≡ input_size }
     requires piece_bound { at + length piece.now ≤ input_size }
     ensures { text.new ≡ sets text.old at piece.now }
 {
@@ -227,10 +226,10 @@ impl Work {
         messages: &mut [u8],
         full: bool,
         r: Reading,
-        text: &[u8],
+        text: &[u8; rules::INPUT_SIZE],
         t: Terms,
     ) -> Work
-        requires counted_reading { CountedReading r text.now }
+        requires input_len_bound { r.input_len ≤ input_size }
         ensures rule { (l : Line) (a : List ℕ) →
             DoesOn (λ k. only full (completes codes by_full_buffer no_ending (reading_of k r))) (lent t text.now l) self a messages.old result a
             messages.new }
@@ -248,10 +247,9 @@ impl Work {
         messages: &mut [u8],
         f: StartReadFields,
         s: &[u8],
-        text: &[u8],
+        text: &[u8; rules::INPUT_SIZE],
         t: Terms,
     ) -> Work
-        requires text_len { length text.now ≡ input_size }
         requires prompt_len_bound { t.prompt_len ≤ input_size }
         requires startable { Startable s.now f }
         ensures rule { (l : Line) → t.auto_prompt ≡ l.switches.prompting →

@@ -1,11 +1,10 @@
 // A step takes a key as data, a terminator, an edit or a part of a token.
-ghost use Rattle.std.specs.Prelude.{ℕ, ◌+◌, ◌≤◌, ◌<◌, ◌≡◌, List, length};
+ghost use Rattle.std.specs.Prelude.{ℕ, ◌+◌, ◌≤◌, ◌<◌, List};
 ghost use Rattle.rules.specs.Numbers.{input_size, token_size};
 ghost use Rattle.rules.specs.State.{codes};
 ghost use Rattle.rules.specs.Steps as rules;
 ghost use Rattle.line.specs.declared.Line.{Line};
 ghost use Rattle.line.specs.View.{reading_of};
-ghost use Rattle.line.specs.Bounded.{CountedReading};
 ghost use Rattle.line.specs.With.{lent};
 ghost use Rattle.line.specs.ReadChanges.{HasRoom};
 ghost use Rattle.line.specs.Promise.{on, Does, DoesAcross};
@@ -28,18 +27,17 @@ const UNDERFLOW_RINGS: u8 = 1;
 
 const UNDERFLOW_COMPLETES: u8 = 2;
 
+// Where the text is lent to be changed it stands before the areas: so a proof knows its length after a call too.
 impl Work {
     // A token that fits completes the read.
     fn ends_by_token(
         self,
-        messages: &mut [u8],
         r: Reading,
         text: &mut [u8; rules::INPUT_SIZE],
         t: Terms,
+        messages: &mut [u8],
     ) -> Work
-        requires counted_reading { CountedReading r text.old }
         requires prompt_len_bound { r.input_len + self.flow.typed.token_len + t.prompt_len ≤ input_size }
-        ensures sized { length text.new ≡ input_size }
         ensures rule { (l : Line) (a : List ℕ) →
             DoesAcross (λ k. rules.ends_by_token codes (reading_of k r)) (lent t text.old l) self a messages.old (lent t text.new l)
             result a messages.new }
@@ -58,14 +56,12 @@ impl Work {
     // A whole token: one that does not fit stays held.
     pub(crate) fn takes_token(
         self,
-        messages: &mut [u8],
         r: Reading,
         text: &mut [u8; rules::INPUT_SIZE],
         t: Terms,
+        messages: &mut [u8],
     ) -> Work
-        requires counted_reading { CountedReading r text.old }
         requires has_room { HasRoom t r }
-        ensures sized { length text.new ≡ input_size }
         ensures rule { (l : Line) (a : List ℕ) →
             DoesAcross (λ k. rules.takes_token codes (reading_of k r)) (lent t text.old l) self a messages.old (lent t text.new l) result
             a messages.new }
@@ -73,7 +69,7 @@ impl Work {
         let flow = self.flow;
         let typed = flow.typed;
         if r.end(t) + typed.token_len as u32 <= t.max_length as u32 {
-            return self.ends_by_token(messages, r, text, t);
+            return self.ends_by_token(r, text, t, messages);
         }
         self.completes(messages, Completion::Absentee, NO_ENDING, r, text, t)
     }
@@ -81,16 +77,14 @@ impl Work {
     // Rules 1 and 3.
     pub(crate) fn adds_to_token(
         self,
-        messages: &mut [u8],
         c: u8,
         r: Reading,
         text: &mut [u8; rules::INPUT_SIZE],
         t: Terms,
+        messages: &mut [u8],
     ) -> Work
-        requires counted_reading { CountedReading r text.old }
         requires has_room { HasRoom t r }
         requires token_len_bound { self.flow.typed.token_len < token_size }
-        ensures sized { length text.new ≡ input_size }
         ensures rule { (l : Line) (a : List ℕ) → DoesAcross (λ k. rules.adds_to_token codes c (reading_of k r)) (lent t text.old l) self a messages.old
             (lent t text.new l) result a messages.new }
     {
@@ -99,7 +93,7 @@ impl Work {
         let next = typed.tokened(c);
         let ready = self.with_typed(next);
         if next.is_held() {
-            return ready.takes_token(messages, r, text, t);
+            return ready.takes_token(r, text, t, messages);
         }
         ready
     }
@@ -125,16 +119,14 @@ impl Work {
     // Rule 7, data.
     pub(crate) fn takes_data(
         self,
-        terminal: &mut [u8],
-        messages: &mut [u8],
         c: u8,
         r: Reading,
         text: &mut [u8; rules::INPUT_SIZE],
         t: Terms,
+        terminal: &mut [u8],
+        messages: &mut [u8],
     ) -> Work
-        requires counted_reading { CountedReading r text.old }
         requires has_room { HasRoom t r }
-        ensures sized { length text.new ≡ input_size }
         ensures rule { (l : Line) →
             DoesAcross (λ k. rules.takes_data codes c (reading_of k r)) (lent t text.old l) self terminal.old messages.old
             (lent t text.new l) result terminal.new messages.new }
@@ -151,16 +143,14 @@ impl Work {
     // Rule 5, a terminator.
     pub(crate) fn terminates(
         self,
-        terminal: &mut [u8],
-        messages: &mut [u8],
         c: u8,
         r: Reading,
         text: &mut [u8; rules::INPUT_SIZE],
         t: Terms,
+        terminal: &mut [u8],
+        messages: &mut [u8],
     ) -> Work
-        requires counted_reading { CountedReading r text.old }
         requires has_room { HasRoom t r }
-        ensures sized { length text.new ≡ input_size }
         ensures rule { (l : Line) →
             DoesAcross (λ k. rules.terminates codes c (reading_of k r)) (lent t text.old l) self terminal.old messages.old
             (lent t text.new l) result terminal.new messages.new }
@@ -173,16 +163,14 @@ impl Work {
     // 127 or 23 with nothing to delete.
     fn underflows(
         self,
-        terminal: &mut [u8],
-        messages: &mut [u8],
         c: u8,
         r: Reading,
         text: &mut [u8; rules::INPUT_SIZE],
         t: Terms,
+        terminal: &mut [u8],
+        messages: &mut [u8],
     ) -> Work
-        requires counted_reading { CountedReading r text.old }
         requires has_room { HasRoom t r }
-        ensures sized { length text.new ≡ input_size }
         ensures rule { (l : Line) →
             DoesAcross (λ k. rules.underflows codes c (reading_of k r)) (lent t text.old l) self terminal.old messages.old
             (lent t text.new l) result terminal.new messages.new }
@@ -201,25 +189,23 @@ impl Work {
     // 127 and 23, which leave so many characters.
     fn erases(
         self,
-        terminal: &mut [u8],
-        messages: &mut [u8],
         left: u16,
         c: u8,
         r: Reading,
         text: &mut [u8; rules::INPUT_SIZE],
         t: Terms,
+        terminal: &mut [u8],
+        messages: &mut [u8],
     ) -> Work
-        requires counted_reading { CountedReading r text.old }
         requires has_room { HasRoom t r }
         requires left_bound { left ≤ r.input_len }
-        ensures sized { length text.new ≡ input_size }
         ensures rule { (l : Line) →
             DoesAcross (λ k. rules.erases codes left c (reading_of k r)) (lent t text.old l) self terminal.old messages.old
             (lent t text.new l) result terminal.new messages.new }
     {
         let count = r.input_len;
         if count == 0 {
-            return self.underflows(terminal, messages, c, r, text, t);
+            return self.underflows(c, r, text, t, terminal, messages);
         }
         self.deletes(terminal, left, r, text, t)
     }
@@ -227,27 +213,25 @@ impl Work {
     // Rule 6.
     pub(crate) fn edits(
         self,
-        terminal: &mut [u8],
-        messages: &mut [u8],
         c: u8,
         r: Reading,
         text: &mut [u8; rules::INPUT_SIZE],
         t: Terms,
+        terminal: &mut [u8],
+        messages: &mut [u8],
     ) -> Work
-        requires counted_reading { CountedReading r text.old }
         requires has_room { HasRoom t r }
-        ensures sized { length text.new ≡ input_size }
         ensures rule { (l : Line) →
             DoesAcross (λ k. rules.edits codes c (reading_of k r)) (lent t text.old l) self terminal.old messages.old
             (lent t text.new l) result terminal.new messages.new }
     {
         if c == DELETE_KEY {
             let left = r.left_by_delete();
-            return self.erases(terminal, messages, left, c, r, text, t);
+            return self.erases(left, c, r, text, t, terminal, messages);
         }
         if c == DELETE_WORD_KEY {
             let left = r.left_by_delete_word(text);
-            return self.erases(terminal, messages, left, c, r, text, t);
+            return self.erases(left, c, r, text, t, terminal, messages);
         }
         if c == DELETE_LINE_KEY {
             return self.deletes(terminal, 0, r, text, t);

@@ -1,6 +1,6 @@
 // Which act a step or a tick meets, what a step looks up for it, and the first key taken.
 ghost use Rattle.std.specs.Prelude.{ℕ, ◌<◌, ◌≡◌, true, List, [], length, get_or};
-ghost use Rattle.rules.specs.Numbers.{input_size, type_ahead_size};
+ghost use Rattle.rules.specs.Numbers.{type_ahead_size};
 ghost use Rattle.rules.specs.State.{codes};
 ghost use Rattle.rules.specs.StartRead.{in_set};
 ghost use Rattle.rules.specs.Turns.{◌then◌};
@@ -152,33 +152,23 @@ impl Work {
         requires keys_len_nonzero { 0 < self.flow.typed.keys_len }
         ensures { HasTakenKey self result }
     {
-        let mut flow = self.flow;
-        let mut typed = flow.typed;
-        typed.keys_len = typed.keys_len - 1;
-        flow.typed = typed;
-        flow.pending = true;
-        let r = flow.reading;
-        let next = r.with_idle(0);
-        flow.reading = next;
-        Work {
-            flow,
-            at: self.at,
-            sent: self.sent,
-        }
+        let mut next = self;
+        next.flow.typed.keys_len -= 1;
+        next.flow.pending = true;
+        next.flow.reading.idle = 0;
+        next
     }
 
     // The first key is taken, and meets its rule.
     pub(crate) fn takes(
         self,
         k: Taken,
-        terminal: &mut [u8],
-        messages: &mut [u8],
         text: &mut [u8; rules::INPUT_SIZE],
         t: Terms,
+        terminal: &mut [u8],
+        messages: &mut [u8],
     ) -> Work
-        requires text_len { length text.old ≡ input_size }
         requires can_take_key { CanTakeKey self.flow t }
-        ensures sized { length text.new ≡ input_size }
         ensures rule { (l : Line) → length l.keys ≡ type_ahead_size →
             DoesAcross (λ j. takes_key (on_flow self.flow j) then taken_rule k (idle_at_zero (on_flow self.flow j))) (lent t text.old l) self
             terminal.old messages.old (lent t text.new (shifted self.flow l)) result terminal.new messages.new }
@@ -187,10 +177,10 @@ impl Work {
         let flow = taken.flow;
         let r = flow.reading;
         match k {
-            Taken::Token(c) => taken.adds_to_token(messages, c, r, text, t),
-            Taken::Terminator(c) => taken.terminates(terminal, messages, c, r, text, t),
-            Taken::Edit(c) => taken.edits(terminal, messages, c, r, text, t),
-            Taken::Data(c) => taken.takes_data(terminal, messages, c, r, text, t),
+            Taken::Token(c) => taken.adds_to_token(c, r, text, t, messages),
+            Taken::Terminator(c) => taken.terminates(c, r, text, t, terminal, messages),
+            Taken::Edit(c) => taken.edits(c, r, text, t, terminal, messages),
+            Taken::Data(c) => taken.takes_data(c, r, text, t, terminal, messages),
         }
     }
 

@@ -158,8 +158,13 @@ impl Work {
     }
 
     // UU 3: a pending read is redisplayed as 18 does.
-    fn redisplays_if_asked(self, terminal: &mut [u8], lock: u8, text: &[u8], t: Terms) -> Work
-        requires text_len { length text.now ≡ input_size }
+    fn redisplays_if_asked(
+        self,
+        terminal: &mut [u8],
+        lock: u8,
+        text: &[u8; rules::INPUT_SIZE],
+        t: Terms,
+    ) -> Work
         requires prompt_len_bound { t.prompt_len ≤ input_size }
         ensures rule { (l : Line) (m : List ℕ) →
             DoesOn (λ k. rules.redisplays_if_asked codes lock) (lent t text.now l) self terminal.old m result terminal.new m }
@@ -179,10 +184,9 @@ impl Work {
         messages: &mut [u8],
         f: WriteFields,
         s: &[u8],
-        text: &[u8],
+        text: &[u8; rules::INPUT_SIZE],
         t: Terms,
     ) -> Work
-        requires text_len { length text.now ≡ input_size }
         requires prompt_len_bound { t.prompt_len ≤ input_size }
         ensures rule { (l : Line) →
             DoesOn (λ k. rules.writes_out codes (write_in s.now f)) (lent t text.now l) self terminal.old messages.old result

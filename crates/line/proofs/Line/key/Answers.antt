@@ -13,7 +13,7 @@ acts_on_key-arrived-requires c =
     let pre = c.requires in
     let l = c.args.self in
     let act = c.act_if-arrival.ensures in
-    record { text_len = pre.counted.text; doable = act_doable l 0 0 pre.counted (λ y. act.rule [] l y (refl, refl)) act.none; act_value = act.kind }
+    record { doable = act_doable l 0 0 pre.counted (λ y. act.rule [] l y (refl, refl)) act.none; act_value = act.kind }
 
 pub move_keys-requires-2 : goal.move_keys-requires-2
 move_keys-requires-2 c =
@@ -31,7 +31,7 @@ acts_on_step-done-requires c =
     let can = keystroke_doable a.code (omega (arith, c.well_formed)) l c.requires a.terminal.now a.messages.now (λ y. c.act_if-arrival.ensures.rule [] l y (refl, refl)) c.act_if-arrival.ensures.none
     arrived.result _ _ _ c.move_keys.ensures (arrived.ensures.rule l) arrived.ensures.none
     (λ y bounded. act.rule [] (on_keys _ l) y (c.look_up_for_step-lookup.ensures [] (on_keys _ l) bounded refl refl)) act.none in
-    record { text_len = c.requires.counted.text; doable = can; act_value = act.kind }
+    record { doable = can; act_value = act.kind }
 
 pub returns : goal.returns
 unfolding event_rule

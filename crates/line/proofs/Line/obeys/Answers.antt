@@ -21,7 +21,7 @@ acts_on_host-done-requires c =
     let next = set.result in
     let counted = set_counted a.s.now a.self next a.m c.requires.bounded.counted set.ensures in
     let doable = subst (Doable a.s.now next.flow next.terms) (sym (c.act_of-act.ensures.obeys a.m refl)) (startables a.self a.s.now a.m c.requires.accepted) in
-    record { text_len = counted.text; prompt_len_bound = counted.prompt; doable = doable; act_value = c.act_of-act.ensures.kind }
+    record { prompt_len_bound = counted.prompt; doable = doable; act_value = c.act_of-act.ensures.kind }
 
 pub returns : goal.returns
 returns c =

@@ -2,7 +2,7 @@ use mathlib.Core.Path.{sym, ap, ◌∙◌, subst}
 use Prim.Native.Nat.{◌-◌}
 use native.Mathlib.Omega.{arith}
 use lib.ListN.{length}
-use lib.Seq.{sets, length-sets}
+use lib.Seq.{sets}
 use Rattle.line.specs.StartRead.{on_opened, Opens}
 use Rattle.rules.proofs.Numbers.{input_word, input_numeral, input_size_lem}
 use Rattle.line.proofs.StartRead.{pieces_fit, line_opens}
@@ -15,7 +15,7 @@ pub put_text-requires : goal.put_text-requires
 put_text-requires c =
     let pre = c.requires in
     let room = pieces_fit pre.startable c.prompt_of-prompt.ensures c.data_of-data.ensures in
-    record { text_len = pre.counted.text; piece_bound = omega arith }
+    record { piece_bound = omega arith }
 
 pub overflow_sub-size : goal.overflow_sub-size
 overflow_sub-size c = let room = pieces_fit c.requires.startable c.prompt_of-prompt.ensures c.data_of-data.ensures in omega (arith, input_size_lem)
@@ -23,7 +23,7 @@ overflow_sub-size c = let room = pieces_fit c.requires.startable c.prompt_of-pro
 pub put_text-requires-2 : goal.put_text-requires-2
 put_text-requires-2 c =
     let room = pieces_fit c.requires.startable c.prompt_of-prompt.ensures c.data_of-data.ensures in
-    record { text_len = ap length c.put_text.ensures ∙ length-sets c.args.self.text 0 c.data_of-data.result.now ∙ c.requires.counted.text; piece_bound = omega (arith, input_size_lem) }
+    record { piece_bound = omega (arith, input_size_lem) }
 
 pub returns : goal.returns
 returns c =

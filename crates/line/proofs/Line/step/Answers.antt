@@ -14,7 +14,7 @@ unfolding event_rule
 acts_on_step-done-requires c =
     let l = c.args.self in
     let act = c.act_if-act.ensures in
-    record { text_len = c.requires.counted.text; doable = act_doable {rule = steps codes} l 0 0 c.requires.counted (λ y. act.rule [] l y (c.look_up_for_step-lookup.ensures [] l c.requires refl refl)) act.none; act_value = act.kind }
+    record { doable = act_doable {rule = steps codes} l 0 0 c.requires.counted (λ y. act.rule [] l y (c.look_up_for_step-lookup.ensures [] l c.requires refl refl)) act.none; act_value = act.kind }
 
 pub returns : goal.returns
 unfolding answers is_byte_event event_rule

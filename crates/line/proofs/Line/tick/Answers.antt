@@ -12,7 +12,7 @@ use Rattle.line.proofs.Line.tick.Goals as goal
 pub acts_on_tick-done-requires : goal.acts_on_tick-done-requires
 acts_on_tick-done-requires c =
     let act = c.act_if-act.ensures in
-    record { text_len = c.requires.counted.text; act_value = act.kind }
+    record { act_value = act.kind }
 
 pub returns : goal.returns
 unfolding answers is_byte_event event_rule

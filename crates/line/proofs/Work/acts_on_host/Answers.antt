@@ -9,7 +9,7 @@ pub obeys-requires : goal.obeys-requires
 obeys-requires c =
     let pre = c.requires in
     let a = c.args in
-    record { text_len = pre.text_len; prompt_len_bound = pre.prompt_len_bound; startable_message = subst (Doable a.s.now a.self.flow a.t) c.in-Obeys.is pre.doable }
+    record { prompt_len_bound = pre.prompt_len_bound; startable_message = subst (Doable a.s.now a.self.flow a.t) c.in-Obeys.is pre.doable }
 
 pub returns-in-Obeys : goal.returns-in-Obeys
 returns-in-Obeys c =

@@ -19,7 +19,7 @@ pub takes_token-requires : goal.takes_token-requires
 takes_token-requires c =
     let self = c.args.self in
     let grown = grown_counted self.flow.typed c.args.self.counted.typed _ c.requires.token_len_bound c.tokened-next.ensures in
-    record { counted_reading = c.requires.counted_reading; has_room = c.requires.has_room }
+    record { has_room = c.requires.has_room }
 
 pub returns-then-is_held : goal.returns-then-is_held
 unfolding adds_to_token
@@ -28,7 +28,6 @@ returns-then-is_held c =
     let ready = c.with_typed-ready.ensures in
     let whole = ap (λ f. is_whole (codes_of f.typed)) ready.flow ∙ sym c.is_held.ensures ∙ c.if-is_held.true in
     let taken = c.takes_token.ensures in record {
-      sized = taken.sized;
       rule = λ l x.
           told_does _
           (then_does (tokened_does a.self ready a.c c.args.self.counted.typed c.requires.token_len_bound c.tokened-next.ensures (lent a.t a.text.now l) x _)
@@ -42,7 +41,6 @@ returns c =
     let ready = c.with_typed-ready.ensures in
     let next = c.tokened-next.ensures in
     let whole = ap (λ f. is_whole (codes_of f.typed)) ready.flow ∙ sym c.is_held.ensures ∙ c.if-is_held.false in record {
-      sized = c.requires.counted_reading.full;
       rule = λ l x.
           told_does _
           (then_does (tokened_does a.self ready a.c c.args.self.counted.typed c.requires.token_len_bound next (lent a.t a.text.now l) x _)

@@ -19,14 +19,14 @@ displays-displayed-requires c =
     let pre = c.requires in
     let k = pre.startable in
     let count = ap (λ r. r.input_len) c.reading_at-r.ensures in
-    record { counted_reading = record { within = omega (arith, count, k.within, k.largest); full = pre.text_len }; prompt_len_bound = pre.prompt_len_bound }
+    record { input_len_bound = omega (arith, count, k.within, k.largest); prompt_len_bound = pre.prompt_len_bound }
 
 pub completes_if-requires : goal.completes_if-requires
 completes_if-requires c =
     let pre = c.requires in
     let k = pre.startable in
     let count = ap (λ r. r.input_len) c.reading_at-r.ensures in
-    record { counted_reading = record { within = omega (arith, count, k.within, k.largest); full = pre.text_len } }
+    record { input_len_bound = omega (arith, count, k.within, k.largest) }
 
 pub returns : goal.returns
 unfolding begins clears_first feeds_line auto_prompts completes_if_full start_read_in

@@ -8,7 +8,7 @@ use Rattle.line.proofs.Work.clears.Goals as goal
 pub clears_rubbing_out-requires : goal.clears_rubbing_out-requires
 clears_rubbing_out-requires c =
     let counted = c.empties_typed-next.result.counted in
-    record { counted_reading = record { within = counted.within; full = c.requires.text_len } }
+    record { input_len_bound = counted.within }
 
 pub returns : goal.returns
 unfolding clear_rule

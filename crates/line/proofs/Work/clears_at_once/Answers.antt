@@ -11,7 +11,7 @@ clears_without_rubbing-cleared-requires c = let counted = c.empties_typed-emptie
 pub ends_out_of_band-requires : goal.ends_out_of_band-requires
 ends_out_of_band-requires c =
     let counted = c.clears_without_rubbing-cleared.result.counted in
-    record { counted_reading = record { within = counted.within; full = c.requires.text_len } }
+    record { input_len_bound = counted.within }
 
 pub returns : goal.returns
 unfolding clears_at_once clear_rule unlocks

@@ -5,7 +5,7 @@ use Rattle.line.proofs.FlowChanges.{off_does}
 use Rattle.line.proofs.Work.completes.Goals as goal
 
 pub sends_read_data-answered-requires : goal.sends_read_data-answered-requires
-sends_read_data-answered-requires c = record { counted_reading = c.requires.counted_reading; ending_bound = c.requires.ending_bound }
+sends_read_data-answered-requires c = record { input_len_bound = c.requires.input_len_bound; ending_bound = c.requires.ending_bound }
 
 pub returns : goal.returns
 unfolding completes

@@ -28,7 +28,7 @@ pub slice_bounds-write-end : goal.slice_bounds-write-end
 slice_bounds-write-end c = omega (arith, input_size_lem)
 
 pub displays_data-requires : goal.displays_data-requires
-displays_data-requires c = record { counted_reading = c.requires.counted_reading }
+displays_data-requires c = record { input_len_bound = c.requires.input_len_bound }
 
 pub returns : goal.returns
 unfolding displays prompt_of
@@ -36,8 +36,8 @@ returns c =
     let a = c.args in
     let text = a.text.now in
     let from = input_numeral - a.t.prompt_len in
-    let all : length text ≤ from + (length text - from) = omega arith in
+    let all : length text ≤ from + (input_numeral - from) = omega (arith, c.told-text) in
     let place : from ≡ input_size - a.t.prompt_len = omega (arith, input_size_lem) in
-    let prompt = all_behind text from (length text - from) all ∙ ap (λ n. drop n text) place in
+    let prompt = all_behind text from (input_numeral - from) all ∙ ap (λ n. drop n text) place in
     let shown = c.displays_data.ensures in
     record { rule = λ l m. then_does (same_writes prompt (c.write-prompted.ensures.rule (lent a.t text l) m)) (shown.rule l m) }

@@ -8,7 +8,12 @@ use Rattle.rules.specs.Editing.{displays_data}
 use Rattle.line.specs.With.{lent}
 use Rattle.line.proofs.Turns.{then_does}
 use Rattle.line.proofs.FlowChanges.{same_writes, blank_does, here_rule, read_does, display_column_same}
+use Rattle.rules.proofs.Numbers.{input_size_lem}
+use native.Mathlib.Omega.{arith}
 use Rattle.line.proofs.Work.displays_data.Goals as goal
+
+pub slice_bounds-echo_all-end : goal.slice_bounds-echo_all-end
+slice_bounds-echo_all-end c = omega (arith, c.requires.input_len_bound, input_size_lem)
 
 pub returns-then-t : goal.returns-then-t
 unfolding displays_data

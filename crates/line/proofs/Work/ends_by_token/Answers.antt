@@ -1,4 +1,4 @@
-use mathlib.Core.Path.{refl, sym, ◌∙◌}
+use mathlib.Core.Path.{refl, sym}
 use native.Mathlib.Omega.{arith}
 use Rattle.line.specs.View.{token_of}
 use Rattle.line.specs.With.{lent}
@@ -7,6 +7,7 @@ use Rattle.rules.proofs.Numbers.{waiting_byte}
 use Rattle.line.proofs.Turns.{then_does}
 use Rattle.line.proofs.TokenBytes.{token-length, token_counted}
 use Rattle.line.proofs.FlowChanges.{here_rule, completes_as, cleared_does, ended_does}
+use Rattle.line.proofs.LentText.{lent_reading}
 use Rattle.line.proofs.Work.ends_by_token.Goals as goal
 
 pub slice_bounds-push_all-end : goal.slice_bounds-push_all-end
@@ -15,7 +16,7 @@ slice_bounds-push_all-end c = token-length c.args.self.flow.typed c.args.self.co
 pub push_all-next-requires : goal.push_all-next-requires
 push_all-next-requires c =
     let long = token-length c.args.self.flow.typed c.args.self.counted.typed in
-    record { counted_reading = c.requires.counted_reading; cs_bound = omega (arith, c.requires.prompt_len_bound) }
+    record { counted_reading = lent_reading c.args.text.now c.told-text c.args.r (omega (arith, c.requires.prompt_len_bound)); cs_bound = omega (arith, c.requires.prompt_len_bound) }
 
 pub token_completion-by-requires : goal.token_completion-by-requires
 token_completion-by-requires c = c.args.self.counted.typed
@@ -28,7 +29,7 @@ completes-requires c =
     let self = c.args.self in
     let next = c.push_all-next.ensures in
     let typed = c.with_typed-ready.ensures in
-    let long = token-length self.flow.typed c.args.self.counted.typed in record { counted_reading = record { within = omega (arith, next.count, c.requires.prompt_len_bound); full = next.size ∙ c.requires.counted_reading.full }; ending_bound = omega (arith, next.count) }
+    let long = token-length self.flow.typed c.args.self.counted.typed in record { input_len_bound = omega (arith, next.count, c.requires.prompt_len_bound); ending_bound = omega (arith, next.count) }
 
 pub returns : goal.returns
 unfolding ends_by_token token_of
@@ -38,7 +39,6 @@ returns c =
     let long = token-length typed c.args.self.counted.typed in
     let next = c.push_all-next.ensures in
     let done = c.completes in record {
-      sized = next.size ∙ c.requires.counted_reading.full;
       rule = λ l x.
           let line = lent a.t a.text.now l in
           ended_does done.result a.t a.text.now _ l done.ensures.ended

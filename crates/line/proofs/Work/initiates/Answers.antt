@@ -6,4 +6,4 @@ pub returns : goal.returns
 returns c =
     let e = c.sent_up_to.ensures in
     let puts = c.put_initiate.ensures in
-    record { rule = λ l t. sent_does _ (search rules) e l t }
+    record { rule = λ l t. sent_does c.args.self _ (search rules) e l t }

@@ -3,8 +3,8 @@ use Rattle.rules.proofs.Numbers.{waiting_byte}
 use Rattle.line.proofs.ArrivalLaws.{keeps_does}
 use Rattle.line.proofs.Work.keeps.Goals as goal
 
-pub overflow_add-typed : goal.overflow_add-typed
-overflow_add-typed c = omega (arith, waiting_byte)
+pub overflow_add-next : goal.overflow_add-next
+overflow_add-next c = omega (arith, waiting_byte)
 
 pub returns : goal.returns
 returns c =

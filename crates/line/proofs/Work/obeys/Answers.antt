@@ -8,7 +8,7 @@ use Rattle.line.proofs.Work.obeys.Goals as goal
 pub begins-requires : goal.begins-requires
 begins-requires c =
     let pre = c.requires in
-    record { text_len = pre.text_len; prompt_len_bound = pre.prompt_len_bound; startable = subst (StartableMessage c.args.s.now) c.in-StartRead.is pre.startable_message }
+    record { prompt_len_bound = pre.prompt_len_bound; startable = subst (StartableMessage c.args.s.now) c.in-StartRead.is pre.startable_message }
 
 pub returns-in-Initiate : goal.returns-in-Initiate
 returns-in-Initiate c =

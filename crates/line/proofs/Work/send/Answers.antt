@@ -4,4 +4,4 @@ use Rattle.line.proofs.Work.send.Goals as goal
 
 pub returns : goal.returns
 returns c =
-    record { rule = λ x k. let puts = c.put_framed.ensures.sent x k in sent_does x (search rules) c.sent_up_to.ensures }
+    record { rule = λ x k. let puts = c.put_framed.ensures.sent x k in sent_does c.args.self x (search rules) c.sent_up_to.ensures }

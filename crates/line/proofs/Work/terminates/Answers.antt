@@ -1,19 +1,20 @@
-use mathlib.Core.Path.{refl, ◌∙◌}
+use mathlib.Core.Path.{refl}
 use native.Mathlib.Omega.{arith}
 use Rattle.rules.specs.Steps.{terminates}
 use Rattle.line.specs.With.{lent}
 use Rattle.line.proofs.Turns.{then_does}
 use Rattle.line.proofs.FlowChanges.{completes_as, ended_does}
+use Rattle.line.proofs.LentText.{room_reading}
 use Rattle.line.proofs.Work.terminates.Goals as goal
 
 pub push-next-requires : goal.push-next-requires
-push-next-requires c = let pre = c.requires in record { counted_reading = pre.counted_reading; input_len_bound = omega (arith, pre.has_room.room, pre.has_room.largest) }
+push-next-requires c = let pre = c.requires in record { counted_reading = room_reading c.args.text.now c.told-text c.args.t c.args.r pre.has_room; input_len_bound = omega (arith, pre.has_room.room, pre.has_room.largest) }
 
 pub completes-requires : goal.completes-requires
 completes-requires c =
     let pre = c.requires in
     let next = c.push-next.ensures in
-    let room = pre.has_room in record { counted_reading = record { within = omega (arith, next.count, room.room, room.largest); full = next.size ∙ pre.counted_reading.full }; ending_bound = omega (arith, next.count) }
+    let room = pre.has_room in record { input_len_bound = omega (arith, next.count, room.room, room.largest); ending_bound = omega (arith, next.count) }
 
 pub returns : goal.returns
 unfolding terminates
@@ -22,7 +23,6 @@ returns c =
     let room = c.requires.has_room in
     let next = c.push-next.ensures in
     let done = c.completes in record {
-      sized = next.size ∙ c.requires.counted_reading.full;
       rule = λ l.
           let line = lent a.t a.text.now l in
           ended_does done.result a.t a.text.now _ l done.ensures.ended

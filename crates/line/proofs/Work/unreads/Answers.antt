@@ -2,6 +2,7 @@ use borrow.Author.Tests.{not-true, not-false}
 use Rattle.line.specs.With.{lent}
 use Rattle.line.specs.Promise.{on}
 use Rattle.line.proofs.Unread.{unreads_none, unreads_now, unreads_not}
+use Rattle.line.proofs.LentText.{text_full}
 use Rattle.line.proofs.Work.unreads.Goals as goal
 
 pub returns-then-not-flow : goal.returns-then-not-flow
@@ -15,7 +16,7 @@ returns-then-condition-nothing c =
       rule = λ l x.
           let line = lent a.t a.text.now l in
           let pending = not-false a.self.flow.pending c.if-not-flow.false in
-          unreads_now (on line a.self) a.condition pending c.args.self.counted c.requires.text_len c.if-condition-nothing.true (done.rule line l x);
+          unreads_now (on line a.self) a.condition pending c.args.self.counted (text_full c.args.text.now c.told-text) c.if-condition-nothing.true (done.rule line l x);
     }
 
 pub returns : goal.returns
@@ -23,5 +24,5 @@ returns c =
     let a = c.args in record {
       rule = λ l x.
           let pending = not-false a.self.flow.pending c.if-not-flow.false in
-          unreads_not (on (lent a.t a.text.now l) a.self) a.condition pending c.args.self.counted c.requires.text_len x _ c.if-condition-nothing.false;
+          unreads_not (on (lent a.t a.text.now l) a.self) a.condition pending c.args.self.counted (text_full c.args.text.now c.told-text) x _ c.if-condition-nothing.false;
     }

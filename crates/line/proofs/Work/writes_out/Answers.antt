@@ -8,7 +8,7 @@ use Rattle.line.proofs.Work.writes_out.Goals as goal
 
 pub redisplays_if_asked-requires : goal.redisplays_if_asked-requires
 redisplays_if_asked-requires c =
-    record { text_len = c.requires.text_len; prompt_len_bound = c.requires.prompt_len_bound }
+    record { prompt_len_bound = c.requires.prompt_len_bound }
 
 pub returns : goal.returns
 unfolding writes_out locks_by

@@ -5,10 +5,11 @@ use lib.ListN.{length-set}
 use lib.Seq.{sets, take_all}
 use Rattle.rules.proofs.Numbers.{input_size_lem}
 use Rattle.line.proofs.StartRead.{put_more}
+use Rattle.line.proofs.LentText.{text_full}
 use Rattle.line.proofs.start_read.put_text.Goals as goal
 
 pub loop-i-init : goal.loop-i-init
-loop-i-init c = (omega arith, c.requires.text_len, refl)
+loop-i-init c = (omega arith, text_full c.args.text.now c.told-text, refl)
 
 pub overflow_add-text : goal.overflow_add-text
 overflow_add-text c = omega (arith, input_size_lem)
