@@ -23,7 +23,7 @@ const TAB_WIDTH: u16 = 8;
 // Lines and changes of position count modulo these.
 const POSITIONS: u16 = 256;
 
-// A mark or a space: what takes a column.
+// A mark or a space: what takes a column. One expression is one case to prove; the two ranges as patterns are five.
 pub(crate) fn is_mark(b: u8) -> bool
     ensures { result ≡ rules.is_mark b }
 {
