@@ -19,7 +19,6 @@ use Rattle.rules.proofs.Bounds.Calls.{received-sound}
 use Rattle.fields.specs.declared.Span.{Span}
 use Rattle.message.specs.declared.Message.{Message}
 use Rattle.message.specs.declared.Message.TheVariants as message
-use Rattle.message.specs.contracts.Message.{the_type}
 use Rattle.message.specs.declared.StartReadFields.{StartReadFields}
 use Rattle.fields.specs.Spans.{span_of}
 use Rattle.message.specs.Found.{start_read_in, held_in}
@@ -81,27 +80,6 @@ questions_known l s p a = carried l s (ReadCharacteristics p) a (questions_in (s
 module _ (s : List ℕ) (l : Line) (t : Terms) (k : Line) {w r : Progress} {a b a' b' : List ℕ} {m n : HostMessage} where
   pub obeys_as : m ≡ n → Prompts t k m → (Prompts t k n → Does (flow_rule s l n) w a b r a' b') → Does (flow_rule s l m) w a b r a' b'
   obeys_as e p h = subst (λ x. Does (flow_rule s l x) w a b r a' b') (sym e) (h (subst (Prompts t k) e p))
-
--- types that only servers send, and those that nobody does
-abbrev servers : List ℕ
-servers = 2 ∷ 3 ∷ 7 ∷ 8 ∷ 12 ∷ 13 ∷ 14 ∷ []
-
-pub server_sends : (m : Message) → OneOf servers (tag_of the_type m) → None ≡ host_message_of m
-server_sends (message.ReadData f) h = refl
-server_sends (message.OutOfBand discard character) h = refl
-server_sends (message.WriteCompletion lost horizontal vertical) h = refl
-server_sends (message.DiscardState kept) h = refl
-server_sends (message.InputCount count) h = refl
-server_sends (message.InputState nonzero) h = refl
-server_sends (message.Other kind body) h = refl
-server_sends (message.Initiate f) h = absurd (miss servers 0 tt h)
-server_sends (message.StartRead f) h = absurd (miss servers 1 tt h)
-server_sends (message.Unread condition) h = absurd (miss servers 4 tt h)
-server_sends message.ClearInput h = absurd (miss servers 5 tt h)
-server_sends (message.Write f) h = absurd (miss servers 6 tt h)
-server_sends (message.ReadCharacteristics p) h = absurd (miss servers 9 tt h)
-server_sends (message.Characteristics p) h = absurd (miss servers 10 tt h)
-server_sends message.CheckInput h = absurd (miss servers 11 tt h)
 
 -- a message that a host sends is the one that it was taken for
 pub host_sends : (m : Message) (h : HostMessage) → host_message_of m ≡ Some h → m ≡ message_of h

@@ -5,8 +5,6 @@ use native.Mathlib.Numerals.{add-one}
 use native.Mathlib.Omega.{arith}
 use mathlib.Core.Bool.{true, false}
 use mathlib.Core.List.{List, [], ◌∷◌, ◌++◌}
-use types.Run.{OneOf, miss}
-use denote.Enum.Declared.{tag_of}
 use lib.Dec.{eqb, ltb}
 use lib.ListN.{length, get_or, take, drop, set, length-set}
 use Rattle.std.specs.List.{copy_within}
@@ -18,7 +16,6 @@ use Rattle.line.specs.declared.acts.Act.TheVariants.{TakesToken, Takes, TimesOut
 use Rattle.line.specs.declared.Key.{Key}
 use Rattle.line.specs.View.{plain_key, quoted_key, no_key, key_of, keys_of}
 use Rattle.line.specs.KeyArray.{shift, keys_after}
-use Rattle.line.specs.contracts.acts.Act.{the_type}
 
 pub keys_length : (n : ℕ) (keys : List Key) → length (keys_of n keys) ≡ n
 unfolding keys_of
@@ -105,22 +102,3 @@ after_length (Takes k) n keys = shift-length (n - 1) keys
 after_length TimesOut n keys = refl
 after_length (Idles idle) n keys = refl
 after_length (Obeys m) n keys = refl
-
--- acts that leave the keys alone
-abbrev others : List ℕ
-others = 0 ∷ 3 ∷ 4 ∷ 5 ∷ 6 ∷ 7 ∷ 8 ∷ 10 ∷ 11 ∷ 12 ∷ []
-
-pub others_keep : (a : Act) (n : ℕ) (keys : List Key) → OneOf others (tag_of the_type a) → keys ≡ keys_after a n keys
-others_keep Nothing n keys h = refl
-others_keep (SendsOutOfBand c) n keys h = refl
-others_keep (ClearsAtOnce c) n keys h = refl
-others_keep Quotes n keys h = refl
-others_keep Clears n keys h = refl
-others_keep FlipsDiscard n keys h = refl
-others_keep TakesToken n keys h = refl
-others_keep TimesOut n keys h = refl
-others_keep (Idles idle) n keys h = refl
-others_keep (Obeys m) n keys h = refl
-others_keep (Stores c) n keys h = absurd (miss others 1 tt h)
-others_keep (StoresQuoted c) n keys h = absurd (miss others 2 tt h)
-others_keep (Takes k) n keys h = absurd (miss others 9 tt h)

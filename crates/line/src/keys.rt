@@ -22,7 +22,7 @@ fn drop_first(keys: &mut [Key; rules::TYPE_AHEAD_SIZE], waiting: usize)
     requires waiting_le_type_ahead_size { waiting ≤ type_ahead_size }
     ensures { keys.new ≡ shift (waiting - 1) keys.old }
 {
-    if 0 < waiting {
+    if 1 < waiting {
         keys.copy_within(1..waiting, 0);
     }
 }

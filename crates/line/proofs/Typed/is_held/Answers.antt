@@ -2,11 +2,7 @@ use mathlib.Core.Path.{sym, ap, ◌∙◌}
 use mathlib.Core.List.{map-id}
 use Rattle.rules.specs.Token.{is_whole}
 use Rattle.line.specs.View.{token_of}
-use Rattle.line.proofs.TokenBytes.{token-length}
 use Rattle.line.proofs.Typed.is_held.Goals as goal
-
-pub slice_bounds-is_whole-end : goal.slice_bounds-is_whole-end
-slice_bounds-is_whole-end c = token-length c.args.self c.requires
 
 pub returns : goal.returns
 unfolding token_of

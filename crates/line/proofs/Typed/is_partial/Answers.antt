@@ -1,8 +1,5 @@
 use Rattle.line.proofs.TokenBytes.{partial_is}
 use Rattle.line.proofs.Typed.is_partial.Goals as goal
 
-pub is_held-requires : goal.is_held-requires
-is_held-requires c = c.requires
-
 pub returns : goal.returns
 returns c = partial_is c.args.self c.requires c.is_held.ensures

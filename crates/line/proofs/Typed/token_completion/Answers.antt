@@ -4,11 +4,7 @@ use Rattle.rules.specs.Token.{is_valid, standing}
 use Rattle.rules.specs.Steps.{token_code}
 use Rattle.rules.proofs.Choice.{pick_true, pick-false}
 use Rattle.line.specs.View.{token_of}
-use Rattle.line.proofs.TokenBytes.{token-length}
 use Rattle.line.proofs.Typed.token_completion.Goals as goal
-
-pub slice_bounds-is_valid-end : goal.slice_bounds-is_valid-end
-slice_bounds-is_valid-end c = token-length c.args.self c.requires
 
 pub returns-then-is_valid : goal.returns-then-is_valid
 unfolding token_code token_of
