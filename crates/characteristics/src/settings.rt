@@ -13,7 +13,7 @@ use crate::{Host, Switches};
 use parameters::{Parameter, Parameters};
 use rules::selectors;
 
-// One of the five.
+// One of the five. Selectors are matched by their names, at each of their few uses; an enum of them would be one match more.
 fn is_carried(selector: u16) -> bool
     ensures { result ≡ is_carried selector }
 {
@@ -46,28 +46,17 @@ pub(crate) fn chosen(test: bool, a: bool, b: bool) -> bool
 
 impl Switches {
     // The switch of a selector turned on or off; no switch where it has none.
-    fn with_switch(self, selector: u16, on: bool) -> Switches
+    fn with_switch(mut self, selector: u16, on: bool) -> Switches
         ensures { switches_of result ≡ with_switch selector on (switches_of self) }
     {
         match selector {
-            selectors::RAISE_INPUT => Switches {
-                raising: on,
-                ..self
-            },
-            selectors::NORMAL_ECHO => Switches {
-                echoing: on,
-                ..self
-            },
-            selectors::ESCAPE_RECOGNITION => Switches {
-                recognising: on,
-                ..self
-            },
-            selectors::AUTO_PROMPT => Switches {
-                prompting: on,
-                ..self
-            },
-            _ => self,
+            selectors::RAISE_INPUT => self.raising = on,
+            selectors::NORMAL_ECHO => self.echoing = on,
+            selectors::ESCAPE_RECOGNITION => self.recognising = on,
+            selectors::AUTO_PROMPT => self.prompting = on,
+            _ => {}
         }
+        self
     }
 }
 
