@@ -1,6 +1,6 @@
 // Characteristics: obeying the message, and whether it is carried.
 ghost use Rattle.std.specs.Prelude.{◌≡◌, List, ℕ};
-ghost use Rattle.rules.specs.Choice.{pick, all_are};
+ghost use Rattle.rules.specs.Choice.{all_are};
 ghost use Rattle.rules.specs.Messages.Forms.{characteristics};
 ghost use Rattle.rules.specs.Messages.Parameters.{selector};
 ghost use Rattle.rules.specs.Characteristics.{is_carried, with_switch, with_parameter, with_parameters, carries_settings};
@@ -32,16 +32,6 @@ pub(crate) fn all_carried(kind: u8, list: &[u8]) -> bool
     ensures { result ≡ all_are (λ p. is_carried (selector p)) (parameters_from kind 0 list.now) }
 {
     Parameters::new(kind, list).all(|p| is_carried(p.selector))
-}
-
-// The first where the test holds, the second where it does not.
-pub(crate) fn chosen(test: bool, a: bool, b: bool) -> bool
-    ensures { result ≡ pick test a b }
-{
-    if test {
-        return a;
-    }
-    b
 }
 
 impl Switches {
