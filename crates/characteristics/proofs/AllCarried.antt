@@ -1,33 +1,24 @@
--- Whether every parameter of a list is carried, a parameter at a time.
-use mathlib.Core.Path.{◌≡◌, sym, ap, ◌∙◌}
-use Prim.Native.Nat.{ℕ, ◌<◌, ◌≤◌}
-use mathlib.Core.Bool.{Bool, true, false, ◌&&◌}
-use mathlib.Core.List.{List}
-use lib.ListN.{length}
-use Rattle.rules.specs.Choice.{all_are}
+-- Whether all pass a test, of the parameters of a list, or any does, of the attributes.
+use mathlib.Core.Path.{◌≡◌, refl, ap}
+use Prim.Native.Nat.{ℕ}
+use mathlib.Core.Bool.{Bool, ◌&&◌, ◌||◌}
+use mathlib.Core.List.{List, [], ◌∷◌, map}
+use Rattle.std.specs.List.{list_any}
+use Rattle.rules.specs.Choice.{all_are, any_is}
 use Rattle.rules.specs.Messages.Parameters.{selector}
 use Rattle.rules.specs.Characteristics.{is_carried}
-use Rattle.parameters.specs.declared.Parameter.{Parameter}
-use Rattle.parameters.specs.Lists.{ParameterIs, parameters_from}
-use Rattle.parameters.proofs.Shapes.{parameters_end}
 
 abbrev pub all_carried : List (List ℕ) → Bool
 all_carried ps = all_are (λ p. is_carried (selector p)) ps
 
-module _ {kind at : ℕ} {s : List ℕ} {p : Parameter} (is : ParameterIs kind at s p) (h : at < length s)
-    {t : Bool} (e : t ≡ is_carried p.selector) where
-  all_step : all_carried (parameters_from kind at s) ≡ t && all_carried (parameters_from kind p.next s)
+module _ {A : Type 0} where
+  pub all_mapped : {B : Type 0} (test : B → Bool) (f : A → B) (xs : List A) → all_are (λ x. test (f x)) xs ≡ all_are test (map f xs)
   unfolding all_are
-  all_step =
-      ap all_carried (is.list h) ∙
-      ap (λ b. b && all_carried (parameters_from kind p.next s)) (sym (e ∙ ap is_carried is.selected))
+  all_mapped test f [] = refl
+  all_mapped test f (x ∷ xs) = ap (λ t. test (f x) && t) (all_mapped test f xs)
 
-  pub all_stops : t ≡ false → all_carried (parameters_from kind at s) ≡ false
-  all_stops f = all_step ∙ rw f
-
-  pub all_goes_on : t ≡ true → all_carried (parameters_from kind p.next s) ≡ all_carried (parameters_from kind at s)
-  all_goes_on f = sym (all_step ∙ rw f)
-
-pub all_end : (kind at : ℕ) (s : List ℕ) → length s ≤ at → all_carried (parameters_from kind at s) ≡ true
-unfolding all_are
-all_end kind at s h = ap all_carried (parameters_end kind at s h)
+  -- as the library says it
+  pub any_listed : (test : A → Bool) (xs : List A) → list_any test xs ≡ any_is test xs
+  unfolding any_is
+  any_listed test [] = refl
+  any_listed test (x ∷ xs) = ap (λ t. test x || t) (any_listed test xs)

@@ -1,10 +1,12 @@
 -- The parameters of a Characteristics message, one at a time.
 use mathlib.Core.Path.{◌≡◌, sym, ap, ◌∙◌}
 use Prim.Native.Nat.{ℕ, ◌<◌, ◌≤◌}
+use mathlib.Core.Bool.{Bool}
 use mathlib.Core.List.{List}
 use lib.Dec.{eqb}
 use lib.ListN.{length, get_or, set}
 use borrow.Author.Tests.{eq-eqb, ne_eqb}
+use Rattle.rules.specs.Choice.{pick}
 use Rattle.rules.specs.Messages.Parameters.{selector, character_attributes}
 use Rattle.rules.specs.State.{Host, Switches, with_switches, with_attributes}
 use Rattle.rules.specs.Characteristics.{masked, with_attribute, with_switch, with_parameter, with_parameters}
@@ -14,6 +16,11 @@ use Rattle.parameters.specs.Lists.{ParameterIs, parameters_from, used_at}
 use Rattle.parameters.proofs.Shapes.{parameters_end}
 use Rattle.characteristics.specs.declared.Host as declared
 use Rattle.characteristics.specs.View.{KeepsSettings}
+
+-- a selector that has no switch
+pub no_switch : {n : ℕ} (on : Bool) (s : Switches) → (n ≡ 516 → ⊥) → (n ≡ 517 → ⊥) → (n ≡ 518 → ⊥) → (n ≡ 521 → ⊥) → s ≡ with_switch n on s
+unfolding with_switch pick
+no_switch {n} on s raise echo escape prompt = rw (ne_eqb n 516 raise, ne_eqb n 517 echo, ne_eqb n 518 escape, ne_eqb n 521 prompt)
 
 module _ {at : ℕ} {s : List ℕ} {p : Parameter} (is : ParameterIs 11 at s p) (h : Host) where
   abbrev here : List ℕ

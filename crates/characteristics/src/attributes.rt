@@ -11,8 +11,7 @@ impl Host {
     pub(crate) fn attribute(self, c: u8) -> u8
         ensures { result ≡ get_or self.attributes c 0 }
     {
-        let attributes = self.attributes;
-        attributes[c as usize]
+        self.attributes[c as usize]
     }
 }
 
@@ -25,7 +24,7 @@ fn masked(mask: u8, old: u8, new: u8) -> u8
 
 // CHARACTER, MASK and ATTRIBUTES act on one place of the table.
 pub(crate) fn with_attribute(
-    table: [u8; rules::CODE_COUNT],
+    mut table: [u8; rules::CODE_COUNT],
     character: u8,
     mask: u8,
     attributes: u8,
@@ -33,22 +32,13 @@ pub(crate) fn with_attribute(
     ensures { result ≡ set table character (rules.masked rules.attribute_bits mask (get_or table character 0) attributes) }
 {
     let at = character as usize;
-    let old = table[at];
-    let mut next = table;
-    next[at] = masked(mask, old, attributes);
-    next
+    table[at] = masked(mask, table[at], attributes);
+    table
 }
 
 // A character of the table is deferred-clear.
 pub(crate) fn any_deferred_clear(table: &[u8]) -> bool
     ensures { result ≡ any_is rules.is_deferred_clear table.now }
 {
-    let mut i = 0;
-    while i < table.len() {
-        if table[i] % out_of_band::VALUES == out_of_band::DEFERRED_CLEAR {
-            return true;
-        }
-        i += 1;
-    }
-    false
+    table.iter().any(|attribute| attribute % out_of_band::VALUES == out_of_band::DEFERRED_CLEAR)
 }

@@ -8,7 +8,7 @@ mod reports;
 mod settings;
 
 // The four characteristics that are switches.
-#[derive(Clone, Copy)]
+#[derive(Clone, Copy, Debug, PartialEq, Eq, Default)]
 pub struct Switches {
     pub raising: bool,
     pub echoing: bool,

@@ -12,7 +12,7 @@ ghost use Rattle.areas.specs.Writes.{Writes};
 ghost use Rattle.characteristics.specs.View.{switches_of, host_view};
 ghost use Rattle.characteristics.specs.Lists.{longest_answer, questions_in, answers_from, answer_to, report_bytes};
 
-use crate::settings::{all_carried, chosen};
+use crate::settings::all_carried;
 use crate::{Host, Switches};
 use areas::Writer;
 use fields::Span;
@@ -57,16 +57,15 @@ fn report_size(list: &[u8]) -> usize
 
 impl Switches {
     // What a switch's selector reports.
-    fn value(self, n: u16) -> bool
-        ensures { result ≡ switch_of n (switches_of self) }
+    fn value(self, selector: u16) -> bool
+        ensures { result ≡ switch_of selector (switches_of self) }
     {
-        let last = chosen(
-            n == selectors::ESCAPE_RECOGNITION,
-            self.recognising,
-            self.prompting,
-        );
-        let later = chosen(n == selectors::NORMAL_ECHO, self.echoing, last);
-        chosen(n == selectors::RAISE_INPUT, self.raising, later)
+        match selector {
+            selectors::RAISE_INPUT => self.raising,
+            selectors::NORMAL_ECHO => self.echoing,
+            selectors::ESCAPE_RECOGNITION => self.recognising,
+            _ => self.prompting,
+        }
     }
 }
 

@@ -1,8 +1,11 @@
 -- A test of every parameter of a list, by a walk of it.
 use Rattle.std.proofs.Common.{◌≡◌, refl, sym, ap, ap₂, subst, ◌∙◌, ℕ, ◌<◌, length, drop, Bool, ◌&&◌, List, [], ◌∷◌, map, None, Some}
 use native.Mathlib.Omega.{arith}
+use denote.Param.Members.{Mut, Called}
+use Rattle.std.specs.Iterator.{ChecksAll}
 use Rattle.std.specs.List.{list_all}
 use Rattle.std.proofs.lemmas.Iterator.{YieldsList}
+use Rattle.std.proofs.lemmas.Iterator.Search.{all_from_yields_List}
 use Rattle.std.proofs.lemmas.Iterator.Splits.{YieldsList-from_shown_while}
 use Rattle.rules.specs.Choice.{all_are}
 use Rattle.rules.specs.Messages.Parameters.{cut}
@@ -14,7 +17,7 @@ use Rattle.parameters.proofs.Walk.{cut-here, cut_end}
 use Rattle.parameters.proofs.Shapes.{next_inside}
 
 -- the tests of the elements, all true
-pub all_tests : {A : Type 0} (test : A → Bool) (xs : List A) → list_all (λ t. t) (map test xs) ≡ all_are test xs
+all_tests : {A : Type 0} (test : A → Bool) (xs : List A) → list_all (λ t. t) (map test xs) ≡ all_are test xs
 unfolding all_are
 all_tests test [] = refl
 all_tests test (x ∷ xs) = ap (λ t. test x && t) (all_tests test xs)
@@ -47,8 +50,14 @@ module _ (kind : ℕ) (s : List ℕ) (passes : Parameter → Bool) (test : List 
             ap₂ ◌∷◌ (sym (agree w.at p inside is)) (ap tests_from (sym (step.2.2 ∙ is.behind ∙ next_inside kind w.at s inside))),
       )
 
-  pub walk_tests : {w : Parameters} {at : ℕ} → w.kind ≡ kind → w.list.now ≡ s → w.at ≡ at →
-      YieldsList parameter_steps passes w (map test (cut (shape_of kind) 0 (drop at s)))
-  walk_tests {w} k l a =
+  walk_tests : {w : Parameters} {at : ℕ} → Walks w → w.at ≡ at → YieldsList parameter_steps passes w (tests_from at)
+  walk_tests {w} of a =
       subst (λ n. YieldsList parameter_steps passes w (tests_from n)) a
-      (YieldsList-from_shown_while parameter_steps passes (λ v. tests_from v.at) Walks none_left one_first w (k, l))
+      (YieldsList-from_shown_while parameter_steps passes (λ v. tests_from v.at) Walks none_left one_first w of)
+
+  -- what `all` answers, where its closure answers as `passes` does
+  pub walk_all : {F : Type 0} {g : Mut F (Parameter × Unit {0}) Bool} {w u : Parameters} {at : ℕ} {f : F} {r : Bool} →
+      w.kind ≡ kind → w.list.now ≡ s → w.at ≡ at → ChecksAll parameter_steps g w f r u →
+      ((p : Parameter) (b : Bool) (q : F) → Called g f (p, tt) b q → (q ≡ f) × (b ≡ passes p)) → r ≡ all_are test (cut (shape_of kind) 0 (drop at s))
+  walk_all {u = u} {f = f} {r = r} k l a checks calls =
+      all_from_yields_List (λ t. t) u f r checks (walk_tests (k, l) a) calls ∙ all_tests test _

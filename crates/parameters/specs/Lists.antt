@@ -2,7 +2,7 @@
 use Rattle.std.specs.Prelude.{◌≡◌, ℕ, zero, ◌+◌, ◌-◌, ◌/◌, ◌%◌, ◌<◌, Bool, List, [], ◌∷◌, ◌++◌, map, ltb, eqb, length, take, drop}
 use Rattle.rules.specs.Choice.{pick, all_are}
 use Rattle.rules.specs.Messages.Layout.{word_bytes, byte_values, byte_at, bytes_of}
-use Rattle.rules.specs.Messages.Parameters.{Shape, initiation, question, setting, parameter_head, first_value_at, second_value_at, third_value_at, selector, parameter_size, sound_parameter, cleaned, cut}
+use Rattle.rules.specs.Messages.Parameters.{Shape, initiation, question, setting, first_value_at, second_value_at, third_value_at, selector, parameter_size, sound_parameter, cleaned, cut}
 use Rattle.rules.specs.Messages.Forms as forms
 use Rattle.parameters.specs.declared.Parameter.{Parameter}
 use Rattle.parameters.specs.declared.kinds.ListKind.{ListKind}
@@ -29,10 +29,6 @@ sound_from kind at s = all_are (sound_parameter (shape_of kind)) (cut (shape_of 
 -- the parameters from a place on, unused bits set to 0
 unfoldable pub parameters_from : ℕ → ℕ → List ℕ → List (List ℕ)
 parameters_from kind at s = map (cleaned (shape_of kind)) (cut (shape_of kind) zero (drop at s))
-
--- the bytes of the longest parameter: its head, and as many as one byte can count
-abbrev pub longest_parameter : ℕ
-longest_parameter = parameter_head + (byte_values - 1)
 
 -- a byte's limit as a mask of the bits below it
 abbrev pub mask : ℕ → ℕ
