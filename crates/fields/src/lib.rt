@@ -12,7 +12,7 @@ use rules::forms;
 const BYTE_VALUES: u16 = forms::BYTE_VALUES as u16;
 
 // A span of the lent slice: where it starts, and how long it is.
-#[derive(Clone, Copy)]
+#[derive(Clone, Copy, Debug, Default, PartialEq, Eq)]
 pub struct Span {
     pub start: u16,
     pub len: u16,
