@@ -1,5 +1,5 @@
 // Each message but Start Read, up to its parameter list.
-ghost use Rattle.std.specs.Prelude.{◌≡◌, ◌+◌, ◌*◌, ℕ, List, replicate};
+ghost use Rattle.std.specs.Prelude.{◌≡◌, ℕ, List, replicate};
 ghost use Rattle.rules.specs.Messages.Layout.{byte, number_of, write_groups};
 ghost use Rattle.rules.specs.Messages.Forms.{revision_size, write_widths};
 ghost use Rattle.message.specs.declared.Message.TheVariants as variants;
@@ -8,8 +8,8 @@ ghost use Rattle.message.specs.Found.{held_in};
 ghost use Rattle.areas.specs.Writes.{Writes};
 ghost use Rattle.fronts.specs.Front.{front_bytes, write_flags};
 
+use crate::flags::packed;
 use crate::put::put_span;
-use crate::start_read::{LOW_FLAGS, low_flags};
 use areas::Writer;
 use fields::Span;
 use message::{InitiateFields, ReadDataFields, WriteFields};
@@ -17,13 +17,6 @@ use rules::{bits, forms};
 
 // Bytes of Initiate's REVISION.
 const REVISION_SIZE: usize = forms::REVISION_SIZE as usize;
-
-// Fields of FLAGS, by how many values they have.
-const FOUR_BITS: u32 = bits::FOUR_BITS as u32;
-
-const ONE_BIT: u16 = bits::ONE_BIT as u16;
-
-const TWO_BITS: u16 = bits::TWO_BITS as u16;
 
 // REVISION out of a span; 0 for each byte that it does not have.
 fn put_revision(s: &[u8], p: Span, w: &mut Writer)
@@ -47,7 +40,7 @@ pub(crate) fn put_initiate(f: InitiateFields, s: &[u8], w: &mut Writer)
 pub(crate) fn put_read_data(f: ReadDataFields, s: &[u8], w: &mut Writer)
     ensures { Writes (front_bytes (held_in s.now (variants.ReadData f))) w.old w.new }
 {
-    let flags = f.code as u32 + FOUR_BITS * (f.more as u32);
+    let flags = packed(&[(f.code, bits::FOUR_BITS), (f.more, bits::ONE_BIT)]);
     w.put(rules::READ_DATA);
     w.put_number(forms::FLAG_BYTES, flags);
     w.put_word(f.low_water);
@@ -63,26 +56,20 @@ pub(crate) fn put_out_of_band(discard: u8, character: u8, w: &mut Writer)
     w.put_pair(discard, character);
 }
 
-// The flags of a Write behind the first four.
-fn high_flags(last: u8, prefix: u8, postfix: u8, wants_completion: u8, transparent: u8) -> u16
-    ensures { result ≡ last + 2 * (prefix + 4 * (postfix + 4 * (wants_completion + 2 * transparent))) }
-{
-    let completion = wants_completion as u16 + ONE_BIT * (transparent as u16);
-    last as u16 + ONE_BIT * (prefix as u16 + TWO_BITS * (postfix as u16 + TWO_BITS * completion))
-}
-
 fn write_flags(f: WriteFields) -> u32
     ensures { result ≡ number_of write_widths (write_flags f) }
 {
-    let low = low_flags(f.lock, f.newline, f.keeps_output, f.first);
-    let high = high_flags(
-        f.last,
-        f.prefix,
-        f.postfix,
-        f.wants_completion,
-        f.transparent,
-    );
-    low as u32 + LOW_FLAGS * (high as u32)
+    packed(&[
+        (f.lock, bits::TWO_BITS),
+        (f.newline, bits::ONE_BIT),
+        (f.keeps_output, bits::ONE_BIT),
+        (f.first, bits::ONE_BIT),
+        (f.last, bits::ONE_BIT),
+        (f.prefix, bits::TWO_BITS),
+        (f.postfix, bits::TWO_BITS),
+        (f.wants_completion, bits::ONE_BIT),
+        (f.transparent, bits::ONE_BIT),
+    ])
 }
 
 pub(crate) fn put_write(f: WriteFields, s: &[u8], w: &mut Writer)

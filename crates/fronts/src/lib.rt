@@ -13,6 +13,7 @@ use areas::Writer;
 use message::Message;
 use rules::forms;
 
+mod flags;
 mod heads;
 mod put;
 mod start_read;

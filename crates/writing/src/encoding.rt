@@ -7,7 +7,7 @@ ghost use Rattle.writing.specs.Writing.{first_refusal, writing, copied};
 
 use crate::fits::fits_message;
 use crate::lists::put_list;
-use crate::spans::{inside, size_of, spans_of};
+use crate::spans::Spans;
 use areas::Writer;
 use fronts::put_message;
 use message::Message;
@@ -42,16 +42,13 @@ fn may_write(room: usize, size: u32, kind: u8, passes: bool) -> Result<(), Refus
 pub fn encode(m: Message, s: &[u8], area: &mut [u8]) -> Result<usize, Refusal>
     ensures { InFront (writing (length area.old) s.now m) area.old result area.new }
 {
-    let p = spans_of(m);
-    let kind = p.kind;
-    let list = p.list;
-    let size = size_of(p);
-    let lies = inside(p, s.len());
+    let p = Spans::of(m);
+    let lies = p.lie_in(s.len());
     let fits = fits_message(m, s);
-    may_write(area.len(), size, kind, lies & fits)?;
+    may_write(area.len(), p.size(), p.kind, lies & fits)?;
     let mut w = Writer { area, at: 0 };
     put_message(m, s, &mut w);
-    put_list(kind, list, s, &mut w);
+    put_list(p.kind, p.list, s, &mut w);
     Ok(w.at)
 }
 

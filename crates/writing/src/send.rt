@@ -1,7 +1,7 @@
 // Messages for a line that sends them: each behind its length, into an area.
 ghost use Rattle.writing.specs.Framed.{Frames};
 
-use crate::spans::{size_of, spans_of};
+use crate::spans::Spans;
 use areas::Writer;
 use fronts::put_message;
 use message::Message;
@@ -11,7 +11,7 @@ use rules::forms;
 pub fn put_framed(m: Message, s: &[u8], w: &mut Writer)
     ensures { Frames s.now m w.old w.new }
 {
-    let size = size_of(spans_of(m));
+    let size = Spans::of(m).size();
     w.put_number(forms::WORD_BYTES, size);
     put_message(m, s, w);
 }

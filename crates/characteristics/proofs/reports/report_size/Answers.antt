@@ -1,4 +1,4 @@
-use Rattle.std.proofs.Common.{ap, arith, length, rules, ◌∙◌}
+use Rattle.std.proofs.Common.{ap, arith, length, ◌∙◌}
 use Rattle.rules.proofs.Numbers.{message_area_lem, area_word}
 use Rattle.characteristics.proofs.ReportLaws.{first_size, no_answers, answer_length}
 use Rattle.characteristics.proofs.reports.report_size.Goals as goal

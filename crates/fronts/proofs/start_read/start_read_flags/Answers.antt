@@ -1,11 +1,13 @@
-use native.Mathlib.Omega.{arith}
+use Rattle.std.proofs.Common.{refl, arith}
+use Rattle.rules.specs.Choice.{all_are}
 use Rattle.rules.specs.Messages.Layout.{number_of}
+use Rattle.fronts.specs.Flags.{packed}
 use Rattle.fronts.proofs.start_read.start_read_flags.Goals as goal
 
+pub packed-requires : goal.packed-requires
+unfolding packed all_are
+packed-requires c = record { small = omega arith; filled = refl }
+
 pub returns : goal.returns
-unfolding number_of
-returns c =
-    let low = c.low_flags-low.ensures in
-    let middle = c.middle_flags-middle.ensures in
-    let high = c.high_flags-high.ensures in
-    omega arith
+unfolding packed number_of
+returns c = c.packed.ensures

@@ -19,18 +19,18 @@ returns-in_err-may_write c =
     let number : answered c.may_write.result ≡ number_of e = ap answered was in
     rw answer
     (refusal
-    (encode_refused _ _ _ c.spans_of-p.ensures c.size_of-size.ensures c.inside-lies.ensures c.fits_message-fits.ensures
+    (encode_refused _ _ _ c.of-p.ensures c.size.ensures c.lie_in-lies.ensures c.fits_message-fits.ensures
     (sym number ∙ c.may_write.ensures) (never-accepted e)))
 
 pub put_list-requires : goal.put_list-requires
 put_list-requires c =
     let was : c.may_write.result ≡ Ok _ = search rules in
-    let is = c.spans_of-p.ensures in
+    let is = c.of-p.ensures in
     let a = c.args in
     let s = a.s.now in
     let bytes = bytes_all s (λ i. omega (arith, c.type_inv.s i)) in
     let fits =
-    encode_fits _ s a.m is c.size_of-size.ensures c.inside-lies.ensures c.fits_message-fits.ensures
+    encode_fits _ s a.m is c.size.ensures c.lie_in-lies.ensures c.fits_message-fits.ensures
     c.may_write.ensures (ap answered was)
     in
     λ k. ap (λ q. sound_from 11 0 (span_of s q.list)) is ∙ list_whole s bytes a.m fits (ap (λ q. q.kind) (sym is) ∙ k)
@@ -38,12 +38,12 @@ put_list-requires c =
 pub returns : goal.returns
 returns c =
     let was : c.may_write.result ≡ Ok _ = search rules in
-    let is = c.spans_of-p.ensures in
+    let is = c.of-p.ensures in
     let a = c.args in
     let s = a.s.now in
     let bytes = bytes_all s (λ i. omega (arith, c.type_inv.s i)) in
-    let size = c.size_of-size.ensures in
-    let lies = c.inside-lies.ensures in
+    let size = c.size.ensures in
+    let lies = c.lie_in-lies.ensures in
     let fit = c.fits_message-fits.ensures in
     let number = c.may_write.ensures in
     let none = ap answered was in

@@ -7,6 +7,6 @@ use Rattle.writing.proofs.send.put_framed.Goals as goal
 
 pub returns : goal.returns
 returns c =
-    let size = c.size_of-size.ensures ∙ ap spanned_size c.spans_of.ensures in
+    let size = c.size-size.ensures ∙ ap spanned_size c.of.ensures in
     let front = joins (equals (ap (bytes_of 2) size) c.put_number.ensures) c.put_message.ensures in
     record { sent = λ x k. equals (sent_framed k) front; front = front }
