@@ -2,10 +2,10 @@
 use mathlib.Core.Path.{◌≡◌, refl, sym, ap, ap₂, ◌∙◌, subst}
 use Prim.Native.Nat.{ℕ}
 use mathlib.Core.Bool.{Bool, true, false, not, ◌&&◌}
-use mathlib.Core.List.{List, []}
+use mathlib.Core.List.{List, [], ◌∷◌}
+use native.Mathlib.Omega.{arith}
 use lib.ListN.{length, take}
 use lib.Seq.{take_all}
-use borrow.Author.Tests.{eq-eqb, ne_eqb}
 use Rattle.rules.specs.Choice.{pick, first_row_answer, is_empty, joined}
 use Rattle.rules.specs.Numbers.{accepted, unsound_record}
 use Rattle.rules.specs.Messages.Codec.{set_size}
@@ -15,7 +15,6 @@ use Rattle.rules.specs.Settings.{set_section, is_sound, are_sound, found_section
 use Rattle.rules.specs.Calls.{Call, load, refuses, does, answers_load, answers, answer, message_bytes, area_after}
 use Rattle.rules.specs.Bounds as bounds
 use Rattle.rules.specs.Bounds.{is_byte_event, Within}
-use Rattle.rules.proofs.Choice.{pick_true, pick-false, empty_length}
 use Rattle.rules.proofs.Bounds.Calls.{call_within}
 use Rattle.rules.proofs.Bounds.Settings.{set_found}
 use Rattle.line.specs.declared.Line.{Line}
@@ -25,15 +24,17 @@ use Rattle.line.specs.Bounded.{Counted, Bounded}
 use Rattle.line.specs.Answers.{ruled, Answers}
 use Rattle.console.specs.Loading.{Loads}
 
--- an empty section leaves what was there, and another says what it says
-module _ {A : Type 0} (says : List ℕ → A) (section : List ℕ) (kept : A) where
-  pub found_none : length section ≡ 0 → kept ≡ found_or says section kept
-  unfolding found_or
-  found_none e = sym (pick_true _ _ (empty_length section ∙ eq-eqb (length section) 0 e))
+-- what holds of an empty section and of another holds of every section
+pub by_section : {P : Type 0} (section : List ℕ) → (length section ≡ 0 → P) → ((length section ≡ 0 → ⊥) → P) → P
+by_section [] none some = none refl
+by_section (b ∷ bs) none some = some (λ e. omega arith)
 
-  pub found_some : (length section ≡ 0 → ⊥) → says section ≡ found_or says section kept
-  unfolding found_or
-  found_some n = sym (pick-false _ _ (empty_length section ∙ ne_eqb (length section) 0 n))
+-- an empty section leaves what was there, and another says what it says
+pub found_either : {A : Type 0} (says : List ℕ → A) (section : List ℕ) (kept : A) {x : A} → (length section ≡ 0 → x ≡ kept) →
+    ((length section ≡ 0 → ⊥) → x ≡ says section) → x ≡ found_or says section kept
+unfolding found_or is_empty pick
+found_either says [] kept none some = none refl
+found_either says (b ∷ bs) kept none some = some (λ e. omega arith)
 
 -- a set that is found has no more bytes than a set can have
 pub whole_set : (own site kept : List ℕ) →

@@ -108,7 +108,5 @@ pub fn fresh() -> Line
 pub fn dropped(line: Line) -> u16
     ensures { result ≡ (view line).terminal.dropped }
 {
-    let flow = line.flow;
-    let known = flow.terminal;
-    known.dropped
+    line.flow.terminal.dropped
 }

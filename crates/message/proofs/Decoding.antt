@@ -1,5 +1,5 @@
 -- Decoding as one type: each test that fails refuses, and a message that passes them all is its fields.
-use mathlib.Core.Path.{◌≡◌, refl, sym, ap, ◌∙◌}
+use mathlib.Core.Path.{◌≡◌, refl, sym, ap, ◌∙◌, subst}
 use Prim.Native.Nat.{ℕ, ◌+◌, ◌≤◌, ◌<◌}
 use native.Mathlib.Omega.{arith}
 use mathlib.Core.Bool.{Bool, true, false, not, ◌&&◌, ◌||◌, false≢true}
@@ -20,7 +20,7 @@ use Rattle.rules.specs.declared.refusals.Refusal.{Refusal}
 use Rattle.rules.specs.declared.refusals.Refusal.TheVariants.{Unsound}
 use Rattle.rules.specs.Refusals.{number_of}
 use Rattle.fields.specs.Spans.{span_of}
-use Rattle.message.specs.Found.{RestFrom, FieldsIn, Finds, parameters_of, plain_message, text_message, list_message, held_in, span_list_of, lies}
+use Rattle.message.specs.Found.{RestFrom, FieldsIn, IsFixed, Finds, parameters_of, plain_message, text_message, list_message, held_in, span_list_of, lies}
 use Rattle.message.specs.Found.{as_held, found_in, found_inside, decoded_as}
 use Rattle.message.proofs.Heads.{Head}
 
@@ -92,6 +92,14 @@ module _ (kind : ℕ) (s : List ℕ) where
   unfolding sound_as
   field_undefined e = refused_by (no_third (leb head (length s)) whole (defined_fields fields) e)
 
+  -- cut short, or its list is unsound
+  pub list_unsound : (head ≤ length s → whole ≡ false) → Refuses
+  list_unsound e = by_length (leb head (length s)) refl
+    where
+      by_length : (b : Bool) → leb head (length s) ≡ b → Refuses
+      by_length false h = head_cut (leb-false head (length s) h)
+      by_length true h = tail_unsound (e (leb-true head (length s) h))
+
   pub decodes_sound : {m : declared.Message} → FieldsIn kind s m → head ≤ length s → whole ≡ true → defined_fields fields ≡ true →
       Finds s (decoded_as kind s) (Ok m)
   unfolding decoded_as as_held sound_as found_in found_inside
@@ -155,7 +163,7 @@ module _ (kind : ℕ) (s : List ℕ) where
     unfolding whole_tail
     nothing_behind = ap (λ t. whole_tail t rest) is
 
-    pub fixed_refused : (length s ≡ head → ⊥) → Refuses
+    fixed_refused : (length s ≡ head → ⊥) → Refuses
     unfolding behind_head
     fixed_refused e = by_length (leb head (length s)) refl
       where
@@ -167,7 +175,7 @@ module _ (kind : ℕ) (s : List ℕ) where
             let other : length s ≡ head → ⊥ = e in
             tail_unsound (nothing_behind ∙ some_not_empty rest (omega arith))
 
-    pub fixed_sound : byte_at s 0 ≡ kind → is_free kind ≡ true → length s ≡ head →
+    fixed_sound : byte_at s 0 ≡ kind → is_free kind ≡ true → length s ≡ head →
         {vs : List ℕ} → Head (form_of kind).head 1 s vs → {m : declared.Message} → held_in s m ≡ plain_message kind vs → span_list_of m ≡ [] →
         Finds s (decoded_as kind s) (Ok m)
     unfolding behind_head is_empty set_in parameters_in text_in all_are
@@ -175,3 +183,12 @@ module _ (kind : ℕ) (s : List ℕ) where
         let empty = drop_of_length-le s {i = head} (omega arith) in
         decodes_sound (record { fields = held ∙ ap message (fields_are k v nothing is); inside = λ _. ap (all_are (lies (length s))) none })
         (omega arith) (nothing_behind ∙ ap is_empty empty) (free_defined k e)
+
+    pub is_fixed : byte_at s 0 ≡ kind → is_free kind ≡ true →
+        {vs : List ℕ} → Head (form_of kind).head 1 s vs → {m : declared.Message} → held_in s m ≡ plain_message kind vs → span_list_of m ≡ [] →
+        IsFixed head s m
+    is_fixed k e v {m} held none =
+        record {
+          is = λ h. subst (λ n. Finds s (decoded_as n s) (Ok m)) (sym k) (fixed_sound k e h v held none);
+          other = λ h. subst (λ n. Finds s (decoded_as n s) (Err Unsound)) (sym k) (fixed_refused h);
+        }

@@ -1,6 +1,6 @@
 -- The head of a message, group by group: from the numbers that the code reads to the fields that the definition has.
 use mathlib.Core.Path.{◌≡◌, refl, sym, ap, ap₂, ◌∙◌}
-use Prim.Native.Nat.{ℕ, zero, suc, ◌+◌, ◌%◌, ◌^◌, ◌<◌, ◌≤◌}
+use Prim.Native.Nat.{ℕ, zero, suc, ◌+◌, ◌/◌, ◌%◌, ◌^◌, ◌<◌, ◌≤◌}
 use native.Mathlib.Nat.{mod-eq_of_lt}
 use native.Mathlib.Numerals.{add-one}
 use native.Mathlib.Omega.{arith}
@@ -9,6 +9,18 @@ use lib.ListN.{length, take, drop, replicate}
 use lib.Seq.{drop-cons}
 use Rattle.rules.specs.Messages.Layout.{Group, flags, byte, word, byte_at, fields_in, number_at, read_groups}
 use Rattle.fields.proofs.Numbers.{number_one}
+
+-- the fields of a number, taken one after the other from bit 0 on
+pub record Taken (ws : List ℕ) (v : ℕ) (fs : List ℕ) : Type 0 where
+  pub same : fs ≡ fields_in ws v
+
+pub none_taken : {v : ℕ} → Taken [] v []
+unfolding fields_in
+none_taken = record { same = refl }
+
+pub taken : {w : ℕ} {ws fs : List ℕ} {v field rest : ℕ} → field ≡ v % 2 ^ w → rest ≡ v / 2 ^ w → Taken ws rest fs → Taken (w ∷ ws) v (field ∷ fs)
+unfolding fields_in
+taken {ws = ws} e r h = record { same = ap₂ ◌∷◌ e (h.same ∙ ap (fields_in ws) r) }
 
 -- the fields of the groups that begin at a place
 pub record Head (gs : List Group) (at : ℕ) (s : List ℕ) (vs : List ℕ) : Type 0 where
@@ -24,6 +36,11 @@ module _ {gs : List Group} {at : ℕ} {s vs : List ℕ} where
       Head (flags n ws ∷ gs) at s (fields_in ws v ++ vs)
   unfolding read_groups
   flags_first n ws v e h = record { same = ap₂ (λ w r. fields_in ws w ++ r) (sym e) h.same }
+
+  -- fields that were taken one after the other
+  pub taken_first : {n : ℕ} {ws fs : List ℕ} {v : ℕ} → v ≡ number_at n at s → Taken ws v fs → Head gs (at + n) s vs →
+      Head (flags n ws ∷ gs) at s (fs ++ vs)
+  taken_first {n} {ws} {fs} {v} e f h = record { same = (flags_first n ws v e h).same ∙ ap (λ fields. fields ++ vs) (sym f.same) }
 
   -- bytes that hold no field
   pub none_first : Head gs (at + 1) s vs → Head (flags 1 [] ∷ gs) at s vs

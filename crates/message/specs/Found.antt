@@ -1,6 +1,6 @@
 -- What a decoded message means: its fields, read off the slice that it was found in, and where its spans lie there; a number for
 -- each refusal.
-use Rattle.std.specs.Prelude.{ℕ, ◌+◌, ◌-◌, ◌≤◌, ◌≡◌, Bool, true, not, List, [], ◌∷◌, ◌++◌, map, leb, length, drop, Result, Ok, Err}
+use Rattle.std.specs.Prelude.{ℕ, ◌+◌, ◌-◌, ◌≤◌, ◌≡◌, Bool, true, false, not, List, [], ◌∷◌, ◌++◌, map, leb, length, drop, Result, Ok, Err}
 use Rattle.rules.specs.Choice.{pick, all_are}
 use Rattle.rules.specs.Numbers.{message_size, accepted, unsound}
 use Rattle.rules.specs.Messages.Layout.{fields_in, number_at}
@@ -18,7 +18,9 @@ use Rattle.message.specs.declared.Message.TheVariants.{Initiate, StartRead, Read
 use Rattle.message.specs.declared.Message.TheVariants.{WriteCompletion, DiscardState, ReadCharacteristics, Characteristics}
 use Rattle.message.specs.declared.Message.TheVariants.{CheckInput, InputCount, InputState, Other}
 use Rattle.rules.specs.declared.refusals.Refusal.{Refusal}
+use Rattle.rules.specs.declared.refusals.Refusal.TheVariants.{Unsound}
 use Rattle.rules.specs.Refusals.{number_of}
+use Rattle.parameters.specs.Lists.{sound_from}
 
 -- the parameters in a span
 unfoldable pub parameters_of : Shape → List ℕ → Span → List (List ℕ)
@@ -152,6 +154,16 @@ pub record RestFrom (at : ℕ) (s : List ℕ) (p : Span) : Type 0 where
   pub same : span_of s p ≡ drop at s
   pub long : p.len ≡ length s - at
   pub inside : at ≤ length s → p.start + p.len ≤ length s
+
+-- a message of a fixed length: this one where there are so many bytes, and refused where there are not
+pub record IsFixed (size : ℕ) (s : List ℕ) (m : Message) : Type 0 where
+  pub is : length s ≡ size → Finds s (decoded_as (forms.type_in s) s) (Ok m)
+  pub other : (length s ≡ size → ⊥) → Finds s (decoded_as (forms.type_in s) s) (Err Unsound)
+
+-- the list of a message of this type, which stands behind so many bytes, or that it is cut short or unsound
+abbrev pub ListIn : ℕ → ℕ → List ℕ → Result Span Refusal → Type 0
+ListIn kind header s (Ok p) = (header ≤ length s) × (sound_from kind header s ≡ true) × RestFrom header s p
+ListIn kind header s (Err e) = (e ≡ Unsound) × (header ≤ length s → sound_from kind header s ≡ false)
 
 -- the fields as one type, whatever they hold; the spans of a message that is not refused lie in the slice
 pub record FieldsIn (kind : ℕ) (s : List ℕ) (m : Message) : Type 0 where

@@ -1,14 +1,17 @@
 // The fourteen messages of the Network Command Terminal protocol: their fields, and decoding them.
 #![tactic(auto)]
 
-ghost use Rattle.std.specs.Prelude.{◌≡◌};
+ghost use Rattle.std.specs.Prelude.{◌≡◌, true, length};
+ghost use Rattle.rules.specs.Messages.Forms.{type_in};
 ghost use Rattle.rules.specs.Messages.Codec as codec;
 ghost use Rattle.message.specs.Found.{Finds, as_held, found_number};
 
-use fields::Span;
+use crate::sizes::fixed;
+use fields::{Span, byte_at, word_at};
 use rules::refusals::Refusal;
+use rules::{bits, forms};
 
-mod fixed;
+mod flags;
 mod listed;
 mod sizes;
 mod spans;
@@ -16,6 +19,15 @@ mod start_read;
 mod texts;
 
 pub use crate::start_read::is_sound_start_read;
+
+// Out-of-Band's CHARACTER, Write Completion's HORIZONTAL-POS and VERTICAL-POS, and Input Count's COUNT.
+const CHARACTER: usize = 2;
+
+const HORIZONTAL: usize = 2;
+
+const VERTICAL: usize = 4;
+
+const COUNT: usize = 2;
 
 // The last completion code that 000 defines, and the last value of a Write's PP and QQ.
 pub const LAST_COMPLETION_CODE: u8 = 13;
@@ -139,22 +151,49 @@ pub fn decode(s: &[u8]) -> Result<Message, Refusal>
     if !sized {
         return Err(Refusal::WrongLength);
     }
-    let kind = fields::byte_at(s, rules::forms::MSGTYPE);
+    decode_as(byte_at(s, forms::MSGTYPE), s)
+}
+
+// A message of this type.
+fn decode_as(kind: u8, s: &[u8]) -> Result<Message, Refusal>
+    requires sized { codec.sound_length (length s.now) ≡ true }
+    requires typed { kind ≡ type_in s.now }
+    ensures { Finds s.now (as_held (codec.read s.now)) result }
+{
+    let flag = byte_at(s, forms::FLAGS) % bits::ONE_BIT;
     match kind {
         rules::INITIATE => listed::decode_initiate(s),
         rules::START_READ => start_read::decode_start_read(s),
         rules::READ_DATA => texts::decode_read_data(s),
-        rules::OUT_OF_BAND => fixed::decode_out_of_band(s),
-        rules::UNREAD => fixed::decode_unread(s),
-        rules::CLEAR_INPUT => fixed::decode_clear_input(s),
+        rules::OUT_OF_BAND => {
+            let message = Message::OutOfBand {
+                discard: flag,
+                character: byte_at(s, CHARACTER),
+            };
+            fixed(forms::OUT_OF_BAND_HEADER, s, message)
+        }
+        rules::UNREAD => fixed(forms::BARE_HEADER, s, Message::Unread { condition: flag }),
+        rules::CLEAR_INPUT => fixed(forms::BARE_HEADER, s, Message::ClearInput),
         rules::WRITE => texts::decode_write(s),
-        rules::WRITE_COMPLETION => fixed::decode_write_completion(s),
-        rules::DISCARD_STATE => fixed::decode_discard_state(s),
+        rules::WRITE_COMPLETION => {
+            let message = Message::WriteCompletion {
+                lost: flag,
+                horizontal: word_at(s, HORIZONTAL),
+                vertical: word_at(s, VERTICAL),
+            };
+            fixed(forms::WRITE_COMPLETION_HEADER, s, message)
+        }
+        rules::DISCARD_STATE => fixed(forms::BARE_HEADER, s, Message::DiscardState { kept: flag }),
         rules::READ_CHARACTERISTICS => listed::decode_read_characteristics(s),
         rules::CHARACTERISTICS => listed::decode_characteristics(s),
-        rules::CHECK_INPUT => fixed::decode_check_input(s),
-        rules::INPUT_COUNT => fixed::decode_input_count(s),
-        rules::INPUT_STATE => fixed::decode_input_state(s),
+        rules::CHECK_INPUT => fixed(forms::BARE_HEADER, s, Message::CheckInput),
+        rules::INPUT_COUNT => {
+            let message = Message::InputCount {
+                count: word_at(s, COUNT),
+            };
+            fixed(forms::INPUT_COUNT_HEADER, s, message)
+        }
+        rules::INPUT_STATE => fixed(forms::BARE_HEADER, s, Message::InputState { nonzero: flag }),
         _ => Err(Refusal::WrongType),
     }
 }

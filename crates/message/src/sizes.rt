@@ -1,31 +1,30 @@
-// How many bytes stand in front of a message's list or text, to hold a slice's length against.
-ghost use Rattle.std.specs.Prelude.{◌≡◌, ◌↔◌, length, IsOk, IsOkUnless};
+// How many bytes a message has.
+ghost use Rattle.std.specs.Prelude.{◌≤◌, ◌↔◌, length, IsOk, IsOkUnless};
 ghost use Rattle.rules.specs.declared.refusals.Refusal.TheVariants.{Unsound};
+ghost use Rattle.rules.specs.Messages.Forms.{type_in};
+ghost use Rattle.message.specs.Found.{IsFixed, Finds, decoded_as};
 
-use rules::forms;
+use crate::Message;
 use rules::refusals::Refusal;
 
-pub(crate) const BARE_HEADER: usize = forms::BARE_HEADER as usize;
-
-pub(crate) const INITIATE_HEADER: usize = forms::INITIATE_HEADER as usize;
-
-pub(crate) const READ_DATA_HEADER: usize = forms::READ_DATA_HEADER as usize;
-
-pub(crate) const OUT_OF_BAND_HEADER: usize = forms::OUT_OF_BAND_HEADER as usize;
-
-pub(crate) const WRITE_HEADER: usize = forms::WRITE_HEADER as usize;
-
-pub(crate) const WRITE_COMPLETION_HEADER: usize = forms::WRITE_COMPLETION_HEADER as usize;
-
-pub(crate) const INPUT_COUNT_HEADER: usize = forms::INPUT_COUNT_HEADER as usize;
-
-// A message has so many bytes, and no more.
-pub(crate) fn exactly(size: usize, s: &[u8]) -> Result<(), Refusal>
-    ensures ok { IsOk result ↔ (length s.now ≡ size) }
+// So many bytes, or more.
+pub(crate) fn at_least(size: u16, s: &[u8]) -> Result<(), Refusal>
+    ensures ok { IsOk result ↔ (size ≤ length s.now) }
     ensures unsound { IsOkUnless result Unsound }
 {
-    if s.len() != size {
+    if s.len() < size as usize {
         return Err(Refusal::Unsound);
     }
     Ok(())
+}
+
+// A message of a fixed length: this one, if there are so many bytes and no more.
+pub(crate) fn fixed(size: u16, s: &[u8], message: Message) -> Result<Message, Refusal>
+    requires { IsFixed size s.now message }
+    ensures { Finds s.now (decoded_as (type_in s.now) s.now) result }
+{
+    if s.len() != size as usize {
+        return Err(Refusal::Unsound);
+    }
+    Ok(message)
 }

@@ -3,6 +3,7 @@ ghost use Rattle.rules.specs.Messages.Forms as forms;
 ghost use Rattle.message.specs.declared.Message.TheVariants as variants;
 ghost use Rattle.message.specs.Found.{IsType, FieldsIn, Finds, decoded_as};
 
+use crate::flags::Flags;
 use crate::spans::rest_from;
 use crate::{LAST_COMPLETION_CODE, LAST_FIX, Message, ReadDataFields, WriteFields, sizes};
 use fields::{byte_at, word_at};
@@ -18,11 +19,7 @@ const HORIZONTAL: usize = 5;
 
 const TERMINATOR: usize = 6;
 
-// Fields of a Write's FLAGS, by how many values they have, and where its other fields stand.
-const ONE_BIT: u16 = bits::ONE_BIT as u16;
-
-const TWO_BITS: u16 = bits::TWO_BITS as u16;
-
+// And the fields of a Write behind its FLAGS.
 const PREFIX_VALUE: usize = 3;
 
 const POSTFIX_VALUE: usize = 4;
@@ -32,20 +29,17 @@ fn read_data_fields(s: &[u8]) -> ReadDataFields
     requires { IsType forms.read_data s.now }
     ensures { FieldsIn forms.read_data s.now (variants.ReadData result) }
 {
-    let flags = byte_at(s, forms::FLAGS);
-    let low_water = word_at(s, LOW_WATER);
-    let vertical = byte_at(s, VERTICAL);
-    let horizontal = byte_at(s, HORIZONTAL);
-    let terminator = word_at(s, TERMINATOR);
-    let text = rest_from(s, forms::READ_DATA_HEADER);
+    let mut flags = Flags {
+        rest: byte_at(s, forms::FLAGS) as u32,
+    };
     ReadDataFields {
-        code: flags % bits::FOUR_BITS,
-        more: flags / bits::FOUR_BITS % bits::ONE_BIT,
-        low_water,
-        vertical,
-        horizontal,
-        terminator,
-        text,
+        code: flags.take(bits::FOUR_BITS),
+        more: flags.take(bits::ONE_BIT),
+        low_water: word_at(s, LOW_WATER),
+        vertical: byte_at(s, VERTICAL),
+        horizontal: byte_at(s, HORIZONTAL),
+        terminator: word_at(s, TERMINATOR),
+        text: rest_from(s, forms::READ_DATA_HEADER),
     }
 }
 
@@ -53,9 +47,7 @@ pub(crate) fn decode_read_data(s: &[u8]) -> Result<Message, Refusal>
     requires { IsType forms.read_data s.now }
     ensures { Finds s.now (decoded_as forms.read_data s.now) result }
 {
-    if s.len() < sizes::READ_DATA_HEADER {
-        return Err(Refusal::Unsound);
-    }
+    sizes::at_least(forms::READ_DATA_HEADER, s)?;
     let f = read_data_fields(s);
     if LAST_COMPLETION_CODE < f.code {
         return Err(Refusal::Unsound);
@@ -67,31 +59,22 @@ fn write_fields(s: &[u8]) -> WriteFields
     requires { IsType forms.write s.now }
     ensures { FieldsIn forms.write s.now (variants.Write result) }
 {
-    let flags = word_at(s, forms::FLAGS);
-    let newline = flags / TWO_BITS;
-    let keeps_output = newline / ONE_BIT;
-    let first = keeps_output / ONE_BIT;
-    let last = first / ONE_BIT;
-    let prefix = last / ONE_BIT;
-    let postfix = prefix / TWO_BITS;
-    let wants_completion = postfix / TWO_BITS;
-    let transparent = wants_completion / ONE_BIT;
-    let prefix_value = byte_at(s, PREFIX_VALUE);
-    let postfix_value = byte_at(s, POSTFIX_VALUE);
-    let text = rest_from(s, forms::WRITE_HEADER);
+    let mut flags = Flags {
+        rest: word_at(s, forms::FLAGS) as u32,
+    };
     WriteFields {
-        lock: (flags % TWO_BITS) as u8,
-        newline: (newline % ONE_BIT) as u8,
-        keeps_output: (keeps_output % ONE_BIT) as u8,
-        first: (first % ONE_BIT) as u8,
-        last: (last % ONE_BIT) as u8,
-        prefix: (prefix % TWO_BITS) as u8,
-        postfix: (postfix % TWO_BITS) as u8,
-        wants_completion: (wants_completion % ONE_BIT) as u8,
-        transparent: (transparent % ONE_BIT) as u8,
-        prefix_value,
-        postfix_value,
-        text,
+        lock: flags.take(bits::TWO_BITS),
+        newline: flags.take(bits::ONE_BIT),
+        keeps_output: flags.take(bits::ONE_BIT),
+        first: flags.take(bits::ONE_BIT),
+        last: flags.take(bits::ONE_BIT),
+        prefix: flags.take(bits::TWO_BITS),
+        postfix: flags.take(bits::TWO_BITS),
+        wants_completion: flags.take(bits::ONE_BIT),
+        transparent: flags.take(bits::ONE_BIT),
+        prefix_value: byte_at(s, PREFIX_VALUE),
+        postfix_value: byte_at(s, POSTFIX_VALUE),
+        text: rest_from(s, forms::WRITE_HEADER),
     }
 }
 
@@ -99,9 +82,7 @@ pub(crate) fn decode_write(s: &[u8]) -> Result<Message, Refusal>
     requires { IsType forms.write s.now }
     ensures { Finds s.now (decoded_as forms.write s.now) result }
 {
-    if s.len() < sizes::WRITE_HEADER {
-        return Err(Refusal::Unsound);
-    }
+    sizes::at_least(forms::WRITE_HEADER, s)?;
     let f = write_fields(s);
     if (f.prefix <= LAST_FIX) & (f.postfix <= LAST_FIX) {
         return Ok(Message::Write(f));

@@ -5,4 +5,4 @@ use Rattle.message.proofs.start_read.is_sound_start_read.Goals as goal
 
 pub returns : goal.returns
 unfolding sound_fields sound_start_read start_read_in
-returns c = λ s e. rw (input_size_lem, e, c.less-shown.ensures)
+returns c = λ s e. rw (input_size_lem, e, c.saturating_sub-shown.ensures)
