@@ -75,13 +75,18 @@ fn dropped(line: Line) -> u16
     console::dropped(line)
 }
 
+// Of what the line answered to a call, the next line is taken and the rest is told. A function that is handed the line copies it, and one answer for the
+// four calls is joined field by field: either makes a keystroke slower.
+macro_rules! answered {
+    ($line:ident = $answer:expr) => {{
+        let a = $answer;
+        $line = a.line;
+        Told::Answer(a.number, a.terminal, a.messages)
+    }};
+}
+
 // From a fresh line to the line at the script's end. It stays a local of the loop: to hand it on is to copy it.
-fn replay(
-    mut script: Script,
-    mut output: Output,
-    terminal: &mut [u8],
-    messages: &mut [u8],
-) -> Line
+fn replay(mut script: Script, mut output: Output, terminal: &mut [u8], messages: &mut [u8]) -> Line
     requires { Areas terminal.old messages.old }
     ensures { Played result }
 {
@@ -97,25 +102,23 @@ fn replay(
             Order::Call(call) => {
                 let t = &mut terminal[..size(lengths.terminal)];
                 let m = &mut messages[..size(lengths.messages)];
-                let a = match call {
-                    Call::Key(code) => line.key(code, t, m),
-                    Call::Step => line.step(t, m),
-                    Call::Tick => line.tick(t, m),
-                    Call::Host(n) => line.host(message(&kept, n), t, m),
+                told = match call {
+                    Call::Key(code) => answered!(line = line.key(code, t, m)),
+                    Call::Step => answered!(line = line.step(t, m)),
+                    Call::Tick => answered!(line = line.tick(t, m)),
+                    Call::Host(n) => answered!(line = line.host(message(&kept, n), t, m)),
                 };
-                line = a.line;
-                told = Told::Answer(a.number, a.terminal, a.messages);
             }
             Order::Load(own, site) => {
                 let a = load(line, &kept, own, site);
                 line = a.line;
                 told = Told::Number(a.number);
             }
-            Order::Dropped => told = Told::Count(dropped(line)),
             Order::Fresh => {
                 line = console::fresh();
                 lengths = Lengths::default();
             }
+            Order::Dropped => told = Told::Count(dropped(line)),
             Order::Lengths(lent) => lengths = lent,
             Order::Tell(answer) => told = answer,
         }

@@ -1,30 +1,27 @@
 use Prim.Native.Nat.{◌<◌}
-use mathlib.Core.Path.{subst⁻¹, ◌∙◌, ap}
+use mathlib.Core.Path.{subst⁻¹}
 use native.Mathlib.Omega.{arith}
 use Rattle.replay.specs.Played.{Played}
 use Rattle.replay.proofs.Playing.{played_fresh, played_bounded, played_key, played_step, played_tick, played_host}
 use Rattle.replay.proofs.replay.Goals as goal
-use Rattle.replay.proofs.replay.Goals.{After-put, in-Call, in-Key, in-Step, in-Tick, in-Host, in-Load, in-Dropped, in-Fresh, in-Lengths, in-Tell}
+use Rattle.replay.proofs.replay.Goals.{After-put, in-Call+in-Key, in-Call+in-Step, in-Call+in-Tick, in-Call+in-Host, in-Load, in-Fresh, in-Dropped, in-Lengths, in-Tell}
 
--- The line after an order: what a call handed back, a fresh one, or the one before.
+-- The line behind an order: what a call handed back, a fresh one, or the one before.
 played_on : (c : After-put) → Played c.match-order.line
 played_on c =
     let before = c.loop.invariant in
     elim c.match-order.branch [
-      in-Call w ↦
-          elim w.match-call.branch [
-            in-Key w' ↦
-                let byte : w'.in-Key.code < 256 = omega (arith, w'.in-Key.known_told-in-Key-1-own.given) in
-                subst⁻¹ Played (w.line-is ∙ ap (λ a. a.line) w'.a-is) (played_key before w'.in-Key.code byte w'.key-a.ensures)
-          | in-Step w' ↦ subst⁻¹ Played (w.line-is ∙ ap (λ a. a.line) w'.a-is) (played_step before w'.step-a.ensures)
-          | in-Tick w' ↦ subst⁻¹ Played (w.line-is ∙ ap (λ a. a.line) w'.a-is) (played_tick before w'.tick-a.ensures)
-          | in-Host w' ↦ subst⁻¹ Played (w.line-is ∙ ap (λ a. a.line) w'.a-is) (played_host before _ w'.message.ensures w'.host-a.ensures)
-          ]
-    | in-Load w ↦ subst⁻¹ Played w.line-is (w.load-a.ensures before)
-    | in-Dropped w ↦ subst⁻¹ Played w.line-is before
-    | in-Fresh w ↦ subst⁻¹ Played w.line-is (played_fresh w.fresh-line-in-Fresh.ensures)
-    | in-Lengths w ↦ subst⁻¹ Played w.line-is before
-    | in-Tell w ↦ subst⁻¹ Played w.line-is before
+      | in-Call+in-Key w ↦
+          let byte : w.in-Key.code < 256 = omega arith in
+          subst⁻¹ Played w.line-is (played_key before w.in-Key.code byte w.key-a.ensures)
+      | in-Call+in-Step w ↦ subst⁻¹ Played w.line-is (played_step before w.step-a.ensures)
+      | in-Call+in-Tick w ↦ subst⁻¹ Played w.line-is (played_tick before w.tick-a.ensures)
+      | in-Call+in-Host w ↦ subst⁻¹ Played w.line-is (played_host before _ w.message.ensures w.host-a.ensures)
+      | in-Load w ↦ subst⁻¹ Played w.line-is (w.load-a.ensures before)
+      | in-Fresh w ↦ subst⁻¹ Played w.line-is (played_fresh w.fresh-line-in-Fresh.ensures)
+      | in-Dropped w ↦ subst⁻¹ Played w.line-is before
+      | in-Lengths w ↦ subst⁻¹ Played w.line-is before
+      | in-Tell w ↦ subst⁻¹ Played w.line-is before
     ]
 
 pub loop-init : goal.loop-init
