@@ -1,5 +1,5 @@
 -- Hex digits.
-use Rattle.std.specs.Prelude.{ℕ, ◌+◌, ◌-◌, Bool, ltb}
+use Rattle.std.specs.Prelude.{ℕ, ◌+◌, ◌-◌, Bool, ltb, Option, Some, None}
 use Rattle.rules.specs.Choice.{pick, within}
 use Rattle.rules.specs.State.{first_small}
 use Rattle.rules.specs.Editing.{first_digit, first_capital, is_digit}
@@ -27,13 +27,13 @@ is_hex_capital c = within first_capital (below_capitals + largest) c
 abbrev pub is_hex_small : ℕ → Bool
 is_hex_small c = within first_small (below_small + largest) c
 
--- 0 to 9, A to F or a to f, and 16 of any other code
-unfoldable pub value_of : ℕ → ℕ
+-- 0 to 9, A to F or a to f, and no other code
+unfoldable pub value_of : ℕ → Option ℕ
 value_of c =
-    pick (is_digit c) (c - first_digit)
-    (pick (is_hex_capital c) (c - below_capitals)
-    (pick (is_hex_small c) (c - below_small)
-    base))
+    pick (is_digit c) (Some (c - first_digit))
+    (pick (is_hex_capital c) (Some (c - below_capitals))
+    (pick (is_hex_small c) (Some (c - below_small))
+    None))
 
 -- capital
 unfoldable pub digit_of : ℕ → ℕ

@@ -8,9 +8,9 @@ ghost use Rattle.replay.specs.Areas.{longest, Areas};
 ghost use Rattle.replay.specs.Played.{Played, IsCount};
 
 use crate::answers::Told;
-use crate::output::front;
-use crate::run::Run;
-use crate::text::Call;
+use crate::orders::{Call, Lengths, Order};
+use crate::output::{Output, front};
+use crate::script::Script;
 use fields::Span;
 use line::{Answer, Line};
 use std::rt::HostRuntime;
@@ -19,11 +19,12 @@ mod answers;
 mod hex;
 mod moving;
 mod number;
+mod orders;
 mod output;
 mod records;
-mod run;
 mod script;
 mod text;
+mod words;
 
 // Room for a message that is one byte too long: of a longer one the front is refused all the same. Two settings records, of 601 bytes at most each, need less.
 const KEPT: usize = rules::MESSAGE_SIZE + 1;
@@ -33,6 +34,9 @@ const AREA: usize = 65_535;
 
 // What is read in one piece, and what waits to be printed.
 const BLOCK: usize = 65_536;
+
+// A proved loop has to end: no script has so many lines.
+const TURNS: u64 = u64::MAX;
 
 // A length that a line of the script can ask for.
 fn size(length: u16) -> usize
@@ -71,53 +75,55 @@ fn dropped(line: Line) -> u16
     console::dropped(line)
 }
 
+// Of what the line answered to a call, the next line is taken and the rest is told. A function that is handed the line copies it, and one answer for the
+// four calls is joined field by field: either makes a keystroke slower.
+macro_rules! answered {
+    ($line:ident = $answer:expr) => {{
+        let a = $answer;
+        $line = a.line;
+        Told::Answer(a.number, a.terminal, a.messages)
+    }};
+}
+
 // From a fresh line to the line at the script's end. It stays a local of the loop: to hand it on is to copy it.
-fn replay(
-    rt: HostRuntime,
-    input: &mut [u8],
-    terminal: &mut [u8],
-    messages: &mut [u8],
-    buffer: &mut [u8],
-) -> Line
+fn replay(mut script: Script, mut output: Output, terminal: &mut [u8], messages: &mut [u8]) -> Line
     requires { Areas terminal.old messages.old }
     ensures { Played result }
 {
     let mut kept = [0u8; KEPT];
     let mut line = console::fresh();
-    let mut run = Run::begun();
-    while 0 < run.turns {
-        run = run.next(rt, input, &mut kept, terminal, messages, buffer);
-        let t = &mut terminal[0..size(run.terminal)];
-        let m = &mut messages[0..size(run.messages)];
-        match run.call() {
-            Call::Key(code) => {
-                let a = line.key(code, t, m);
-                line = a.line;
-                run = run.telling(Told::Answer(a.number, a.terminal, a.messages));
+    let mut lengths = Lengths::default();
+    for _ in 0..TURNS {
+        let Some(order) = script.next(&mut kept, &mut output) else {
+            break;
+        };
+        let mut told = Told::Nothing;
+        match order {
+            Order::Call(call) => {
+                let t = &mut terminal[..size(lengths.terminal)];
+                let m = &mut messages[..size(lengths.messages)];
+                told = match call {
+                    Call::Key(code) => answered!(line = line.key(code, t, m)),
+                    Call::Step => answered!(line = line.step(t, m)),
+                    Call::Tick => answered!(line = line.tick(t, m)),
+                    Call::Host(n) => answered!(line = line.host(message(&kept, n), t, m)),
+                };
             }
-            Call::Step => {
-                let a = line.step(t, m);
-                line = a.line;
-                run = run.telling(Told::Answer(a.number, a.terminal, a.messages));
-            }
-            Call::Tick => {
-                let a = line.tick(t, m);
-                line = a.line;
-                run = run.telling(Told::Answer(a.number, a.terminal, a.messages));
-            }
-            Call::Host(n) => {
-                let a = line.host(message(&kept, n), t, m);
-                line = a.line;
-                run = run.telling(Told::Answer(a.number, a.terminal, a.messages));
-            }
-            Call::Load(own, site) => {
+            Order::Load(own, site) => {
                 let a = load(line, &kept, own, site);
                 line = a.line;
-                run = run.telling(Told::Number(a.number));
+                told = Told::Number(a.number);
             }
-            Call::Fresh => line = console::fresh(),
-            Call::Dropped => run = run.telling(Told::Count(dropped(line))),
-            Call::Nothing => {}
+            Order::Fresh => {
+                line = console::fresh();
+                lengths = Lengths::default();
+            }
+            Order::Dropped => told = Told::Count(dropped(line)),
+            Order::Lengths(lent) => lengths = lent,
+            Order::Tell(answer) => told = answer,
+        }
+        if told.put(&kept, terminal, messages, &mut output).is_err() {
+            break;
         }
     }
     line
@@ -128,5 +134,7 @@ fn main(rt: HostRuntime) {
     let mut terminal = [0u8; AREA];
     let mut messages = [0u8; AREA];
     let mut buffer = [0u8; BLOCK];
-    replay(rt, &mut input, &mut terminal, &mut messages, &mut buffer);
+    let script = Script::new(rt.stdin(), rt.stderr(), &mut input);
+    let output = Output::new(rt.stdout(), &mut buffer);
+    replay(script, output, &mut terminal, &mut messages);
 }

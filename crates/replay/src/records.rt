@@ -1,92 +1,65 @@
 // A settings record as its bytes come: digits, or '-' for a record of no bytes.
-use crate::hex::{HALF_BYTE, LARGEST, value_of};
-use crate::number::Length;
+use crate::hex::{HALF_BYTE, value_of};
 
 // Bytes for which there is room: no sound record has so many, so of a longer one it is enough to keep the front.
 const ROOM: u16 = rules::MOVING_AREA as u16 + 1;
 
-const DIGITS_A_BYTE: u32 = 2;
+const DIGITS_A_BYTE: u16 = 2;
 
-const MOST_DIGITS: u32 = DIGITS_A_BYTE * ROOM as u32;
-
-// The count of what is no record.
-const LOST: u32 = u32::MAX;
+const MOST_DIGITS: u16 = DIGITS_A_BYTE * ROOM;
 
 #[derive(Clone, Copy)]
-pub struct Record {
-    // of its digits
-    count: u32,
-    dash: bool,
-    // what the line asks: L, or the digit of a section or form
-    pub asked: u8,
+pub enum Record {
+    // so many digits
+    Digits(u16),
+    Dash,
 }
 
 // A byte begins anew with the first of its two digits.
-fn byte_with(begun: u8, count: u32, value: u8) -> u8 {
+fn byte_with(begun: u8, count: u16, value: u8) -> u8 {
     if count % DIGITS_A_BYTE == 0 {
         return value << HALF_BYTE;
     }
     begun | value
 }
 
+// The count of digits with one more. Bytes are kept from a place on; past the room it only counts whether the digits are even.
+fn with_digit(count: u16, value: u8, from: u16, kept: &mut [u8]) -> u16 {
+    if MOST_DIGITS < count {
+        return MOST_DIGITS;
+    }
+    let at = usize::from(from) + usize::from(count / DIGITS_A_BYTE);
+    if let Some(byte) = kept.get_mut(at) {
+        *byte = byte_with(*byte, count, value);
+    }
+    count + 1
+}
+
 impl Record {
-    pub(crate) fn begun(asked: u8) -> Record {
-        Record {
-            count: 0,
-            dash: false,
-            asked,
+    pub(crate) fn begun() -> Record {
+        Record::Digits(0)
+    }
+
+    // With one more byte of its text; None if that is no record's.
+    pub(crate) fn with(self, byte: u8, from: u16, kept: &mut [u8]) -> Option<Record> {
+        match self {
+            Record::Digits(0) if byte == b'-' => Some(Record::Dash),
+            Record::Digits(count) => {
+                let value = value_of(byte)?;
+                Some(Record::Digits(with_digit(count, value, from, kept)))
+            }
+            Record::Dash => None,
         }
     }
 
-    fn of(self, count: u32, dash: bool) -> Record {
-        Record {
-            count,
-            dash,
-            asked: self.asked,
+    // The count of its bytes, if it is a whole record.
+    pub(crate) fn length(self) -> Option<u16> {
+        match self {
+            Record::Digits(0) => None,
+            Record::Digits(count) => {
+                (count % DIGITS_A_BYTE == 0).then_some(count / DIGITS_A_BYTE)
+            }
+            Record::Dash => Some(0),
         }
-    }
-
-    // One more digit. Bytes are kept from a place on; past the room it only counts whether the digits are even.
-    fn with_digit(self, value: u8, from: u16, kept: &mut [u8]) -> Record {
-        let count = self.count;
-        if MOST_DIGITS < count {
-            return self.of(MOST_DIGITS, false);
-        }
-        let at = from as usize + (count / DIGITS_A_BYTE) as usize;
-        if kept.len() <= at {
-            return self.of(count + 1, false);
-        }
-        kept[at] = byte_with(kept[at], count, value);
-        self.of(count + 1, false)
-    }
-
-    // One more byte of its text.
-    pub(crate) fn with(self, byte: u8, from: u16, kept: &mut [u8]) -> Record {
-        if self.dash | (self.count == LOST) {
-            return self.of(LOST, false);
-        }
-        let value = value_of(byte);
-        if value <= LARGEST {
-            return self.with_digit(value, from, kept);
-        }
-        if (byte == b'-') & (self.count == 0) {
-            return self.of(0, true);
-        }
-        self.of(LOST, false)
-    }
-
-    // Its bytes, if it is a whole record.
-    pub(crate) fn length(self) -> Length {
-        let count = self.count;
-        if self.dash {
-            return Length::Of(0);
-        }
-        if (count == 0) | (count % DIGITS_A_BYTE != 0) {
-            return Length::None;
-        }
-        if MOST_DIGITS < count {
-            return Length::None;
-        }
-        Length::Of((count / DIGITS_A_BYTE) as u16)
     }
 }

@@ -1,21 +1,23 @@
 // The script, read in pieces and taken line by line.
 ghost use Rattle.io.specs.Counts.{IsPrefixLen};
 
-use crate::output::front;
-use crate::text::{Order, Text};
+use crate::BLOCK;
+use crate::answers::Told;
+use crate::orders::Order;
+use crate::output::Output;
+use crate::text::Text;
 use std::io::{Read, Stderr, Stdin, Write};
 
-#[derive(Clone, Copy)]
-pub struct Script {
+#[derive(Drop)]
+pub struct Script<'a> {
+    stdin: Stdin,
+    stderr: Stderr,
+    // a piece of it, the next byte and the piece's length
+    piece: &'a mut [u8; BLOCK],
+    from: usize,
+    to: usize,
     // the line that has begun
-    pub text: Text,
-    // the next byte of the piece, and the piece's length
-    pub from: usize,
-    pub to: usize,
-    // no piece follows
-    pub ended: bool,
-    // what the line before says
-    pub order: Order,
+    text: Text,
 }
 
 // How many bytes a read gave. One that fails gives none, and says so.
@@ -31,61 +33,55 @@ fn count(mut stdin: Stdin, mut stderr: Stderr, input: &mut [u8]) -> usize
     }
 }
 
-impl Script {
-    fn with_piece(self, to: usize) -> Script {
-        let text = self.text;
+impl<'a> Script<'a> {
+    pub(crate) fn new(stdin: Stdin, stderr: Stderr, piece: &'a mut [u8; BLOCK]) -> Script<'a> {
         Script {
-            text,
+            stdin,
+            stderr,
+            piece,
             from: 0,
-            to,
-            ended: to == 0,
-            order: Order::More,
-        }
-    }
-
-    // The next piece. The last line may lack its newline: one is put behind it.
-    pub(crate) fn read(self, stdin: Stdin, stderr: Stderr, input: &mut [u8]) -> Script {
-        let text = self.text;
-        let to = count(stdin, stderr, input);
-        if (to == 0) & text.is_begun() {
-            if 0 < input.len() {
-                input[0] = b'\n';
-                return self.with_piece(1);
-            }
-        }
-        self.with_piece(to)
-    }
-
-    // Behind a line that says this.
-    fn behind(self, from: usize, order: Order) -> Script {
-        Script {
+            to: 0,
             text: Text::Nothing,
-            from,
-            to: self.to,
-            ended: self.ended,
-            order,
         }
     }
 
-    // One line on, or to the end of the piece.
-    pub(crate) fn next(self, input: &[u8], kept: &mut [u8]) -> Script {
-        let piece = front(input, self.to);
-        let mut text = self.text;
-        let mut i = self.from;
-        while i < piece.len() {
-            let byte = piece[i];
-            i += 1;
-            if byte == b'\n' {
-                return self.behind(i, text.order(kept));
+    // Reads the next piece, if there is one. The last line may lack its newline: one is put behind it.
+    fn read(&mut self) -> Option<()> {
+        self.from = 0;
+        self.to = count(self.stdin, self.stderr, self.piece);
+        if self.to == 0 {
+            if !self.text.is_begun() {
+                return None;
             }
-            text = text.with(byte, kept);
+            self.piece[0] = b'\n';
+            self.to = 1;
         }
-        Script {
-            text,
-            from: i,
-            to: self.to,
-            ended: self.ended,
-            order: Order::More,
+        Some(())
+    }
+
+    // What the next line says; nothing, if it doesn't end in this piece.
+    fn line(&mut self, kept: &mut [u8]) -> Order {
+        let mut text = self.text;
+        let rest = self.piece.get(self.from..self.to).unwrap_or(&[]);
+        for (i, &byte) in rest.iter().enumerate() {
+            if byte == b'\n' {
+                self.from += i + 1;
+                self.text = Text::Nothing;
+                return text.order(kept).unwrap_or(Order::Tell(Told::Unknown));
+            }
+            text = text.followed(byte, kept);
         }
+        self.from = self.to;
+        self.text = text;
+        Order::Tell(Told::Nothing)
+    }
+
+    // One line on, or to the end of the piece. None at the script's end, and once answers cannot be written.
+    pub(crate) fn next(&mut self, kept: &mut [u8], output: &mut Output) -> Option<Order> {
+        if self.to <= self.from {
+            output.flush().ok()?;
+            self.read()?;
+        }
+        Some(self.line(kept))
     }
 }
