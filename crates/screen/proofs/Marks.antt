@@ -132,26 +132,26 @@ module _ (kept column : ℕ) (ns : List ℕ) (cursor : ℕ) {at marks i : ℕ} {
       ∙ ap (λ l. capped (length l)) e
       ∙ ap (λ l. capped (length (echo_all start l))) behind
 
-  pub finds_replayed : {replayed : List ℕ} → cursor ≡ reached column replayed → any_is is_tab deleted ≡ true →
-      replayed ≡ take at ns → Finds kept column ns (record { marks = marks; columns = length replayed + length deleted })
+  pub finds_replayed : {columns : ℕ} {replayed : List ℕ} → cursor ≡ reached column replayed → any_is is_tab deleted ≡ true →
+      replayed ≡ take at ns → columns ≡ length replayed + length deleted → Finds kept column ns (record { marks = marks; columns = columns })
   unfolding first_worked_out marks_behind
-  finds_replayed r tab front =
+  finds_replayed r tab front worked =
       let first = pick_true 0 kept (sym (ap (any_is is_tab) behind) ∙ tab) in
       let kept_text = front ∙ ap (λ k. take k ns) a ∙ take_min kept ns in
       let all = sym (length-append (take kept ns) (drop kept ns)) ∙ ap length (take-append-drop kept ns) in
       record {
         marks = counted (reached column (take kept ns)) (ap (λ k. echo_all k deleted) (r ∙ ap (reached column) kept_text));
-        columns = omega (arith, ap length kept_text, ap length behind);
+        columns = omega (arith, worked, ap length kept_text, ap length behind);
       }
 
-  pub finds_skipped : {replayed : List ℕ} → any_is is_tab deleted ≡ false → replayed ≡ [] →
-      Finds kept column ns (record { marks = marks; columns = length replayed + length deleted })
+  pub finds_skipped : {columns : ℕ} {replayed : List ℕ} → any_is is_tab deleted ≡ false → replayed ≡ [] →
+      columns ≡ length replayed + length deleted → Finds kept column ns (record { marks = marks; columns = columns })
   unfolding marks_behind echo_all column_after_all
-  finds_skipped none empty =
+  finds_skipped none empty worked =
       let first = first_kept kept ns (sym (ap (any_is is_tab) behind) ∙ none) in
       record {
         marks = counted (reached column (take kept ns)) (echo_all_anywhere deleted none cursor (reached column (take kept ns)));
-        columns = omega (arith, ap length empty, ap length behind, length-drop kept ns);
+        columns = omega (arith, worked, ap length empty, ap length behind, length-drop kept ns);
       }
 
 -- computed, because with every character called a tab all other laws would hold: a tab between two characters, 0 to 4 of them kept

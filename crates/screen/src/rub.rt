@@ -1,5 +1,5 @@
 // Rubbing out: how many marks a text's end is on the screen.
-ghost use Rattle.std.specs.Prelude.{◌≡◌, ◌+◌, min, eqb};
+ghost use Rattle.std.specs.Prelude.{◌≡◌, ◌+◌, min, eqb, length};
 ghost use Rattle.rules.specs.Choice.{pick, any_is};
 ghost use Rattle.rules.specs.Numbers.{top_column};
 ghost use Rattle.rules.specs.Screen as rules;
@@ -21,15 +21,18 @@ fn column_behind(column: u16, marks: u16) -> u16
     }
 }
 
-// The column behind a text's echo.
-fn column_behind_text(column: u16, text: &[u8]) -> u16
-    ensures { result ≡ rules.column_after_all column (rules.echo_all column text.now) }
+// The column behind a text's echo, and how many columns were worked out to find it.
+fn column_behind_text(column: u16, text: &[u8]) -> (u16, usize)
+    ensures cursor { result.0 ≡ rules.column_after_all column (rules.echo_all column text.now) }
+    ensures worked_out { result.1 ≡ length text.now }
 {
     let mut cursor = column;
+    let mut worked_out = 0;
     for &n in text {
         cursor = column_behind(cursor, Echo::of(cursor, n).width());
+        worked_out += 1;
     }
-    cursor
+    (cursor, worked_out)
 }
 
 fn holds_tab(text: &[u8]) -> bool
@@ -46,15 +49,13 @@ pub fn find_marks(kept: usize, column: u16, text: &[u8]) -> RubOut
 {
     let (front, deleted) = text.split_at(kept.min(text.len()));
     let replayed = if holds_tab(deleted) { front } else { &[] };
-    let mut cursor = column_behind_text(column, replayed);
+    let (mut cursor, mut columns) = column_behind_text(column, replayed);
     let mut marks: usize = 0;
     for &n in deleted {
         let more = Echo::of(cursor, n).width();
         marks = marks.saturating_add(more as usize);
         cursor = column_behind(cursor, more);
+        columns += 1;
     }
-    RubOut {
-        marks,
-        columns: replayed.len() + deleted.len(),
-    }
+    RubOut { marks, columns }
 }
