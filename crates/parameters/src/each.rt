@@ -8,6 +8,7 @@ use crate::{Parameter, parameter_at};
 // The parameters of a list that are left, in order. A last one that is cut short is one of them, its missing bytes 0.
 #[derive(Drop)]
 pub struct Parameters<'a> {
+    // the message's type, a number as `parameter_at` takes it
     kind: u8,
     list: &'a [u8],
     // where the next one begins

@@ -27,7 +27,7 @@ const SECOND: usize = HEAD + 1;
 const THIRD: usize = HEAD + 2;
 
 // One parameter of a list: its SELECTOR, the bytes behind it (CHARACTER, MASK and ATTRIBUTES, or a VALUE; 0 where there are
-// fewer), unused bits set to 0, and where the next one begins.
+// fewer), unused bits set to 0, and where the next one begins. The three bytes are no array, since users take each by name.
 #[derive(Clone, Copy, Debug, PartialEq, Eq, Default)]
 pub struct Parameter {
     pub selector: u16,
