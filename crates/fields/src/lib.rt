@@ -47,6 +47,7 @@ pub const OFF: u8 = 0;
 
 pub const ON: u8 = 1;
 
+// What `u8::from` gives, in the words of the rules.
 pub fn bit_of(test: bool) -> u8
     ensures { result ≡ bit test }
 {

@@ -34,6 +34,7 @@ pub const LAST_COMPLETION_CODE: u8 = 13;
 
 pub const LAST_FIX: u8 = 2;
 
+// Fields are numbers: encoding takes any, and refuses those that are not defined.
 #[derive(Clone, Copy)]
 pub struct InitiateFields {
     pub version: u8,
@@ -154,7 +155,7 @@ pub fn decode(s: &[u8]) -> Result<Message, Refusal>
     decode_as(byte_at(s, forms::MSGTYPE), s)
 }
 
-// A message of this type.
+// A message of this type: a number, since a slice may begin with any.
 fn decode_as(kind: u8, s: &[u8]) -> Result<Message, Refusal>
     requires sized { codec.sound_length (length s.now) ≡ true }
     requires typed { kind ≡ type_in s.now }
