@@ -36,15 +36,13 @@ pub fn put_message(m: Message, s: &[u8], w: &mut Writer)
             vertical,
         } => put_write_completion(lost, horizontal, vertical, w),
         Message::DiscardState { kept } => w.put_pair(rules::DISCARD_STATE, kept),
-        Message::ReadCharacteristics { parameters: _ } => {
+        Message::ReadCharacteristics { .. } => {
             w.put_pair(rules::READ_CHARACTERISTICS, forms::NO_FLAGS)
         }
-        Message::Characteristics { parameters: _ } => {
-            w.put_pair(rules::CHARACTERISTICS, forms::NO_FLAGS)
-        }
+        Message::Characteristics { .. } => { w.put_pair(rules::CHARACTERISTICS, forms::NO_FLAGS) }
         Message::CheckInput => w.put_pair(rules::CHECK_INPUT, forms::NO_FLAGS),
         Message::InputCount { count } => put_input_count(count, w),
         Message::InputState { nonzero } => w.put_pair(rules::INPUT_STATE, nonzero),
-        Message::Other { kind: _, body: _ } => {}
+        Message::Other { .. } => {}
     }
 }

@@ -74,7 +74,10 @@ impl Work {
     pub(crate) fn initiates(self, messages: &mut [u8]) -> Work
         ensures rule { (l : Line) (t : List ℕ) → Does (sends rules.our_initiate) (on l self) t messages.old (on l result) t messages.new }
     {
-        let mut w = Writer { area: messages, at: self.sent };
+        let mut w = Writer {
+            area: messages,
+            at: self.sent,
+        };
         put_initiate(&mut w);
         self.sent_up_to(w.at)
     }

@@ -31,7 +31,7 @@ mod waiting;
 mod write;
 
 // What is known of the terminal. `dropped` stands before the flags because the flow is then copied faster.
-#[derive(Clone, Copy)]
+#[derive(Clone, Copy, Default)]
 pub struct Terminal {
     pub screen: Screen,
     pub dropped: u16,
@@ -44,7 +44,7 @@ pub struct Terminal {
 }
 
 // Typed and not yet in a read: how many keys wait, and a partial or held token. The counts are bytes, so that the flow has 40.
-#[derive(Clone, Copy)]
+#[derive(Clone, Copy, Default)]
 pub struct Typed {
     pub keys_len: u8,
     pub token: [u8; rules::TOKEN_SIZE],
@@ -52,7 +52,7 @@ pub struct Typed {
 }
 
 // What is fixed for the whole of a read.
-#[derive(Clone, Copy)]
+#[derive(Clone, Copy, Default)]
 pub struct Terms {
     pub underflow: u8,
     pub disables: u8,
@@ -74,7 +74,7 @@ pub struct Terms {
 }
 
 // How a read goes on. `idle`, which every key sets, stands before what is copied in one piece.
-#[derive(Clone, Copy)]
+#[derive(Clone, Copy, Default)]
 pub struct Reading {
     pub idle: u16,
     // of what stands after its prompt
@@ -87,7 +87,7 @@ pub struct Reading {
 }
 
 // What the rules change besides the arrays. In this order it is copied fastest (docs/PERFORMANCE.md).
-#[derive(Clone, Copy)]
+#[derive(Clone, Copy, Default)]
 pub struct Flow {
     pub reading: Reading,
     // a read is pending; if not, `reading` stands for nothing
@@ -97,7 +97,7 @@ pub struct Flow {
 }
 
 // A key as it was typed; quoted, it is data whatever its code.
-#[derive(Clone, Copy, Debug, PartialEq, Eq)]
+#[derive(Clone, Copy, Debug, PartialEq, Eq, Default)]
 pub struct Key {
     pub code: u8,
     pub quoted: bool,

@@ -30,7 +30,10 @@ impl Work {
         ensures rule { (x : forms.Message ℕ) → Sendable s.now m x → (l : Line) (t : List ℕ) →
             Does (sends x) (on l self) t messages.old (on l result) t messages.new }
     {
-        let mut w = Writer { area: messages, at: self.sent };
+        let mut w = Writer {
+            area: messages,
+            at: self.sent,
+        };
         writing::put_framed(m, s, &mut w);
         self.sent_up_to(w.at)
     }

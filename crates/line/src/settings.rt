@@ -82,7 +82,10 @@ impl Line {
             HostMessage::ReadCharacteristics(parameters) => {
                 let host = self.host_in();
                 let list = fields::span_of(s, parameters);
-                let mut w = Writer { area: messages, at: 0 };
+                let mut w = Writer {
+                    area: messages,
+                    at: 0,
+                };
                 host.put_report(list, &mut w);
                 w.at
             }

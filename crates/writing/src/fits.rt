@@ -90,15 +90,11 @@ pub(crate) fn fits_message(m: Message, s: &[u8]) -> bool
         Message::Initiate(f) => fits_initiate(f, s),
         Message::StartRead(f) => fits_start_read(f),
         Message::ReadData(f) => fits_read_data(f),
-        Message::OutOfBand { discard, character } => discard < bits::ONE_BIT,
+        Message::OutOfBand { discard, .. } => discard < bits::ONE_BIT,
         Message::Unread { condition } => condition < bits::ONE_BIT,
         Message::ClearInput => true,
         Message::Write(f) => fits_write(f),
-        Message::WriteCompletion {
-            lost,
-            horizontal,
-            vertical,
-        } => lost < bits::ONE_BIT,
+        Message::WriteCompletion { lost, .. } => lost < bits::ONE_BIT,
         Message::DiscardState { kept } => kept < bits::ONE_BIT,
         Message::ReadCharacteristics { parameters } => fits_list(
             rules::READ_CHARACTERISTICS,
@@ -109,6 +105,6 @@ pub(crate) fn fits_message(m: Message, s: &[u8]) -> bool
         Message::CheckInput => true,
         Message::InputCount { count } => true,
         Message::InputState { nonzero } => nonzero < bits::ONE_BIT,
-        Message::Other { kind: _, body: _ } => false,
+        Message::Other { .. } => false,
     }
 }
