@@ -74,10 +74,7 @@ impl Host {
     pub fn carries_questions(self, list: &[u8]) -> bool
         ensures { (s : State ℕ) → result ≡ carries_questions (with_host (host_view self) s) (questions_in list.now) }
     {
-        if !all_carried(rules::READ_CHARACTERISTICS, list) {
-            return false;
-        }
-        report_size(list) <= rules::MESSAGE_AREA
+        all_carried(rules::READ_CHARACTERISTICS, list) && report_size(list) <= rules::MESSAGE_AREA
     }
 
     // The answer to one question: CHARACTER, a MASK of the seven used bits and ATTRIBUTES, or a switch.

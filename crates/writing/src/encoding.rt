@@ -16,7 +16,7 @@ use rules::refusals::Refusal;
 fn is_known(kind: u8) -> bool
     ensures { result ≡ defined_kind kind }
 {
-    (rules::INITIATE <= kind) & (kind <= rules::INPUT_STATE)
+    (rules::INITIATE..=rules::INPUT_STATE).contains(&kind)
 }
 
 // The first refusal that applies; `passes` is the last test.
