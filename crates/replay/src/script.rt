@@ -1,4 +1,4 @@
-// The script, read in pieces and taken line by line.
+// The script, read in pieces and taken line by line. The library's `BufReader` allocates.
 ghost use Rattle.io.specs.Counts.{IsPrefixLen};
 
 use crate::BLOCK;
