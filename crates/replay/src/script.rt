@@ -1,4 +1,4 @@
-// The script, read in pieces and taken line by line.
+// The script, read in pieces and taken line by line. The library's `BufReader` allocates.
 ghost use Rattle.io.specs.Counts.{IsPrefixLen};
 
 use crate::BLOCK;
@@ -59,9 +59,10 @@ impl<'a> Script<'a> {
         Some(())
     }
 
-    // What the next line says; nothing, if it doesn't end in this piece.
+    // What the next line says; nothing, if it does not end in this piece.
     fn line(&mut self, kept: &mut [u8]) -> Order {
         let mut text = self.text;
+        // never past the piece; a struct that is lent on has no invariant that says so
         let rest = self.piece.get(self.from..self.to).unwrap_or(&[]);
         for (i, &byte) in rest.iter().enumerate() {
             if byte == b'\n' {

@@ -1,13 +1,12 @@
-use mathlib.Core.Path.{sym}
-use borrow.Author.Tests.{lt-ltb, le-ltb}
-use Rattle.rules.proofs.Choice.{pick_true, pick-false}
+use Rattle.std.proofs.Common.{rules}
+use Rattle.rules.specs.Choice.{pick}
 use Rattle.replay.specs.Digits.{digit_of}
 use Rattle.replay.proofs.hex.digit_of.Goals as goal
 
 pub returns-then-value-lt-TEN : goal.returns-then-value-lt-TEN
-unfolding digit_of
-returns-then-value-lt-TEN c = sym (pick_true _ _ (lt-ltb _ _ c.if-value-lt-TEN.true))
+unfolding digit_of pick
+returns-then-value-lt-TEN c = search rules
 
 pub returns-else-value-lt-TEN : goal.returns-else-value-lt-TEN
-unfolding digit_of
-returns-else-value-lt-TEN c = sym (pick-false _ _ (le-ltb _ _ c.if-value-lt-TEN.false))
+unfolding digit_of pick
+returns-else-value-lt-TEN c = search rules
