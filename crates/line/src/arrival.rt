@@ -1,6 +1,6 @@
 // A key arrives; the clear rule.
-ghost use Rattle.std.specs.Prelude.{List, ◌≡◌, true, length, get_or, ℕ, ◌+◌, ◌≤◌, ◌<◌, min};
-ghost use Rattle.rules.specs.Numbers.{input_size, type_ahead_size, code_count, top_dropped};
+ghost use Rattle.std.specs.Prelude.{List, ◌≡◌, true, length, get_or, ℕ, ◌+◌, ◌<◌, min};
+ghost use Rattle.rules.specs.Numbers.{type_ahead_size, code_count, top_dropped};
 ghost use Rattle.rules.specs.State.{codes};
 ghost use Rattle.rules.specs.Arrival as rules;
 ghost use Rattle.line.specs.declared.Line.{Line};
@@ -142,13 +142,13 @@ impl Work {
     }
 
     // A pending read's input goes, without rubbing out.
-    fn clears_without_rubbing(self, pending: bool, r: Reading, t: Terms) -> Work
-        requires input_len_bound { r.input_len ≤ input_size }
+    fn clears_without_rubbing(self, t: Terms) -> Work
         ensures rule { (text : List ℕ) (l : Line) (a m : List ℕ) →
-            DoesOn (λ k. rules.clears_input codes rules.without_rubbing (pending_of pending (reading_of k r))) (lent t text l) self a m result a m }
+            DoesOn (λ k. rules.clears_input codes rules.without_rubbing (pending_of self.flow.pending (reading_of k self.flow.reading))) (lent t text l) self a m result a m }
     {
-        if pending {
-            return self.deletes_without_rubbing(0, r, t);
+        let flow = self.flow;
+        if flow.pending {
+            return self.deletes_without_rubbing(0, flow.reading, t);
         }
         self
     }
@@ -157,18 +157,16 @@ impl Work {
     fn clears_rubbing_out(
         self,
         terminal: &mut [u8],
-        pending: bool,
-        r: Reading,
         text: &[u8; rules::INPUT_SIZE],
         t: Terms,
     ) -> Work
-        requires input_len_bound { r.input_len ≤ input_size }
         ensures rule { (l : Line) (m : List ℕ) →
-            DoesOn (λ k. rules.clears_input codes rules.rubbing_out (pending_of pending (reading_of k r))) (lent t text.now l) self terminal.old
+            DoesOn (λ k. rules.clears_input codes rules.rubbing_out (pending_of self.flow.pending (reading_of k self.flow.reading))) (lent t text.now l) self terminal.old
             m result terminal.new m }
     {
-        if pending {
-            return self.deletes(terminal, 0, r, text, t);
+        let flow = self.flow;
+        if flow.pending {
+            return self.deletes(terminal, 0, text, t);
         }
         self
     }
@@ -184,9 +182,7 @@ impl Work {
             DoesOn (λ k. rules.clear_rule codes rules.rubbing_out) (lent t text.now l) self terminal.old m result terminal.new m }
     {
         let next = self.empties_typed();
-        let flow = next.flow;
-        let reading = flow.reading;
-        next.clears_rubbing_out(terminal, flow.pending, reading, text, t)
+        next.clears_rubbing_out(terminal, text, t)
     }
 
     // Rule 2, hello.
@@ -203,21 +199,21 @@ impl Work {
     }
 
     // Rule 2, immediate clear: a pending read completes, returning no data.
-    fn ends_out_of_band(
-        self,
-        messages: &mut [u8],
-        pending: bool,
-        r: Reading,
-        text: &[u8; rules::INPUT_SIZE],
-        t: Terms,
-    ) -> Work
-        requires input_len_bound { r.input_len ≤ input_size }
+    fn ends_out_of_band(self, messages: &mut [u8], text: &[u8; rules::INPUT_SIZE], t: Terms) -> Work
         ensures rule { (l : Line) (a : List ℕ) →
-            DoesOn (λ k. rules.ends_out_of_band codes (pending_of pending (reading_of k r))) (lent t text.now l) self a messages.old result a
+            DoesOn (λ k. rules.ends_out_of_band codes (pending_of self.flow.pending (reading_of k self.flow.reading))) (lent t text.now l) self a messages.old result a
             messages.new }
     {
-        if pending {
-            return self.completes(messages, read_data::BY_OUT_OF_BAND, NO_ENDING, r, text, t);
+        let flow = self.flow;
+        if flow.pending {
+            return self.completes(
+                messages,
+                read_data::BY_OUT_OF_BAND,
+                NO_ENDING,
+                flow.reading,
+                text,
+                t,
+            );
         }
         self
     }
@@ -235,12 +231,8 @@ impl Work {
         let said = self.sends_out_of_band(messages, c);
         let unlocked = said.sets_locked(false);
         let emptied = unlocked.empties_typed();
-        let flow = emptied.flow;
-        let reading = flow.reading;
-        let cleared = emptied.clears_without_rubbing(flow.pending, reading, t);
-        let last = cleared.flow;
-        let left = last.reading;
-        cleared.ends_out_of_band(messages, last.pending, left, text, t)
+        let cleared = emptied.clears_without_rubbing(t);
+        cleared.ends_out_of_band(messages, text, t)
     }
 }
 

@@ -14,7 +14,6 @@ ghost use Rattle.line.specs.StartRead.{Startable, reading_at, terms_for, Opens};
 ghost use Rattle.rules.specs.State.{codes};
 ghost use Rattle.rules.specs.Turns.{writes, only};
 ghost use Rattle.rules.specs.Arrival.{empties_typed};
-ghost use Rattle.rules.specs.ReadData.{no_ending, by_full_buffer, completes};
 ghost use Rattle.line.specs.declared.Line.{Line};
 ghost use Rattle.line.specs.View.{reading_of};
 ghost use Rattle.line.specs.With.{lent};
@@ -220,26 +219,6 @@ impl Work {
         self
     }
 
-    // A read whose buffer is full from the start completes at once.
-    fn completes_if(
-        self,
-        messages: &mut [u8],
-        full: bool,
-        r: Reading,
-        text: &[u8; rules::INPUT_SIZE],
-        t: Terms,
-    ) -> Work
-        requires input_len_bound { r.input_len ≤ input_size }
-        ensures rule { (l : Line) (a : List ℕ) →
-            DoesOn (λ k. only full (completes codes by_full_buffer no_ending (reading_of k r))) (lent t text.now l) self a messages.old result a
-            messages.new }
-    {
-        if full {
-            return self.completes(messages, read_data::BY_FULL_BUFFER, NO_ENDING, r, text, t);
-        }
-        self
-    }
-
     // Type-ahead that C clears, LF, byte 1, the display, and an answer where the buffer is full.
     pub(crate) fn begins(
         self,
@@ -271,6 +250,10 @@ impl Work {
         );
         let prompted = formatted.puts_if(terminal, t.auto_prompt, AUTO_PROMPT);
         let displayed = prompted.displays(terminal, r, text, t);
-        displayed.completes_if(messages, f.end_of_data == f.max_length, r, text, t)
+        // a read whose buffer is full from the start completes at once
+        if f.end_of_data == f.max_length {
+            return displayed.completes(messages, read_data::BY_FULL_BUFFER, NO_ENDING, r, text, t);
+        }
+        displayed
     }
 }

@@ -171,8 +171,7 @@ impl Work {
     {
         let flow = self.flow;
         if (lock == REDISPLAY_AFTER) & flow.pending {
-            let r = flow.reading;
-            return self.redisplays(terminal, r, text, t);
+            return self.redisplays(terminal, text, t);
         }
         self
     }

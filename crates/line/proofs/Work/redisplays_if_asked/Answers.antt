@@ -6,7 +6,7 @@ use Rattle.line.proofs.Work.redisplays_if_asked.Goals as goal
 pub redisplays-requires : goal.redisplays-requires
 redisplays-requires c =
     let pre = c.requires in
-    record { input_len_bound = c.args.self.counted.within; prompt_len_bound = pre.prompt_len_bound }
+    record { prompt_len_bound = pre.prompt_len_bound }
 
 pub returns-then-lock-flow : goal.returns-then-lock-flow
 returns-then-lock-flow c =
