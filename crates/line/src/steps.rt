@@ -7,7 +7,7 @@ ghost use Rattle.line.specs.declared.Line.{Line};
 ghost use Rattle.line.specs.View.{reading_of};
 ghost use Rattle.line.specs.With.{lent};
 ghost use Rattle.line.specs.ReadChanges.{HasRoom};
-ghost use Rattle.line.specs.Promise.{on, Does, DoesAcross};
+ghost use Rattle.line.specs.Promise.{DoesAcross};
 
 use crate::read_data::{NO_ENDING, ONE_ENDING};
 use crate::{Reading, Terms, Work, read_data};
@@ -97,24 +97,6 @@ impl Work {
         ready
     }
 
-    fn echoes_if(self, terminal: &mut [u8], wanted: bool, c: u8) -> Work
-        ensures rule { (l : Line) (m : List ℕ) → Does (rules.echoes_if codes wanted c) (on l self) terminal.old m (on l result) terminal.new m }
-    {
-        if wanted {
-            return self.echo(terminal, c);
-        }
-        self
-    }
-
-    fn echoes_terminator_if(self, terminal: &mut [u8], wanted: bool, c: u8) -> Work
-        ensures rule { (l : Line) (m : List ℕ) → Does (rules.echoes_terminator_if codes wanted c) (on l self) terminal.old m (on l result) terminal.new m }
-    {
-        if wanted {
-            return self.echo_terminator(terminal, c);
-        }
-        self
-    }
-
     // Rule 7, data.
     pub(crate) fn takes_data(
         self,
@@ -131,8 +113,10 @@ impl Work {
     {
         let r = self.flow.reading;
         let next = r.push(text, c);
-        let ready = self.with_read(next);
-        let shown = ready.echoes_if(terminal, t.echoes, c);
+        let mut shown = self.with_read(next);
+        if t.echoes {
+            shown = shown.echo(terminal, c);
+        }
         if r.end(t) + 1 == t.max_length as u32 {
             return shown.completes(
                 messages,
@@ -162,7 +146,10 @@ impl Work {
     {
         let r = self.flow.reading;
         let next = r.push(text, c);
-        let shown = self.echoes_terminator_if(terminal, t.terminator_echo & t.echoes, c);
+        let mut shown = self;
+        if t.terminator_echo & t.echoes {
+            shown = shown.echo_terminator(terminal, c);
+        }
         shown.completes(
             messages,
             read_data::BY_TERMINATOR,
