@@ -53,11 +53,9 @@ impl Work {
     fn drops(self, terminal: &mut [u8]) -> Work
         ensures rule { (c : ℕ) (l : Line) (m : List ℕ) → Does (rules.drops c) (on l self) terminal.old m (on l result) terminal.new m }
     {
-        let belled = self.put(terminal, characters::BEL);
-        let flow = belled.flow;
-        let mut known = flow.terminal;
-        known.dropped = one_more(known.dropped);
-        belled.with_terminal(known)
+        let mut belled = self.put(terminal, characters::BEL);
+        belled.flow.terminal.dropped = one_more(belled.flow.terminal.dropped);
+        belled
     }
 
     // Rule 4.
@@ -79,10 +77,8 @@ impl Work {
         ensures rule { (c : ℕ) → c < code_count → (l : Line) → length l.keys ≡ type_ahead_size → (m : List ℕ) →
             Does (rules.stores_quoted c) (on l self) terminal.old m (on (stored (c + quoted_mark) self.flow l) result) terminal.new m }
     {
-        let flow = self.flow;
-        let mut known = flow.terminal;
-        known.quoting = false;
-        let next = self.with_terminal(known);
+        let mut next = self;
+        next.flow.terminal.quoting = false;
         next.stores(terminal)
     }
 
@@ -90,45 +86,32 @@ impl Work {
     pub(crate) fn quotes(self) -> Work
         ensures rule { (c : ℕ) (l : Line) (t m : List ℕ) → Does (rules.quotes c) (on l self) t m (on l result) t m }
     {
-        let flow = self.flow;
-        let mut known = flow.terminal;
-        known.quoting = true;
-        self.with_terminal(known)
+        let mut next = self;
+        next.flow.terminal.quoting = true;
+        next
     }
 
     // The lock of a Write.
     pub(crate) fn sets_locked(self, locked: bool) -> Work
         ensures rule { (l : Line) (t m : List ℕ) → Does (rules.sets_locked locked) (on l self) t m (on l result) t m }
     {
-        let flow = self.flow;
-        let mut known = flow.terminal;
-        known.locked = locked;
-        self.with_terminal(known)
-    }
-
-    // Unlocks where output is discarded: 15 has just turned discard on.
-    fn unlocks_if_discarding(self) -> Work
-        ensures rule { (l : Line) (t m : List ℕ) → Does rules.unlocks_if_discarding (on l self) t m (on l result) t m }
-    {
-        let flow = self.flow;
-        let known = flow.terminal;
-        if known.discarding {
-            return self.sets_locked(false);
-        }
-        self
+        let mut next = self;
+        next.flow.terminal.locked = locked;
+        next
     }
 
     // Rule 3, code 15; where it turns discard on, it unlocks. Discard State says 1 where output is not discarded.
     pub(crate) fn flips_discard(self, messages: &mut [u8]) -> Work
         ensures rule { (c : ℕ) (l : Line) (t : List ℕ) → Does (rules.flips_discard c) (on l self) t messages.old (on l result) t messages.new }
     {
-        let flow = self.flow;
-        let mut known = flow.terminal;
-        known.discarding = !known.discarding;
-        let kept = fields::bit_of(!known.discarding);
-        let next = self.with_terminal(known);
-        let said = next.sends_plain(messages, Message::DiscardState { kept });
-        said.unlocks_if_discarding()
+        let mut next = self;
+        next.flow.terminal.discarding = !self.flow.terminal.discarding;
+        let kept = fields::bit_of(!next.flow.terminal.discarding);
+        let mut said = next.sends_plain(messages, Message::DiscardState { kept });
+        if said.flow.terminal.discarding {
+            said.flow.terminal.locked = false;
+        }
+        said
     }
 
     // Type-ahead and tokens go.

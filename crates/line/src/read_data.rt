@@ -121,7 +121,8 @@ impl Work {
         ensures ended { result.flow.pending ≡ false }
     {
         let ready = self.loses_partial();
-        let answered = ready.sends_read_data(messages, code, ending, r, text, t);
-        answered.without_read()
+        let mut answered = ready.sends_read_data(messages, code, ending, r, text, t);
+        answered.flow.pending = false;
+        answered
     }
 }
