@@ -3,7 +3,7 @@ use mathlib.Core.Path.{◌≡◌, refl, sym, ap, subst}
 use Prim.Native.Nat.{ℕ, ◌+◌, ◌%◌, ◌≤◌, ◌<◌, min}
 use native.Mathlib.Omega.{arith}
 use lib.Dec.{eqb}
-use lib.ListN.{length, set}
+use lib.ListN.{length}
 use lib.Seq.{set_out}
 use borrow.Author.Tests.{eq-eqb, ne_eqb}
 use Rattle.rules.specs.Numbers.{type_ahead_size, top_dropped}
@@ -29,6 +29,7 @@ use Rattle.line.specs.TokenChanges.{emptied}
 use Rattle.line.specs.ReadChanges.{idling}
 use Rattle.line.specs.Promise.{Progress, on, Does}
 use Rattle.line.proofs.KeyArrays.{stored_keys}
+use Rattle.line.proofs.Answers.{under_way}
 use Rattle.line.proofs.Turns.{changes_does}
 use Rattle.line.proofs.FlowChanges.{goes_does, goes_as, for_equal}
 
@@ -64,12 +65,11 @@ module _ (w : Work) (c : CountedFlow w.flow) (room : w.flow.typed.keys_len < typ
       })
       refl refl
 
--- A call that goes on with another terminal.
-module _ (w : Work) {v : Work} (x : Terminal) (h : GoesOn (on_terminal x w.flow) w v) where
-  pub terminal_does : (f : state.Terminal → state.Terminal) → terminal_of x ≡ f (terminal_of w.flow.terminal) → (l : Line) (t m : List ℕ) →
-      Does (changes (λ s. with_terminal (f s.terminal) s)) (on l w) t m (on l v) t m
-  terminal_does f e l t m =
-      goes_does w l (λ s. with_terminal (f s.terminal) s) h (λ i. with_terminal (e i) (view (on_flow w.flow l))) t m
+-- A call goes on with another terminal.
+pub terminal_does : (w : Work) (x : Terminal) (f : state.Terminal → state.Terminal) → terminal_of x ≡ f (terminal_of w.flow.terminal) → (l : Line) (t m : List ℕ) →
+    Does (changes (λ s. with_terminal (f s.terminal) s)) (on l w) t m (under_way (on_flow (on_terminal x w.flow) l) w.at w.sent) t m
+terminal_does w x f e l t m =
+    changes_does t m (λ s. with_terminal (f s.terminal) s) (λ i. with_terminal (e i) (view (on_flow w.flow l))) refl refl
 
 -- one key more dropped
 abbrev with_count : ℕ → Terminal → Terminal
@@ -83,12 +83,11 @@ with_count n t =
       dropped = n;
     }
 
-pub count_does : (w : Work) {v : Work} (n : ℕ) → n ≡ min top_dropped (w.flow.terminal.dropped + 1) →
-    GoesOn (on_terminal (with_count n w.flow.terminal) w.flow) w v → (l : Line) (t m : List ℕ) →
-    Does rules.counts_dropped (on l w) t m (on l v) t m
+pub count_does : (w : Work) (n : ℕ) → n ≡ min top_dropped (w.flow.terminal.dropped + 1) → (l : Line) (t m : List ℕ) →
+    Does rules.counts_dropped (on l w) t m (under_way (on_flow (on_terminal (with_count n w.flow.terminal) w.flow) l) w.at w.sent) t m
 unfolding rules.counts_dropped
-count_does w n e h l t m =
-    terminal_does w (with_count n w.flow.terminal) h (λ x. with_dropped (min top_dropped (x.dropped + 1)) x)
+count_does w n e l t m =
+    terminal_does w (with_count n w.flow.terminal) (λ x. with_dropped (min top_dropped (x.dropped + 1)) x)
     (λ i. with_dropped (e i) (terminal_of w.flow.terminal)) l t m
 
 -- neither keys nor a token
@@ -123,9 +122,3 @@ pub dropped_key : {p : Rule ℕ} {w : Progress} (f : Flow) (v : Work) {t t' m m'
     Does p w t m (on l v) t' m' → Does p w t m (on (stored k f l) v) t' m'
 dropped_key {p} {w} f v {t} {t'} {m} {m'} k l out d =
     subst (λ keys. Does p w t m (on (on_keys keys l) v) t' m') (sym (set_out l.keys f.typed.keys_len k out)) d
-
--- as many waited
-pub waited_key : {p : Rule ℕ} {w : Progress} {t t' m m' : List ℕ} (v : Work) (f g : Flow) (k : Key) (l : Line) → f.typed.keys_len ≡ g.typed.keys_len →
-    Does p w t m (on (stored k f l) v) t' m' → Does p w t m (on (stored k g l) v) t' m'
-waited_key {p} {w} {t} {t'} {m} {m'} v f g k l e d =
-    subst (λ n. Does p w t m (on (on_keys (set l.keys n k) l) v) t' m') e d

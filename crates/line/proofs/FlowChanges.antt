@@ -34,6 +34,7 @@ use Rattle.line.specs.ReadChanges.{idling, shown_at}
 use Rattle.line.specs.TokenChanges.{codes_of, untokened, tokened}
 use Rattle.line.specs.Promise.{Progress, on, Does}
 use Rattle.rules.proofs.Choice.{pick_true, pick-false}
+use Rattle.line.proofs.Answers.{under_way}
 use Rattle.line.proofs.Turns.{has_does, changes_does, still_does}
 use Rattle.line.proofs.InputAppended.{input-length}
 use Rattle.line.proofs.TokenBytes.{tokened_token}
@@ -104,16 +105,12 @@ module _ (w : Work) {v : Work} where
       (t m : List ℕ) → Does (changes g) (on l w) t m (on l v) t m
   goes_does l g h e t m = has_does h l (changes_does t m g e refl refl)
 
-  -- with this read pending, which stands for another; and with none
+  -- with this read pending, which stands for another
   module _ (r : Reading) (h : GoesOn (on_read r w.flow) w v) where
     pub read_does : (l : Line) {e : rules.Reading ℕ} → reading_of l r ≡ e → (t m : List ℕ) →
         Does (changes (with_read (some e))) (on l w) t m (on l v) t m
     read_does l {e} same t m =
         goes_does l (with_read (some e)) h (λ i. with_read (some (same i)) (view (on_flow w.flow l))) t m
-
-  pub off_does : GoesOn (off_read w.flow) w v → (l : Line) (t m : List ℕ) → Does ends_read (on l w) t m (on l v) t m
-  unfolding ends_read
-  off_does h l t m = goes_does l (with_read none) h refl t m
 
   -- with another token, and the keys that wait
   module _ {next : Typed} (h : GoesOn (on_typed next w.flow) w v) where
@@ -134,6 +131,11 @@ module _ (w : Work) {v : Work} where
         goes_does l (λ s. with_token (s.typed.token ++ b ∷ []) s)
         (goes_as (ap (λ n. on_typed n w.flow) e) h)
         (λ i. with_typed (keys_of typed.keys_len l.keys) (tokened_token typed c b room i) (view (on_flow w.flow l))) t m
+
+-- with no read pending
+pub off_does : (w : Work) (l : Line) (t m : List ℕ) → Does ends_read (on l w) t m (under_way (on_flow (off_read w.flow) l) w.at w.sent) t m
+unfolding ends_read
+off_does w l t m = changes_does t m (with_read none) refl refl refl
 
 -- with this read pending, whose text has changed
 module _ (w : Work) {v : Work} (r : Reading) (h : GoesOn (on_read r w.flow) w v) where

@@ -1,6 +1,6 @@
 // A key arrives; the clear rule.
-ghost use Rattle.std.specs.Prelude.{List, ◌≡◌, true, length, get_or, ℕ, ◌+◌, ◌≤◌, ◌<◌, min};
-ghost use Rattle.rules.specs.Numbers.{input_size, type_ahead_size, code_count, top_dropped};
+ghost use Rattle.std.specs.Prelude.{List, ◌≡◌, true, length, get_or, ℕ, ◌+◌, ◌<◌, min};
+ghost use Rattle.rules.specs.Numbers.{type_ahead_size, code_count, top_dropped};
 ghost use Rattle.rules.specs.State.{codes};
 ghost use Rattle.rules.specs.Arrival as rules;
 ghost use Rattle.line.specs.declared.Key.{Key};
@@ -54,11 +54,9 @@ impl Work {
     fn drops(self, terminal: &mut [u8]) -> Work
         ensures rule { (c : ℕ) (l : Line) (m : List ℕ) → Does (rules.drops c) (on l self) terminal.old m (on l result) terminal.new m }
     {
-        let belled = self.put(terminal, characters::BEL);
-        let flow = belled.flow;
-        let mut known = flow.terminal;
-        known.dropped = one_more(known.dropped);
-        belled.with_terminal(known)
+        let mut belled = self.put(terminal, characters::BEL);
+        belled.flow.terminal.dropped = one_more(belled.flow.terminal.dropped);
+        belled
     }
 
     // Rule 4.
@@ -80,10 +78,8 @@ impl Work {
         ensures rule { (c : ℕ) → c < code_count → (l : Line) → length l.keys ≡ type_ahead_size → (m : List ℕ) →
             Does (rules.stores_quoted c) (on l self) terminal.old m (on (stored (quoted_key c) self.flow l) result) terminal.new m }
     {
-        let flow = self.flow;
-        let mut known = flow.terminal;
-        known.quoting = false;
-        let next = self.with_terminal(known);
+        let mut next = self;
+        next.flow.terminal.quoting = false;
         next.stores(terminal)
     }
 
@@ -91,45 +87,32 @@ impl Work {
     pub(crate) fn quotes(self) -> Work
         ensures rule { (c : ℕ) (l : Line) (t m : List ℕ) → Does (rules.quotes c) (on l self) t m (on l result) t m }
     {
-        let flow = self.flow;
-        let mut known = flow.terminal;
-        known.quoting = true;
-        self.with_terminal(known)
+        let mut next = self;
+        next.flow.terminal.quoting = true;
+        next
     }
 
     // The lock of a Write.
     pub(crate) fn sets_locked(self, locked: bool) -> Work
         ensures rule { (l : Line) (t m : List ℕ) → Does (rules.sets_locked locked) (on l self) t m (on l result) t m }
     {
-        let flow = self.flow;
-        let mut known = flow.terminal;
-        known.locked = locked;
-        self.with_terminal(known)
-    }
-
-    // Unlocks where output is discarded: 15 has just turned discard on.
-    fn unlocks_if_discarding(self) -> Work
-        ensures rule { (l : Line) (t m : List ℕ) → Does rules.unlocks_if_discarding (on l self) t m (on l result) t m }
-    {
-        let flow = self.flow;
-        let known = flow.terminal;
-        if known.discarding {
-            return self.sets_locked(false);
-        }
-        self
+        let mut next = self;
+        next.flow.terminal.locked = locked;
+        next
     }
 
     // Rule 3, code 15; where it turns discard on, it unlocks. Discard State says 1 where output is not discarded.
     pub(crate) fn flips_discard(self, messages: &mut [u8]) -> Work
         ensures rule { (c : ℕ) (l : Line) (t : List ℕ) → Does (rules.flips_discard c) (on l self) t messages.old (on l result) t messages.new }
     {
-        let flow = self.flow;
-        let mut known = flow.terminal;
-        known.discarding = !known.discarding;
-        let kept = fields::bit_of(!known.discarding);
-        let next = self.with_terminal(known);
-        let said = next.sends_plain(messages, Message::DiscardState { kept });
-        said.unlocks_if_discarding()
+        let mut next = self;
+        next.flow.terminal.discarding = !self.flow.terminal.discarding;
+        let kept = fields::bit_of(!next.flow.terminal.discarding);
+        let mut said = next.sends_plain(messages, Message::DiscardState { kept });
+        if said.flow.terminal.discarding {
+            said.flow.terminal.locked = false;
+        }
+        said
     }
 
     // Type-ahead and tokens go.
@@ -143,13 +126,13 @@ impl Work {
     }
 
     // A pending read's input goes, without rubbing out.
-    fn clears_without_rubbing(self, pending: bool, r: Reading, t: Terms) -> Work
-        requires input_len_bound { r.input_len ≤ input_size }
+    fn clears_without_rubbing(self, t: Terms) -> Work
         ensures rule { (text : List ℕ) (l : Line) (a m : List ℕ) →
-            DoesOn (λ k. rules.clears_input codes rules.without_rubbing (pending_of pending (reading_of k r))) (lent t text l) self a m result a m }
+            DoesOn (λ k. rules.clears_input codes rules.without_rubbing (pending_of self.flow.pending (reading_of k self.flow.reading))) (lent t text l) self a m result a m }
     {
-        if pending {
-            return self.deletes_without_rubbing(0, r, t);
+        let flow = self.flow;
+        if flow.pending {
+            return self.deletes_without_rubbing(0, flow.reading, t);
         }
         self
     }
@@ -158,18 +141,16 @@ impl Work {
     fn clears_rubbing_out(
         self,
         terminal: &mut [u8],
-        pending: bool,
-        r: Reading,
         text: &[u8; rules::INPUT_SIZE],
         t: Terms,
     ) -> Work
-        requires input_len_bound { r.input_len ≤ input_size }
         ensures rule { (l : Line) (m : List ℕ) →
-            DoesOn (λ k. rules.clears_input codes rules.rubbing_out (pending_of pending (reading_of k r))) (lent t text.now l) self terminal.old
+            DoesOn (λ k. rules.clears_input codes rules.rubbing_out (pending_of self.flow.pending (reading_of k self.flow.reading))) (lent t text.now l) self terminal.old
             m result terminal.new m }
     {
-        if pending {
-            return self.deletes(terminal, 0, r, text, t);
+        let flow = self.flow;
+        if flow.pending {
+            return self.deletes(terminal, 0, text, t);
         }
         self
     }
@@ -185,9 +166,7 @@ impl Work {
             DoesOn (λ k. rules.clear_rule codes rules.rubbing_out) (lent t text.now l) self terminal.old m result terminal.new m }
     {
         let next = self.empties_typed();
-        let flow = next.flow;
-        let reading = flow.reading;
-        next.clears_rubbing_out(terminal, flow.pending, reading, text, t)
+        next.clears_rubbing_out(terminal, text, t)
     }
 
     // Rule 2, hello.
@@ -204,21 +183,21 @@ impl Work {
     }
 
     // Rule 2, immediate clear: a pending read completes, returning no data.
-    fn ends_out_of_band(
-        self,
-        messages: &mut [u8],
-        pending: bool,
-        r: Reading,
-        text: &[u8; rules::INPUT_SIZE],
-        t: Terms,
-    ) -> Work
-        requires input_len_bound { r.input_len ≤ input_size }
+    fn ends_out_of_band(self, messages: &mut [u8], text: &[u8; rules::INPUT_SIZE], t: Terms) -> Work
         ensures rule { (l : Line) (a : List ℕ) →
-            DoesOn (λ k. rules.ends_out_of_band codes (pending_of pending (reading_of k r))) (lent t text.now l) self a messages.old result a
+            DoesOn (λ k. rules.ends_out_of_band codes (pending_of self.flow.pending (reading_of k self.flow.reading))) (lent t text.now l) self a messages.old result a
             messages.new }
     {
-        if pending {
-            return self.completes(messages, Completion::OutOfBand, NO_ENDING, r, text, t);
+        let flow = self.flow;
+        if flow.pending {
+            return self.completes(
+                messages,
+                Completion::OutOfBand,
+                NO_ENDING,
+                flow.reading,
+                text,
+                t,
+            );
         }
         self
     }
@@ -236,12 +215,8 @@ impl Work {
         let said = self.sends_out_of_band(messages, c);
         let unlocked = said.sets_locked(false);
         let emptied = unlocked.empties_typed();
-        let flow = emptied.flow;
-        let reading = flow.reading;
-        let cleared = emptied.clears_without_rubbing(flow.pending, reading, t);
-        let last = cleared.flow;
-        let left = last.reading;
-        cleared.ends_out_of_band(messages, last.pending, left, text, t)
+        let cleared = emptied.clears_without_rubbing(t);
+        cleared.ends_out_of_band(messages, text, t)
     }
 }
 

@@ -2,19 +2,11 @@
 ghost use Rattle.std.specs.Prelude.{◌≤◌};
 ghost use Rattle.rules.specs.Numbers.{input_size};
 ghost use Rattle.line.specs.Bounded.{CountedTyped};
-ghost use Rattle.line.specs.With.{GoesOn, on_terminal, on_typed, on_read, off_read};
+ghost use Rattle.line.specs.With.{GoesOn, on_typed, on_read};
 
-use crate::{Reading, Terminal, Typed, Work};
+use crate::{Reading, Typed, Work};
 
 impl Work {
-    pub(crate) fn with_terminal(self, t: Terminal) -> Work
-        ensures { GoesOn (on_terminal t self.flow) self result }
-    {
-        let mut next = self;
-        next.flow.terminal = t;
-        next
-    }
-
     pub(crate) fn with_typed(self, t: Typed) -> Work
         requires { CountedTyped t }
         ensures { GoesOn (on_typed t self.flow) self result }
@@ -32,14 +24,6 @@ impl Work {
         let mut next = self;
         next.flow.pending = true;
         next.flow.reading = read;
-        next
-    }
-
-    pub(crate) fn without_read(self) -> Work
-        ensures { GoesOn (off_read self.flow) self result }
-    {
-        let mut next = self;
-        next.flow.pending = false;
         next
     }
 }

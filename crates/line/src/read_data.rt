@@ -125,7 +125,8 @@ impl Work {
         ensures ended { result.flow.pending ≡ false }
     {
         let ready = self.loses_partial();
-        let answered = ready.sends_read_data(messages, by, ending, r, text, t);
-        answered.without_read()
+        let mut answered = ready.sends_read_data(messages, by, ending, r, text, t);
+        answered.flow.pending = false;
+        answered
     }
 }

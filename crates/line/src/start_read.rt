@@ -1,5 +1,5 @@
 // Start Read: the read that it opens, with its termination set, its terms and its text; and what it does once it is accepted.
-ghost use Rattle.std.specs.Prelude.{◌+◌, ◌≤◌, ℕ, ◌≡◌, eqb, length, take, drop, List, [], ◌∷◌};
+ghost use Rattle.std.specs.Prelude.{◌+◌, ◌≤◌, ◌≡◌, eqb, length, take, drop};
 ghost use Rattle.std.proofs.lemmas.List.Edits.{sets};
 ghost use Rattle.rules.specs.Choice.{pick, bit};
 ghost use Rattle.rules.specs.Numbers.{input_size};
@@ -12,13 +12,10 @@ ghost use Rattle.sets.specs.View.{set_of, CountedSet};
 ghost use Rattle.line.specs.Bounded.{Counted};
 ghost use Rattle.line.specs.StartRead.{Startable, reading_at, terms_for, Opens};
 ghost use Rattle.rules.specs.State.{codes};
-ghost use Rattle.rules.specs.Turns.{writes, only};
-ghost use Rattle.rules.specs.Arrival.{empties_typed};
-ghost use Rattle.rules.specs.ReadData.{no_ending, by_full_buffer, completes};
 ghost use Rattle.line.specs.declared.Line.{Line};
 ghost use Rattle.line.specs.View.{reading_of};
 ghost use Rattle.line.specs.With.{lent};
-ghost use Rattle.line.specs.Promise.{on, Does, DoesOn};
+ghost use Rattle.line.specs.Promise.{DoesOn};
 
 use crate::read_data::{Completion, NO_ENDING};
 use crate::{Line, Reading, Terms, Work};
@@ -202,44 +199,6 @@ impl Line {
 }
 
 impl Work {
-    fn empties_typed_if(self, wanted: bool) -> Work
-        ensures rule { (l : Line) (t m : List ℕ) → Does (only wanted empties_typed) (on l self) t m (on l result) t m }
-    {
-        if wanted {
-            return self.empties_typed();
-        }
-        self
-    }
-
-    fn puts_if(self, terminal: &mut [u8], wanted: bool, b: u8) -> Work
-        ensures rule { (l : Line) (m : List ℕ) → Does (only wanted (writes (b ∷ []))) (on l self) terminal.old m (on l result) terminal.new m }
-    {
-        if wanted {
-            return self.put(terminal, b);
-        }
-        self
-    }
-
-    // A read whose buffer is full from the start completes at once.
-    fn completes_if(
-        self,
-        messages: &mut [u8],
-        full: bool,
-        r: Reading,
-        text: &[u8; rules::INPUT_SIZE],
-        t: Terms,
-    ) -> Work
-        requires input_len_bound { r.input_len ≤ input_size }
-        ensures rule { (l : Line) (a : List ℕ) →
-            DoesOn (λ k. only full (completes codes by_full_buffer no_ending (reading_of k r))) (lent t text.now l) self a messages.old result a
-            messages.new }
-    {
-        if full {
-            return self.completes(messages, Completion::FullBuffer, NO_ENDING, r, text, t);
-        }
-        self
-    }
-
     // Type-ahead that C clears, LF, byte 1, the display, and an answer where the buffer is full.
     pub(crate) fn begins(
         self,
@@ -256,21 +215,22 @@ impl Work {
             DoesOn (λ k. rules.begins codes (start_read_in s.now f) (reading_of k (reading_at s.now f self.flow.terminal.screen.column)))
             (lent t text.now l) self terminal.old messages.old result terminal.new messages.new }
     {
-        let flow = self.flow;
-        let known = flow.terminal;
-        let screen = known.screen;
-        let r = reading_at(f, s, screen.column);
-        let emptied = self.empties_typed_if(f.clears_type_ahead == fields::ON);
-        let next = emptied.flow;
-        let shown = next.terminal;
-        let cursor = shown.screen;
-        let formatted = emptied.puts_if(
-            terminal,
-            (f.formats == fields::ON) & cursor.after_cr,
-            characters::LF,
-        );
-        let prompted = formatted.puts_if(terminal, t.auto_prompt, AUTO_PROMPT);
-        let displayed = prompted.displays(terminal, r, text, t);
-        displayed.completes_if(messages, f.end_of_data == f.max_length, r, text, t)
+        let r = reading_at(f, s, self.flow.terminal.screen.column);
+        let mut begun = self;
+        if f.clears_type_ahead == fields::ON {
+            begun = begun.empties_typed();
+        }
+        if (f.formats == fields::ON) & begun.flow.terminal.screen.after_cr {
+            begun = begun.put(terminal, characters::LF);
+        }
+        if t.auto_prompt {
+            begun = begun.put(terminal, AUTO_PROMPT);
+        }
+        let displayed = begun.displays(terminal, r, text, t);
+        // a read whose buffer is full from the start completes at once
+        if f.end_of_data == f.max_length {
+            return displayed.completes(messages, Completion::FullBuffer, NO_ENDING, r, text, t);
+        }
+        displayed
     }
 }

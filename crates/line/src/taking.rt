@@ -174,13 +174,11 @@ impl Work {
             terminal.old messages.old (lent t text.new (shifted self.flow l)) result terminal.new messages.new }
     {
         let taken = self.takes_key();
-        let flow = taken.flow;
-        let r = flow.reading;
         match k {
-            Taken::Token(c) => taken.adds_to_token(c, r, text, t, messages),
-            Taken::Terminator(c) => taken.terminates(c, r, text, t, terminal, messages),
-            Taken::Edit(c) => taken.edits(c, r, text, t, terminal, messages),
-            Taken::Data(c) => taken.takes_data(c, r, text, t, terminal, messages),
+            Taken::Token(c) => taken.adds_to_token(c, text, t, messages),
+            Taken::Terminator(c) => taken.terminates(c, text, t, terminal, messages),
+            Taken::Edit(c) => taken.edits(c, text, t, terminal, messages),
+            Taken::Data(c) => taken.takes_data(c, text, t, terminal, messages),
         }
     }
 

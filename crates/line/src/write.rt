@@ -63,27 +63,22 @@ impl Work {
     fn stops_discarding(self, keeps: u8) -> Work
         ensures rule { (l : Line) (t m : List ℕ) → Does (rules.stops_discarding keeps) (on l self) t m (on l result) t m }
     {
+        let mut next = self;
         if keeps == fields::ON {
-            let flow = self.flow;
-            let mut known = flow.terminal;
-            known.discarding = false;
-            return self.with_terminal(known);
+            next.flow.terminal.discarding = false;
         }
-        self
+        next
     }
 
     // Own bytes, or a part of them. A first LF is left out where the mark is set, and where there are any the mark falls.
     fn writes_own(self, terminal: &mut [u8], own: &[u8]) -> Work
         ensures rule { (l : Line) (m : List ℕ) → Does (rules.writes_own own.now) (on l self) terminal.old m (on l result) terminal.new m }
     {
-        let flow = self.flow;
-        let before = flow.terminal;
-        let start = first_written(before.skip_linefeed, own);
-        let written = self.write(terminal, &own[start..]);
-        let next = written.flow;
-        let mut known = next.terminal;
-        known.skip_linefeed = (own.len() == 0) & known.skip_linefeed;
-        written.with_terminal(known)
+        let start = first_written(self.flow.terminal.skip_linefeed, own);
+        let mut written = self.write(terminal, &own[start..]);
+        written.flow.terminal.skip_linefeed = (own.len() == 0)
+            & written.flow.terminal.skip_linefeed;
+        written
     }
 
     // A prefix or a postfix.
@@ -108,11 +103,9 @@ impl Work {
         ensures rule { (l : Line) (m : List ℕ) → Does (rules.ends_line newline) (on l self) terminal.old m (on l result) terminal.new m }
     {
         if newline == fields::ON {
-            let ended = self.put(terminal, characters::LF);
-            let flow = ended.flow;
-            let mut known = flow.terminal;
-            known.skip_linefeed = true;
-            return ended.with_terminal(known);
+            let mut ended = self.put(terminal, characters::LF);
+            ended.flow.terminal.skip_linefeed = true;
+            return ended;
         }
         self
     }
@@ -157,26 +150,6 @@ impl Work {
         self
     }
 
-    // UU 3: a pending read is redisplayed as 18 does.
-    fn redisplays_if_asked(
-        self,
-        terminal: &mut [u8],
-        lock: u8,
-        text: &[u8; rules::INPUT_SIZE],
-        t: Terms,
-    ) -> Work
-        requires prompt_len_bound { t.prompt_len ≤ input_size }
-        ensures rule { (l : Line) (m : List ℕ) →
-            DoesOn (λ k. rules.redisplays_if_asked codes lock) (lent t text.now l) self terminal.old m result terminal.new m }
-    {
-        let flow = self.flow;
-        if (lock == REDISPLAY_AFTER) & flow.pending {
-            let r = flow.reading;
-            return self.redisplays(terminal, r, text, t);
-        }
-        self
-    }
-
     // A Write, in order; its data stands in the lent slice.
     pub(crate) fn writes_out(
         self,
@@ -200,7 +173,11 @@ impl Work {
         let kept = self.stops_discarding(f.keeps_output);
         let written = kept.writes_output(terminal, f, data);
         let said = written.sends_completion(messages, f.wants_completion, some, before);
-        let locked = said.sets_locked(f.lock == LEAVES_LOCKED);
-        locked.redisplays_if_asked(terminal, f.lock, text, t)
+        let mut shown = said.sets_locked(f.lock == LEAVES_LOCKED);
+        // a pending read is redisplayed as 18 does
+        if (f.lock == REDISPLAY_AFTER) & shown.flow.pending {
+            shown = shown.redisplays(terminal, text, t);
+        }
+        shown
     }
 }

@@ -5,11 +5,6 @@ use Rattle.line.proofs.FlowChanges.{here_rule}
 use Rattle.line.proofs.Turns.{then_does}
 use Rattle.line.proofs.Work.clears.Goals as goal
 
-pub clears_rubbing_out-requires : goal.clears_rubbing_out-requires
-clears_rubbing_out-requires c =
-    let counted = c.empties_typed-next.result.counted in
-    record { input_len_bound = counted.within }
-
 pub returns : goal.returns
 unfolding clear_rule
 returns c =

@@ -5,14 +5,6 @@ use Rattle.line.proofs.FlowChanges.{here_rule}
 use Rattle.line.proofs.Turns.{then_does}
 use Rattle.line.proofs.Work.clears_at_once.Goals as goal
 
-pub clears_without_rubbing-cleared-requires : goal.clears_without_rubbing-cleared-requires
-clears_without_rubbing-cleared-requires c = let counted = c.empties_typed-emptied.result.counted in record { input_len_bound = counted.within }
-
-pub ends_out_of_band-requires : goal.ends_out_of_band-requires
-ends_out_of_band-requires c =
-    let counted = c.clears_without_rubbing-cleared.result.counted in
-    record { input_len_bound = counted.within }
-
 pub returns : goal.returns
 unfolding clears_at_once clear_rule unlocks
 returns c =

@@ -7,15 +7,15 @@ use Rattle.line.proofs.Turns.{still_does}
 use Rattle.line.proofs.ArrivalLaws.{pending_does, idle_does}
 use Rattle.line.proofs.Work.clears_rubbing_out.Goals as goal
 
-pub returns-then-pending : goal.returns-then-pending
+pub returns-then-flow : goal.returns-then-flow
 unfolding clears_input
-returns-then-pending c =
+returns-then-flow c =
     let a = c.args in
     let deleted = c.deletes.ensures in
-    record { rule = λ l m. pending_does (clears_input codes rubbing_out) (reading_of (lent a.t a.text.now l) a.r) c.if-pending.true (deleted.rule cleared l m) }
+    record { rule = λ l m. pending_does (clears_input codes rubbing_out) (reading_of (lent a.t a.text.now l) a.self.flow.reading) c.if-flow.true (deleted.rule cleared l m) }
 
 pub returns : goal.returns
 unfolding clears_input
 returns c =
     let a = c.args in
-    record { rule = λ l m. idle_does (clears_input codes rubbing_out) (reading_of (lent a.t a.text.now l) a.r) c.if-pending.false (still_does _ _ m) }
+    record { rule = λ l m. idle_does (clears_input codes rubbing_out) (reading_of (lent a.t a.text.now l) a.self.flow.reading) c.if-flow.false (still_does _ _ m) }

@@ -7,15 +7,15 @@ use Rattle.line.proofs.Turns.{still_does}
 use Rattle.line.proofs.ArrivalLaws.{pending_does, idle_does}
 use Rattle.line.proofs.Work.clears_without_rubbing.Goals as goal
 
-pub returns-then-pending : goal.returns-then-pending
+pub returns-then-flow : goal.returns-then-flow
 unfolding clears_input
-returns-then-pending c =
+returns-then-flow c =
     let a = c.args in
     let deleted = c.deletes_without_rubbing.ensures in
-    record { rule = λ text l x m. pending_does (clears_input codes without_rubbing) (reading_of (lent a.t text l) a.r) c.if-pending.true (deleted.rule cleared text l x m) }
+    record { rule = λ text l x m. pending_does (clears_input codes without_rubbing) (reading_of (lent a.t text l) a.self.flow.reading) c.if-flow.true (deleted.rule cleared text l x m) }
 
 pub returns : goal.returns
 unfolding clears_input
 returns c =
     let a = c.args in
-    record { rule = λ text l x m. idle_does (clears_input codes without_rubbing) (reading_of (lent a.t text l) a.r) c.if-pending.false (still_does _ x m) }
+    record { rule = λ text l x m. idle_does (clears_input codes without_rubbing) (reading_of (lent a.t text l) a.self.flow.reading) c.if-flow.false (still_does _ x m) }

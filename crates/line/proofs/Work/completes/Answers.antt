@@ -1,4 +1,4 @@
-use mathlib.Core.Path.{ap}
+use mathlib.Core.Path.{refl}
 use Rattle.rules.specs.ReadData.{completes}
 use Rattle.line.proofs.Turns.{then_does}
 use Rattle.line.proofs.FlowChanges.{off_does}
@@ -11,9 +11,9 @@ pub returns : goal.returns
 unfolding completes
 returns c =
     let answered = c.sends_read_data-answered in
-    let off = c.without_read.ensures in record {
+    record {
       rule = λ k l x.
           then_does (c.loses_partial-ready.ensures.rule k x _)
-          (then_does (answered.ensures.rule k l x) (off_does answered.result off k x _));
-      ended = ap (λ f. f.pending) off.flow;
+          (then_does (answered.ensures.rule k l x) (off_does answered.result k x _));
+      ended = refl;
     }

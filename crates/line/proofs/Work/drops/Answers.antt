@@ -7,5 +7,5 @@ pub returns : goal.returns
 unfolding drops
 returns c =
     let belled = c.put-belled in
-    let n = c.one_more.ensures in
-    let next = c.with_terminal.ensures in record { rule = λ k l m. told_does _ (then_does (belled.ensures.rule l m) (count_does belled.result _ n next l _ m)) }
+    let n = c.one_more-belled.ensures in
+    record { rule = λ k l m. told_does _ (then_does (belled.ensures.rule l m) (count_does belled.result _ n l _ m)) }

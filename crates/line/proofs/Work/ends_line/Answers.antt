@@ -11,11 +11,10 @@ pub returns-then-newline-eq-ON : goal.returns-then-newline-eq-ON
 unfolding ends_line
 returns-then-newline-eq-ON c =
     let newline = c.args.newline in
-    let ended = c.put-ended in
-    let next = c.with_terminal.ensures in record {
+    let ended = c.put-ended in record {
       rule = λ l m.
           only_does _ (eq-eqb newline 1 c.if-newline-eq-ON.true)
-          (then_does (ended.ensures.rule l m) (terminal_does ended.result _ next (with_skip_linefeed true) refl l _ m));
+          (then_does (ended.ensures.rule l m) (terminal_does ended.result _ (with_skip_linefeed true) refl l _ m));
     }
 
 pub returns : goal.returns

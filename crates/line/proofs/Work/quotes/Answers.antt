@@ -10,5 +10,4 @@ pub returns : goal.returns
 unfolding quotes
 returns c =
     let self = c.args.self in
-    let next = c.with_terminal.ensures in
-    record { rule = λ k l t m. told_does _ (terminal_does self _ next (with_quoting true) refl l t m) }
+    record { rule = λ k l t m. told_does _ (terminal_does self _ (with_quoting true) refl l t m) }

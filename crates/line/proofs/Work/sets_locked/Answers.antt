@@ -6,5 +6,4 @@ use Rattle.line.proofs.Work.sets_locked.Goals as goal
 pub returns : goal.returns
 returns c =
     let self = c.args.self in
-    let next = c.with_terminal.ensures in
-    record { rule = λ l t m. terminal_does self _ next (with_locked c.args.locked) refl l t m }
+    record { rule = λ l t m. terminal_does self _ (with_locked c.args.locked) refl l t m }

@@ -1,32 +1,48 @@
 use mathlib.Core.Path.{refl}
-use Rattle.rules.specs.Write.{locks_by, writes_out}
+use Rattle.rules.specs.Write.{locks_by, redisplays_if_asked, writes_out}
 use Rattle.message.specs.Found.{write_in}
 use Rattle.line.specs.With.{lent}
 use Rattle.line.proofs.Turns.{then_does}
 use Rattle.line.proofs.FlowChanges.{here_rule}
+use Rattle.line.specs.Promise.{Progress, on, Does}
+use Rattle.line.specs.declared.Line.{Line}
+use Rattle.rules.specs.State.{codes}
+use Prim.Native.Nat.{ℕ}
+use mathlib.Core.List.{List}
+use Rattle.line.proofs.WriteLaws.{redisplays_now, redisplays_not}
 use Rattle.line.proofs.Work.writes_out.Goals as goal
+use Rattle.line.proofs.Work.writes_out.Goals.{After-sets_locked-shown}
 
-pub redisplays_if_asked-requires : goal.redisplays_if_asked-requires
-redisplays_if_asked-requires c =
-    record { prompt_len_bound = c.requires.prompt_len_bound }
+pub redisplays-shown-requires : goal.redisplays-shown-requires
+redisplays-shown-requires c = record { prompt_len_bound = c.requires.prompt_len_bound }
 
-pub returns : goal.returns
+-- all but what is asked of a pending read
+written : (c : After-sets_locked-shown) (l : Line) {r : Progress} {t' : List ℕ} →
+    Does (redisplays_if_asked codes c.args.f.lock) (on (lent c.args.t c.args.text.now l) c.sets_locked-shown.result) c.writes_output-written.new.terminal
+    c.sends_completion-said.new.messages r t' c.sends_completion-said.new.messages →
+    Does (writes_out codes (write_in c.args.s.now c.args.f)) (on (lent c.args.t c.args.text.now l) c.args.self) c.args.terminal.now c.args.messages.now r t'
+    c.sends_completion-said.new.messages
 unfolding writes_out locks_by
-returns c =
+written c l shown =
     let a = c.args in
     let text = c.span_of-data.ensures in
     let some = c.has_output-some.ensures a.s.now text in
-    let kept = c.stops_discarding-kept.ensures.rule in
-    let written = c.writes_output-written.ensures.rule a.s.now text in
-    let said = c.sends_completion-said.ensures.rule in
-    let locked = c.sets_locked-locked.ensures.rule in
-    let shown = c.redisplays_if_asked.ensures in record {
-      rule = λ l.
-          let line = lent a.t a.text.now l in
-          here_rule refl
-          (then_does (kept line _ _)
-          (then_does (written line _)
-          (then_does (said (write_in a.s.now a.f) _ some refl line _)
-          (then_does (locked line _ _)
-          (shown.rule l _)))));
-    }
+    let line = lent a.t a.text.now l in
+    here_rule refl
+    (then_does (c.stops_discarding-kept.ensures.rule line _ _)
+    (then_does (c.writes_output-written.ensures.rule a.s.now text line _)
+    (then_does (c.sends_completion-said.ensures.rule (write_in a.s.now a.f) _ some refl line _)
+    (then_does (c.sets_locked-shown.ensures.rule line _ _) shown))))
+
+pub returns-then-f-shown : goal.returns-then-f-shown
+returns-then-f-shown c =
+    let a = c.args in
+    let locked = c.sets_locked-shown.result in
+    let shown = c.redisplays-shown.ensures in
+    record { rule = λ l. written (goal.at.returns-then-f-shown c).After-sets_locked-shown l (redisplays_now (on (lent a.t a.text.now l) locked) a.f.lock c.if-f-shown.true (shown.rule l _)) }
+
+pub returns-else-f-shown : goal.returns-else-f-shown
+returns-else-f-shown c =
+    let a = c.args in
+    let locked = c.sets_locked-shown.result in
+    record { rule = λ l. written (goal.at.returns-else-f-shown c).After-sets_locked-shown l (redisplays_not (on (lent a.t a.text.now l) locked) a.f.lock _ _ c.if-f-shown.false) }

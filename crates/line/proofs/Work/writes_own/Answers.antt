@@ -29,12 +29,11 @@ returns c =
     let own = c.args.own.now in
     let first = c.first_written-start in
     let written = c.write-written in
-    let next = c.with_terminal.ensures in
     let all : length own ≤ first.result + (length own - first.result) = omega arith in
     let left = all_behind own first.result (length own - first.result) all ∙ first.ensures.left in
     let known = terminal_of written.result.flow.terminal in record {
       rule = λ l m.
           then_does (here_rule refl (same_writes left (written.ensures.rule l m)))
-          (terminal_does written.result _ next (λ x. with_skip_linefeed (is_empty own && x.skip_linefeed) x)
+          (terminal_does written.result _ (λ x. with_skip_linefeed (is_empty own && x.skip_linefeed) x)
           (ap (λ none. with_skip_linefeed (none && known.skip_linefeed) known) (sym (empty_length own))) l _ m);
     }
