@@ -8,7 +8,7 @@ ghost use Rattle.line.specs.Answers.{Answers};
 
 use crate::events::{Event, HostMessage};
 use crate::keys::move_keys;
-use crate::refusals::{are_roomy, early_row, row_of};
+use crate::refusals::{are_roomy, row_of};
 use crate::{Answer, Line, Work};
 use rules::refusals::Refusal;
 
@@ -147,16 +147,8 @@ impl Line {
         requires { Bounded self }
         ensures { Answers (rules.message s.now) self terminal.old messages.old result terminal.new messages.new }
     {
-        let flow = self.flow;
-        let early = early_row(
-            s,
-            terminal.len(),
-            messages.len(),
-            self.initiated,
-            flow.pending,
-        );
-        if let Err(row) = early {
-            return self.refuse(row);
+        if let Err(early) = self.early_row(s, terminal.len(), messages.len()) {
+            return self.refuse(early);
         }
         let found = message::decode(s);
         let Ok(m) = found else {

@@ -88,23 +88,6 @@ fn is_timely(kind: u8, initiated: bool, pending: bool) -> bool
     kind == rules::INITIATE
 }
 
-// The row that applies before the message is read.
-pub(crate) fn early_row(
-    s: &[u8],
-    terminal: usize,
-    messages: usize,
-    initiated: bool,
-    pending: bool,
-) -> Result<(), Refusal>
-    ensures { (x : State ℕ) → initiated ≡ x.host.initiated → pending ≡ is_pending x.pending_read → answered result ≡ early_row terminal messages s.now x }
-{
-    row(Refusal::SmallArea, are_roomy(terminal, messages))?;
-    row(Refusal::WrongLength, is_sound_length(s.len()))?;
-    let kind = fields::byte_at(s, rules::forms::MSGTYPE);
-    row(Refusal::WrongType, is_hosts(kind))?;
-    row(Refusal::WrongTime, is_timely(kind, initiated, pending))
-}
-
 impl Line {
     // A refusal writes nothing and hands the line back as it was.
     pub(crate) fn refuse(self, refused: Refusal) -> Answer
@@ -116,6 +99,21 @@ impl Line {
             terminal: 0,
             messages: 0,
         }
+    }
+
+    // The row that applies before the message is read.
+    pub(crate) fn early_row(self, s: &[u8], terminal: usize, messages: usize) -> Result<(), Refusal>
+        ensures { answered result ≡ early_row terminal messages s.now (view self) }
+    {
+        row(Refusal::SmallArea, are_roomy(terminal, messages))?;
+        row(Refusal::WrongLength, is_sound_length(s.len()))?;
+        let kind = fields::byte_at(s, rules::forms::MSGTYPE);
+        row(Refusal::WrongType, is_hosts(kind))?;
+        let flow = self.flow;
+        row(
+            Refusal::WrongTime,
+            is_timely(kind, self.initiated, flow.pending),
+        )
     }
 
     // A Start Read that was read asks for no more than this line's largest read.

@@ -4,10 +4,9 @@ use Rattle.rules.specs.Calls as rules
 use Rattle.rules.proofs.RefusalNumbers.{never-accepted}
 use Rattle.message.specs.Found.{found_in}
 use Rattle.rules.proofs.Bounds.Bytes.{bytes_all}
-use Rattle.line.specs.View.{view, reading_of}
 use Rattle.line.proofs.HostAccepted.{host_sends}
 use Rattle.line.proofs.Answers.{refused}
-use Rattle.line.proofs.ReceivedMessage.{is_pending_lem, early_refused, early_passed, outcome_refused, found-refused, server_found, late-refused, is_accepted}
+use Rattle.line.proofs.ReceivedMessage.{early_refused, early_passed, outcome_refused, found-refused, server_found, late-refused, is_accepted}
 use Rattle.line.proofs.Line.host.Goals as goal
 
 pub returns-in-Err : goal.returns-in-Err
@@ -17,9 +16,9 @@ returns-in-Err c =
     let s = a.s.now in
     let t = a.terminal.now in
     let m = a.messages.now in
-    let row = c.early_row-early.ensures (view l) refl (is_pending_lem l.flow.pending (reading_of l l.flow.reading)) in
+    let row = c.early_row.ensures in
     refused (rules.message s) l t m _ c.requires
-    (early_refused l t m s (sym (ap answered c.in-Err.is) ∙ row) (never-accepted c.in-Err.row)) c.refuse.ensures
+    (early_refused l t m s (sym (ap answered c.in-Err.is) ∙ row) (never-accepted c.in-Err.early)) c.refuse.ensures
 
 pub returns-in_default-found : goal.returns-in_default-found
 returns-in_default-found c =
@@ -28,8 +27,8 @@ returns-in_default-found c =
     let s = a.s.now in
     let t = a.terminal.now in
     let m = a.messages.now in
-    let early : c.early_row-early.result ≡ Ok _ = search found_alone in
-    let row = sym (ap answered early) ∙ c.early_row-early.ensures (view l) refl (is_pending_lem l.flow.pending (reading_of l l.flow.reading)) in
+    let early : c.early_row.result ≡ Ok _ = search found_alone in
+    let row = sym (ap answered early) ∙ c.early_row.ensures in
     let told : c.decode-found.result ≡ Err c.unwrap_err.result = search found_alone in
     let found = ap (found_in s) (sym told) ∙ c.decode-found.ensures.fields in
     let passed = early_passed l t m s row refl in
@@ -41,8 +40,8 @@ returns-in_default-of c =
     let a = c.args in
     let l = a.self in
     let s = a.s.now in
-    let early : c.early_row-early.result ≡ Ok _ = search found_alone in
-    let row = sym (ap answered early) ∙ c.early_row-early.ensures (view l) refl (is_pending_lem l.flow.pending (reading_of l l.flow.reading)) in
+    let early : c.early_row.result ≡ Ok _ = search found_alone in
+    let row = sym (ap answered early) ∙ c.early_row.ensures in
     let passed = early_passed l a.terminal.now a.messages.now s row refl in
     let found = ap (found_in s) (sym c.in-Ok.is) ∙ c.decode-found.ensures.fields in
     absurd (server_found s passed.2 _ (sym c.of.ensures ∙ c.in_default-of.is) found)
@@ -54,8 +53,8 @@ returns-in-Err-late_row c =
     let s = a.s.now in
     let t = a.terminal.now in
     let m = a.messages.now in
-    let early : c.early_row-early.result ≡ Ok _ = search found_alone in
-    let row = sym (ap answered early) ∙ c.early_row-early.ensures (view l) refl (is_pending_lem l.flow.pending (reading_of l l.flow.reading)) in
+    let early : c.early_row.result ≡ Ok _ = search found_alone in
+    let row = sym (ap answered early) ∙ c.early_row.ensures in
     let message = c.in-Ok.m in
     let host = c.in-Some.h in
     let found = ap (found_in s) (sym c.in-Ok.is) ∙ c.decode-found.ensures.fields in
@@ -69,8 +68,8 @@ obeys-requires c =
     let a = c.args in
     let l = a.self in
     let s = a.s.now in
-    let early : c.early_row-early.result ≡ Ok _ = search found_alone in
-    let row = sym (ap answered early) ∙ c.early_row-early.ensures (view l) refl (is_pending_lem l.flow.pending (reading_of l l.flow.reading)) in
+    let early : c.early_row.result ≡ Ok _ = search found_alone in
+    let row = sym (ap answered early) ∙ c.early_row.ensures in
     let passed = early_passed l a.terminal.now a.messages.now s row refl in
     let message = c.in-Ok.m in
     let host = c.in-Some.h in

@@ -1,15 +1,17 @@
-use Rattle.std.proofs.Common.{rules as found_alone, ◌≡◌, Err, ap, ◌∙◌, arith}
+use Rattle.std.proofs.Common.{rules as found_alone, ◌≡◌, Err, refl, ap, ◌∙◌, arith}
 use Rattle.rules.specs.Refusals.{answered}
 use Rattle.rules.proofs.RefusalNumbers.{never-accepted}
+use Rattle.line.specs.View.{view, reading_of}
+use Rattle.line.proofs.ReceivedMessage.{is_pending_lem}
 use Rattle.line.proofs.RefusalRows.{row_stops, row_passes}
 use Rattle.rules.specs.Calls.{is_hosts, is_timely}
 use Rattle.rules.specs.Numbers.{small_area, wrong_length, wrong_type, wrong_time}
 use Rattle.line.specs.Refusals.{row, first_row}
-use Rattle.line.proofs.refusals.early_row.Goals as goal
+use Rattle.line.proofs.Line.early_row.Goals as goal
 
 pub returns-in_err-row : goal.returns-in_err-row
 unfolding first_row
-returns-in_err-row c = λ x begun pending.
+returns-in_err-row c =
     let e = c.in_err-row.field-0.0 in
     let answer : c.from_residual.result ≡ Err e = search found_alone in
     ap answered answer
@@ -17,7 +19,7 @@ returns-in_err-row c = λ x begun pending.
 
 pub returns-in_err-row-2 : goal.returns-in_err-row-2
 unfolding first_row
-returns-in_err-row-2 c = λ x begun pending.
+returns-in_err-row-2 c =
     let e = c.in_err-row-2.field-0.0 in
     let answer : c.from_residual-in_err-row-2.result ≡ Err e = search found_alone in
     ap answered answer
@@ -26,7 +28,7 @@ returns-in_err-row-2 c = λ x begun pending.
 
 pub returns-in_err-row-3 : goal.returns-in_err-row-3
 unfolding first_row
-returns-in_err-row-3 c = λ x begun pending.
+returns-in_err-row-3 c =
     let e = c.in_err-row-3.field-0.0 in
     let answer : c.from_residual-in_err-row-3.result ≡ Err e = search found_alone in
     ap answered answer
@@ -36,9 +38,10 @@ returns-in_err-row-3 c = λ x begun pending.
 
 pub returns : goal.returns
 unfolding first_row row
-returns c = λ x begun pending.
+returns c =
+    let l = c.args.self in
     let byte = c.byte_at-kind.ensures in
-    c.row-4.ensures ∙ ap (row wrong_time) (c.is_timely.ensures x begun pending ∙ ap (λ k. is_timely k x) byte)
+    c.row-4.ensures ∙ ap (row wrong_time) (c.is_timely.ensures (view l) refl (is_pending_lem l.flow.pending (reading_of l l.flow.reading)) ∙ ap (λ k. is_timely k (view l)) byte)
     ∙ row_passes wrong_type _ _ (λ e. omega arith) (c.in_ok-row-3.ensures ∙ ap (row wrong_type) (c.is_hosts.ensures ∙ ap is_hosts byte))
     ∙ row_passes wrong_length _ _ (λ e. omega arith) (c.in_ok-row-2.ensures ∙ ap (row wrong_length) c.is_sound_length.ensures)
     ∙ row_passes small_area _ _ (λ e. omega arith) (c.in_ok-row.ensures ∙ ap (row small_area) c.are_roomy.ensures)
