@@ -31,7 +31,7 @@ use Rattle.line.specs.Promise.{Progress, on, Does}
 use Rattle.line.proofs.KeyArrays.{stored_keys}
 use Rattle.line.proofs.Answers.{under_way}
 use Rattle.line.proofs.Turns.{changes_does}
-use Rattle.line.proofs.FlowChanges.{goes_does, goes_as, for_equal}
+use Rattle.line.proofs.FlowChanges.{goes_does, goes_as}
 
 rest_view : (pending : Bool) (l : Line) (r : Reading) →
     pending_of pending (reading_of l (idling 0 r)) ≡ rules.idle_again (pending_of pending (reading_of l r))

@@ -54,16 +54,11 @@ fn chosen_set(last: Set, f: StartReadFields, s: &[u8]) -> Set
     requires set_len_bound { length (span_of s.now f.set) ≤ set_size }
     ensures { (set_of result ≡ fields.chosen_set (set_of last) (start_read_in s.now f)) × CountedSet result }
 {
-    let choice = f.set_choice;
-    if choice == CHOOSES_LAST {
-        return last;
+    match f.set_choice {
+        CHOOSES_LAST => last,
+        CHOOSES_THIS => Set::of(fields::span_of(s, f.set)),
+        _ => Set::universal(),
     }
-    if choice == CHOOSES_THIS {
-        let span = f.set;
-        let given = fields::span_of(s, span);
-        return Set::of(given);
-    }
-    Set::universal()
 }
 
 // ZZ 1 gives the set that ZZ 0 looks at.
@@ -73,9 +68,7 @@ fn last_set(last: Set, f: StartReadFields, s: &[u8]) -> Set
     ensures { (set_of result ≡ pick (eqb f.set_choice fields.chooses_this) (span_of s.now f.set) (set_of last)) × CountedSet result }
 {
     if f.set_choice == CHOOSES_THIS {
-        let span = f.set;
-        let given = fields::span_of(s, span);
-        return Set::of(given);
+        return Set::of(fields::span_of(s, f.set));
     }
     last
 }
@@ -84,9 +77,7 @@ fn last_set(last: Set, f: StartReadFields, s: &[u8]) -> Set
 fn hides_lf(f: StartReadFields, s: &[u8]) -> bool
     ensures { result ≡ rules.hides_lf (start_read_in s.now f) }
 {
-    let span = f.text;
-    let text = fields::span_of(s, span);
-    let first = fields::byte_at(text, 0);
+    let first = fields::byte_at(fields::span_of(s, f.text), 0);
     (f.formats == fields::ON) & (first == characters::LF)
 }
 
@@ -106,10 +97,8 @@ fn prompt_of(f: StartReadFields, s: &[u8]) -> &[u8]
     requires { Startable s.now f }
     ensures { result.now ≡ rules.shown_prompt (start_read_in s.now f) }
 {
-    let hidden = hides_lf(f, s);
-    let span = f.text;
-    let text = fields::span_of(s, span);
-    front_of(text, f.end_of_prompt as usize, hidden)
+    let text = fields::span_of(s, f.text);
+    front_of(text, f.end_of_prompt as usize, hides_lf(f, s))
 }
 
 // What the text has behind the prompt.
@@ -117,10 +106,7 @@ fn data_of(f: StartReadFields, s: &[u8]) -> &[u8]
     requires { Startable s.now f }
     ensures { result.now ≡ rules.data_behind (start_read_in s.now f) }
 {
-    let span = f.text;
-    let text = fields::span_of(s, span);
-    let start = f.end_of_prompt as usize;
-    &text[start..]
+    &fields::span_of(s, f.text)[f.end_of_prompt as usize..]
 }
 
 // A piece of a read's text, put at its place.
@@ -128,12 +114,7 @@ fn put_text(text: &mut [u8; rules::INPUT_SIZE], at: usize, piece: &[u8])
     requires piece_bound { at + length piece.now ≤ input_size }
     ensures { text.new ≡ sets text.old at piece.now }
 {
-    let mut i = 0;
-    while i < piece.len() {
-        let byte = piece[i];
-        text[at + i] = byte;
-        i += 1;
-    }
+    text[at..at + piece.len()].copy_from_slice(piece);
 }
 
 // What is fixed for the whole of the read.
@@ -179,19 +160,14 @@ impl Line {
         requires startable { Startable s.now f }
         ensures { Opens s.now f self result }
     {
-        let flow = self.flow;
-        let known = flow.terminal;
-        let cursor = known.screen;
-        let switches = self.switches;
-        let last = self.last_set;
         let prompt = prompt_of(f, s);
         let data = data_of(f, s);
         let size = prompt.len();
-        let terms = terms_for(f, switches, cursor, size as u16);
+        let cursor = self.flow.terminal.screen;
         let mut next = self;
-        next.set = chosen_set(last, f, s);
-        next.last_set = last_set(last, f, s);
-        next.terms = terms;
+        next.set = chosen_set(self.last_set, f, s);
+        next.last_set = last_set(self.last_set, f, s);
+        next.terms = terms_for(f, self.switches, cursor, size as u16);
         put_text(&mut next.text, 0, data);
         put_text(&mut next.text, rules::INPUT_SIZE - size, prompt);
         next

@@ -115,9 +115,7 @@ impl Work {
         ensures rule { (s : List ℕ) → «data».now ≡ span_of s f.text → (l : Line) (m : List ℕ) →
             Does (rules.writes_output (write_in s f)) (on l self) terminal.old m (on l result) terminal.new m }
     {
-        let flow = self.flow;
-        let known = flow.terminal;
-        if known.discarding {
+        if self.flow.terminal.discarding {
             return self;
         }
         let prefixed = self.writes_affix(terminal, f.prefix, f.prefix_value);
@@ -132,8 +130,7 @@ impl Work {
             Does (rules.sends_completion wants x b) (on l self) t messages.old (on l result) t messages.new }
     {
         if wants == fields::ON {
-            let flow = self.flow;
-            let known = flow.terminal;
+            let known = self.flow.terminal;
             let cursor = known.screen;
             let lost = fields::bit_of(known.discarding & some);
             let horizontal = screen::columns::change(cursor.column, before.column) as u16;
@@ -165,9 +162,7 @@ impl Work {
             DoesOn (λ k. rules.writes_out codes (write_in s.now f)) (lent t text.now l) self terminal.old messages.old result
             terminal.new messages.new }
     {
-        let flow = self.flow;
-        let known = flow.terminal;
-        let before = known.screen;
+        let before = self.flow.terminal.screen;
         let data = fields::span_of(s, f.text);
         let some = has_output(f, data);
         let kept = self.stops_discarding(f.keeps_output);

@@ -1,4 +1,5 @@
 use mathlib.Core.Path.{sym, ◌∙◌}
+use native.Mathlib.Omega.{arith}
 use borrow.Author.Tests.{eq-eqb, ne_eqb}
 use Rattle.rules.specs.StartRead.{chosen_set}
 use Rattle.rules.proofs.Choice.{pick_true, pick-false}
@@ -6,22 +7,22 @@ use Rattle.message.specs.Found.{start_read_in}
 use Rattle.line.proofs.StartRead.{set_given}
 use Rattle.line.proofs.start_read.chosen_set.Goals as goal
 
-pub returns-then-choice-eq-CHOOSES_LAST : goal.returns-then-choice-eq-CHOOSES_LAST
+pub returns-in-0 : goal.returns-in-0
 unfolding chosen_set start_read_in
-returns-then-choice-eq-CHOOSES_LAST c = (sym (pick_true _ _ (eq-eqb _ _ c.if-choice-eq-CHOOSES_LAST.true)), c.requires.counted_set)
+returns-in-0 c = (sym (pick_true _ _ (eq-eqb _ _ c.in-0.is)), c.requires.counted_set)
 
-pub returns-then-choice-eq-CHOOSES_THIS : goal.returns-then-choice-eq-CHOOSES_THIS
+pub returns-in-1 : goal.returns-in-1
 unfolding chosen_set start_read_in
-returns-then-choice-eq-CHOOSES_THIS c =
+returns-in-1 c =
     let given = c.of.ensures in
-    let same = set_given c.args.s.now c.args.f.set c.span_of-given.ensures c.requires.set_len_bound given.0 in
-    let other = pick-false _ _ (ne_eqb _ _ c.if-choice-eq-CHOOSES_LAST.false) in
-    let this = pick_true _ _ (eq-eqb _ _ c.if-choice-eq-CHOOSES_THIS.true) in
+    let same = set_given c.args.s.now c.args.f.set c.span_of.ensures c.requires.set_len_bound given.0 in
+    let other = pick-false _ _ (ne_eqb _ _ (λ e. omega (arith, e, c.in-1.is))) in
+    let this = pick_true _ _ (eq-eqb _ _ c.in-1.is) in
     (same ∙ sym (other ∙ this), given.1)
 
-pub returns : goal.returns
+pub returns-in_default : goal.returns-in_default
 unfolding chosen_set start_read_in
-returns c =
-    let other = pick-false _ _ (ne_eqb _ _ c.if-choice-eq-CHOOSES_LAST.false) in
-    let neither = pick-false _ _ (ne_eqb _ _ c.if-choice-eq-CHOOSES_THIS.false) in
+returns-in_default c =
+    let other = pick-false _ _ (ne_eqb _ _ (λ e. omega (arith, e))) in
+    let neither = pick-false _ _ (ne_eqb _ _ (λ e. omega (arith, e))) in
     (c.universal.ensures.0 ∙ sym (other ∙ neither), c.universal.ensures.1)

@@ -13,4 +13,4 @@ pub returns : goal.returns
 unfolding shown_prompt start_read_in
 returns c =
     let end = c.args.f.end_of_prompt in
-    c.front_of.ensures ∙ ap₂ (λ hidden text. drop (bit hidden) (take end text)) c.hides_lf-hidden.ensures c.span_of-text.ensures
+    c.front_of.ensures ∙ ap₂ (λ hidden text. drop (bit hidden) (take end text)) c.hides_lf.ensures c.span_of-text.ensures
