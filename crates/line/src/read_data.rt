@@ -45,8 +45,7 @@ impl Work {
     fn loses_partial(self) -> Work
         ensures rule { (l : Line) (t m : List ℕ) → Does (rules.loses_partial codes) (on l self) t m (on l result) t m }
     {
-        let flow = self.flow;
-        let typed = flow.typed;
+        let typed = self.flow.typed;
         if typed.is_partial() {
             let next = typed.without_token();
             return self.with_typed(next);
@@ -58,14 +57,11 @@ impl Work {
     fn read_data_of(self, code: u8, ending: u16, r: Reading, t: Terms) -> Message
         requires ending_bound { ending ≤ r.input_len }
         ensures { (text : List ℕ) (k l : Line) → CountedReading r text →
-            (held_in text result ≡ codec.message (rules.read_data_of codes code ending (reading_of (lent t text l) r) (view (on_flow self.flow k)))) ×
-            (inside (length text) (spans_of result) ≡ true) }
+            (held_in text result ≡ codec.message (rules.read_data_of codes code ending (reading_of (lent t text l) r) (view (on_flow self.flow k))))
+            × (inside (length text) (spans_of result) ≡ true) }
     {
-        let flow = self.flow;
-        let typed = flow.typed;
-        let terminal = flow.terminal;
-        let cursor = terminal.screen;
-        let more = typed.more_data();
+        let cursor = self.flow.terminal.screen;
+        let more = self.flow.typed.more_data();
         let vertical = screen::columns::change(cursor.line as u16, t.line as u16);
         let horizontal = screen::columns::change(cursor.column, t.column);
         let text = Span {

@@ -179,9 +179,7 @@ impl Line {
         requires startable { Startable s.now f }
         ensures { Opens s.now f self result }
     {
-        let flow = self.flow;
-        let known = flow.terminal;
-        let cursor = known.screen;
+        let cursor = self.flow.terminal.screen;
         let switches = self.switches;
         let last = self.last_set;
         let prompt = prompt_of(f, s);

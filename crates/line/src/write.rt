@@ -83,7 +83,9 @@ impl Work {
 
     // A prefix or a postfix.
     fn writes_affix(self, terminal: &mut [u8], code: u8, value: u8) -> Work
-        ensures rule { (l : Line) (m : List ℕ) → Does (rules.writes_own (rules.affix_bytes code value)) (on l self) terminal.old m (on l result) terminal.new m }
+        ensures rule { (l : Line) (m : List ℕ) →
+            Does (rules.writes_own (rules.affix_bytes code value)) (on l self) terminal.old m (on l result)
+            terminal.new m }
     {
         if code == NEW_LINES {
             let mut lines = [characters::LF; LONGEST_AFFIX];
@@ -115,8 +117,7 @@ impl Work {
         ensures rule { (s : List ℕ) → «data».now ≡ span_of s f.text → (l : Line) (m : List ℕ) →
             Does (rules.writes_output (write_in s f)) (on l self) terminal.old m (on l result) terminal.new m }
     {
-        let flow = self.flow;
-        let known = flow.terminal;
+        let known = self.flow.terminal;
         if known.discarding {
             return self;
         }
@@ -128,12 +129,12 @@ impl Work {
 
     // Write Completion: whether output was lost, and how far the cursor has moved.
     fn sends_completion(self, messages: &mut [u8], wants: u8, some: bool, before: Screen) -> Work
-        ensures rule { (x : forms.Message ℕ) (b : State ℕ) → some ≡ rules.has_output x → screen.screen_view before ≡ b.terminal.screen → (l : Line) (t : List ℕ) →
+        ensures rule { (x : forms.Message ℕ) (b : State ℕ) → some ≡ rules.has_output x →
+            screen.screen_view before ≡ b.terminal.screen → (l : Line) (t : List ℕ) →
             Does (rules.sends_completion wants x b) (on l self) t messages.old (on l result) t messages.new }
     {
         if wants == fields::ON {
-            let flow = self.flow;
-            let known = flow.terminal;
+            let known = self.flow.terminal;
             let cursor = known.screen;
             let lost = fields::bit_of(known.discarding & some);
             let horizontal = screen::columns::change(cursor.column, before.column) as u16;
@@ -165,9 +166,7 @@ impl Work {
             DoesOn (λ k. rules.writes_out codes (write_in s.now f)) (lent t text.now l) self terminal.old messages.old result
             terminal.new messages.new }
     {
-        let flow = self.flow;
-        let known = flow.terminal;
-        let before = known.screen;
+        let before = self.flow.terminal.screen;
         let data = fields::span_of(s, f.text);
         let some = has_output(f, data);
         let kept = self.stops_discarding(f.keeps_output);
