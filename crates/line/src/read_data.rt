@@ -99,7 +99,8 @@ impl Work {
         self.send(messages, message, text)
     }
 
-    // The read completes with this code; so many characters at the end are a terminator, token or underflow code.
+    // This read, which may be the flow's with a character more, completes with this code; so many characters at the end are a
+    // terminator, token or underflow code.
     pub(crate) fn completes(
         self,
         messages: &mut [u8],
