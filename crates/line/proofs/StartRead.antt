@@ -1,13 +1,12 @@
 -- The read that a Start Read opens: the pieces of its text, and where they stand in the line's.
-use mathlib.Core.Path.{◌≡◌, refl, sym, ap, ap₂, ◌∙◌}
-use Prim.Native.Nat.{ℕ, suc, ◌+◌, ◌-◌, ◌≤◌, ◌<◌}
-use native.Mathlib.Numerals.{add-one}
+use mathlib.Core.Path.{◌≡◌, refl, sym, ap, ◌∙◌}
+use Prim.Native.Nat.{ℕ, ◌+◌, ◌-◌, ◌≤◌}
 use native.Mathlib.Omega.{arith}
 use mathlib.Core.Bool.{◌&&◌}
 use lib.Dec.{eqb}
-use mathlib.Core.List.{List, [], ◌∷◌, ◌++◌, append-nil}
-use lib.ListN.{length, get_or, take, drop, set, length-take, length-drop, drop_of_length-le}
-use lib.Seq.{take_all, sets, sets-eq, length-sets, take-suc, take-take, take-append-le, take-append_seam, drop_at, length-take-le}
+use mathlib.Core.List.{List, [], ◌++◌, append-nil}
+use lib.ListN.{length, take, drop, length-take, length-drop, drop_of_length-le}
+use lib.Seq.{take_all, sets, sets-eq, length-sets, take-take, take-append-le, take-append_seam, drop_at, length-take-le}
 use Rattle.rules.specs.Numbers.{input_size}
 use Rattle.rules.specs.Choice.{pick, bit}
 use Rattle.rules.specs.Messages.Codec.{set_size}
@@ -30,21 +29,6 @@ use Rattle.line.specs.StartRead.{Startable, terms_for, on_opened, Opens}
 pub set_given : (s : List ℕ) (p : Span) {given r : List ℕ} → given ≡ span_of s p → length (span_of s p) ≤ set_size → r ≡ take set_size given →
     r ≡ span_of s p
 set_given s p e short k = k ∙ ap (take set_size) e ∙ take_all set_size (span_of s p) short
-
--- one byte more of a piece
-sets_more : (text : List ℕ) (at : ℕ) (bs : List ℕ) (b : ℕ) → sets text at (bs ++ b ∷ []) ≡ set (sets text at bs) (at + length bs) b
-sets_more text at [] b = let e : at ≡ at + 0 = omega arith in ap (λ n. set text n b) e
-sets_more text at (x ∷ bs) b =
-    let e : suc at + length bs ≡ at + length (x ∷ bs) = omega arith in
-    sets_more (set text at x) (suc at) bs b ∙ ap (λ n. set (sets (set text at x) (suc at) bs) n b) e
-
-pub put_more : (text now piece : List ℕ) (at i : ℕ) → i < length piece → now ≡ sets text at (take i piece) →
-    set now (at + i) (get_or piece i 0) ≡ sets text at (take (i + 1) piece)
-put_more text now piece at i h e =
-    let long : length (take i piece) ≡ i = length-take-le i piece (omega arith) in
-    ap₂ (λ x n. set x (at + n) (get_or piece i 0)) e (sym long)
-    ∙ sym (sets_more text at (take i piece) (get_or piece i 0))
-    ∙ ap (sets text at) (sym (ap (λ n. take n piece) (add-one i) ∙ take-suc piece i 0 h))
 
 -- The data in front of a text and the prompt at its end.
 module _ (text typed shown : List ℕ) (full : length text ≡ input_size) (room : length shown + length typed ≤ input_size) where

@@ -30,10 +30,7 @@ const DISABLES_CONTROLS: u8 = 3;
 fn one_more(n: u16) -> u16
     ensures { result ≡ min top_dropped (n + 1) }
 {
-    if n < rules::TOP_DROPPED {
-        return n + 1;
-    }
-    rules::TOP_DROPPED
+    n.saturating_add(1).min(rules::TOP_DROPPED)
 }
 
 impl Work {

@@ -128,12 +128,7 @@ fn put_text(text: &mut [u8; rules::INPUT_SIZE], at: usize, piece: &[u8])
     requires piece_bound { at + length piece.now ≤ input_size }
     ensures { text.new ≡ sets text.old at piece.now }
 {
-    let mut i = 0;
-    while i < piece.len() {
-        let byte = piece[i];
-        text[at + i] = byte;
-        i += 1;
-    }
+    text[at..at + piece.len()].copy_from_slice(piece);
 }
 
 // What is fixed for the whole of the read.

@@ -1,32 +1,25 @@
-use Prim.Native.Nat.{◌+◌}
-use mathlib.Core.Path.{refl, ap, ◌∙◌}
+use mathlib.Core.Path.{◌≡◌, sym, ap, ◌∙◌}
+use Prim.Native.Nat.{◌+◌, ◌-◌, ◌≤◌}
 use native.Mathlib.Omega.{arith}
-use lib.ListN.{length-set}
-use lib.Seq.{sets, take_all}
+use mathlib.Core.List.{◌++◌, append_assoc}
+use lib.ListN.{length, take}
+use lib.Seq.{drop-drop}
+use Rattle.std.proofs.lemmas.List.Edits.{sets-eq}
 use Rattle.rules.proofs.Numbers.{input_size_lem}
-use Rattle.line.proofs.StartRead.{put_more}
-use Rattle.line.proofs.LentText.{text_full}
 use Rattle.line.proofs.start_read.put_text.Goals as goal
 
-pub loop-i-init : goal.loop-i-init
-loop-i-init c = (omega arith, text_full c.args.text.now c.told-text, refl)
+pub overflow_add-at : goal.overflow_add-at
+overflow_add-at c = omega (arith, input_size_lem)
 
-pub overflow_add-text : goal.overflow_add-text
-overflow_add-text c = omega (arith, input_size_lem)
-
-pub bounds-text-at : goal.bounds-text-at
-bounds-text-at c = omega (arith, input_size_lem)
-
-pub loop-i-preserved : goal.loop-i-preserved
-loop-i-preserved c =
-    let at = c.loop-i in
-    let a = c.args in (
-      omega arith,
-      length-set at.text (a.at + at.i) _ ∙ at.invariant.1,
-      put_more a.text.now at.text a.piece.now a.at at.i c.loop-i-test.true at.invariant.2,
-    )
+pub slice_bounds-copy_from_slice-end : goal.slice_bounds-copy_from_slice-end
+slice_bounds-copy_from_slice-end c = omega (arith, input_size_lem)
 
 pub returns : goal.returns
 returns c =
-    let a = c.args in
-    c.loop-i.invariant.2 ∙ ap (sets a.text.now a.at) (take_all _ _ c.loop-i-test.false)
+    let at = c.args.at in
+    let text = c.args.text.now in
+    let piece = c.args.piece.now in
+    let fits : at + length piece ≤ length text = omega (arith, c.told-text, input_size_lem) in
+    let count : at + length piece - at ≡ length piece = omega arith in
+    rw (c.copy_from_slice.ensures.after, count)
+    (ap (λ xs. take at text ++ (piece ++ xs)) (drop-drop (length piece) at text) ∙ sym (append_assoc (take at text) piece _) ∙ sym (sets-eq piece text at fits))
