@@ -31,10 +31,7 @@ const DISABLES_CONTROLS: u8 = 3;
 fn one_more(n: u16) -> u16
     ensures { result ≡ min top_dropped (n + 1) }
 {
-    if n < rules::TOP_DROPPED {
-        return n + 1;
-    }
-    rules::TOP_DROPPED
+    n.saturating_add(1).min(rules::TOP_DROPPED)
 }
 
 impl Work {
@@ -62,11 +59,10 @@ impl Work {
     // Rule 4.
     pub(crate) fn stores(self, terminal: &mut [u8]) -> Work
         ensures rule { (k : Key) (l : Line) → length l.keys ≡ type_ahead_size → (m : List ℕ) →
-            Does (rules.stores type_ahead_size (key_of k).quoted (key_of k).char) (on l self) terminal.old m (on (stored k self.flow l) result)
-            terminal.new m }
+            Does (rules.stores type_ahead_size (key_of k).quoted (key_of k).char) (on l self) terminal.old m
+            (on (stored k self.flow l) result) terminal.new m }
     {
-        let flow = self.flow;
-        let typed = flow.typed;
+        let typed = self.flow.typed;
         if (typed.keys_len as usize) < rules::TYPE_AHEAD_SIZE {
             return self.keeps();
         }
@@ -103,7 +99,8 @@ impl Work {
 
     // Rule 3, code 15; where it turns discard on, it unlocks. Discard State says 1 where output is not discarded.
     pub(crate) fn flips_discard(self, messages: &mut [u8]) -> Work
-        ensures rule { (c : ℕ) (l : Line) (t : List ℕ) → Does (rules.flips_discard c) (on l self) t messages.old (on l result) t messages.new }
+        ensures rule { (c : ℕ) (l : Line) (t : List ℕ) →
+            Does (rules.flips_discard c) (on l self) t messages.old (on l result) t messages.new }
     {
         let mut next = self;
         next.flow.terminal.discarding = !self.flow.terminal.discarding;
@@ -119,16 +116,16 @@ impl Work {
     pub(crate) fn empties_typed(self) -> Work
         ensures rule { (l : Line) (t m : List ℕ) → Does rules.empties_typed (on l self) t m (on l result) t m }
     {
-        let flow = self.flow;
-        let typed = flow.typed;
-        let next = typed.emptied();
+        let next = self.flow.typed.emptied();
         self.with_typed(next)
     }
 
     // A pending read's input goes, without rubbing out.
     fn clears_without_rubbing(self, t: Terms) -> Work
         ensures rule { (text : List ℕ) (l : Line) (a m : List ℕ) →
-            DoesOn (λ k. rules.clears_input codes rules.without_rubbing (pending_of self.flow.pending (reading_of k self.flow.reading))) (lent t text l) self a m result a m }
+            DoesOn
+            (λ k. rules.clears_input codes rules.without_rubbing (pending_of self.flow.pending (reading_of k self.flow.reading)))
+            (lent t text l) self a m result a m }
     {
         let flow = self.flow;
         if flow.pending {
@@ -145,8 +142,9 @@ impl Work {
         t: Terms,
     ) -> Work
         ensures rule { (l : Line) (m : List ℕ) →
-            DoesOn (λ k. rules.clears_input codes rules.rubbing_out (pending_of self.flow.pending (reading_of k self.flow.reading))) (lent t text.now l) self terminal.old
-            m result terminal.new m }
+            DoesOn
+            (λ k. rules.clears_input codes rules.rubbing_out (pending_of self.flow.pending (reading_of k self.flow.reading)))
+            (lent t text.now l) self terminal.old m result terminal.new m }
     {
         let flow = self.flow;
         if flow.pending {
@@ -171,7 +169,8 @@ impl Work {
 
     // Rule 2, hello.
     pub(crate) fn sends_out_of_band(self, messages: &mut [u8], c: u8) -> Work
-        ensures rule { (l : Line) (t : List ℕ) → Does (rules.sends_out_of_band codes c) (on l self) t messages.old (on l result) t messages.new }
+        ensures rule { (l : Line) (t : List ℕ) →
+            Does (rules.sends_out_of_band codes c) (on l self) t messages.old (on l result) t messages.new }
     {
         self.sends_plain(
             messages,
@@ -185,8 +184,9 @@ impl Work {
     // Rule 2, immediate clear: a pending read completes, returning no data.
     fn ends_out_of_band(self, messages: &mut [u8], text: &[u8; rules::INPUT_SIZE], t: Terms) -> Work
         ensures rule { (l : Line) (a : List ℕ) →
-            DoesOn (λ k. rules.ends_out_of_band codes (pending_of self.flow.pending (reading_of k self.flow.reading))) (lent t text.now l) self a messages.old result a
-            messages.new }
+            DoesOn
+            (λ k. rules.ends_out_of_band codes (pending_of self.flow.pending (reading_of k self.flow.reading)))
+            (lent t text.now l) self a messages.old result a messages.new }
     {
         let flow = self.flow;
         if flow.pending {
@@ -210,7 +210,9 @@ impl Work {
         text: &[u8; rules::INPUT_SIZE],
         t: Terms,
     ) -> Work
-        ensures rule { (l : Line) (a : List ℕ) → DoesOn (λ k. rules.clears_at_once codes c) (lent t text.now l) self a messages.old result a messages.new }
+        ensures rule { (l : Line) (a : List ℕ) →
+            DoesOn (λ k. rules.clears_at_once codes c) (lent t text.now l) self a messages.old result a
+            messages.new }
     {
         let said = self.sends_out_of_band(messages, c);
         let unlocked = said.sets_locked(false);
@@ -240,7 +242,8 @@ fn act_of_control(c: u8) -> Act
 impl Flow {
     // Rules 1 to 4: the first that applies is the only one.
     fn act_after_initiate(self, c: u8, attribute: u8, t: Terms) -> Act
-        ensures rule { (s : List ℕ) (l : Line) → attribute ≡ get_or l.attributes c 0 → Meets (rules.by_first_rule codes c) s (on_flow self (lent t l.text l)) result }
+        ensures rule { (s : List ℕ) (l : Line) → attribute ≡ get_or l.attributes c 0 →
+            Meets (rules.by_first_rule codes c) s (on_flow self (lent t l.text l)) result }
         ensures kind { (event_kinds_of result).key ≡ true }
     {
         let known = self.terminal;
@@ -262,7 +265,8 @@ impl Flow {
 
     // The arrival rules; before Initiate only rule 4 applies.
     pub(crate) fn act_of_key(self, c: u8, initiated: bool, attribute: u8, t: Terms) -> Act
-        ensures rule { (s : List ℕ) (l : Line) → initiated ≡ l.initiated → attribute ≡ get_or l.attributes c 0 → Meets (rules.arrives codes c) s (on_flow self (lent t l.text l)) result }
+        ensures rule { (s : List ℕ) (l : Line) → initiated ≡ l.initiated → attribute ≡ get_or l.attributes c 0 →
+            Meets (rules.arrives codes c) s (on_flow self (lent t l.text l)) result }
         ensures kind { (event_kinds_of result).key ≡ true }
     {
         if initiated {

@@ -45,8 +45,7 @@ impl Line {
         let act = left.act_if(roomy, Event::Step(lookup), terms);
         move_keys(&mut next.keys, waiting.keys_len as usize, act);
         let done = arrived.acts_on_step(act, terminal, messages, &mut next.text, terms);
-        let after = done.flow;
-        next.flow = after;
+        next.flow = done.flow;
         Answer {
             line: next,
             number: row_of(roomy),
@@ -76,8 +75,7 @@ impl Line {
             sent: 0,
         };
         let done = w.acts_on_step(act, terminal, messages, &mut next.text, terms);
-        let after = done.flow;
-        next.flow = after;
+        next.flow = done.flow;
         Answer {
             line: next,
             number: row_of(roomy),
@@ -105,8 +103,7 @@ impl Line {
             sent: 0,
         };
         let done = w.acts_on_tick(act, messages, &next.text, terms);
-        let after = done.flow;
-        next.flow = after;
+        next.flow = done.flow;
         Answer {
             line: next,
             number: row_of(roomy),
@@ -132,8 +129,7 @@ impl Line {
             sent: next.reports(m, s, messages),
         };
         let done = w.acts_on_host(act, s, terminal, messages, &next.text, terms);
-        let after = done.flow;
-        next.flow = after;
+        next.flow = done.flow;
         Answer {
             line: next,
             number: rules::ACCEPTED,

@@ -1,4 +1,4 @@
-// A call goes on with one part of its flow changed.
+// A call goes on with one part of its flow changed: here the parts that have counts, so that what is asked of them stands once.
 ghost use Rattle.std.specs.Prelude.{◌≤◌};
 ghost use Rattle.rules.specs.Numbers.{input_size};
 ghost use Rattle.line.specs.Bounded.{CountedTyped};

@@ -26,7 +26,9 @@ impl Work {
     pub(crate) fn deletes_without_rubbing(self, left: u16, r: Reading, t: Terms) -> Work
         requires input_len_bound { r.input_len ≤ input_size }
         requires left_bound { left ≤ r.input_len }
-        ensures rule { (fate : ℕ → Fate ℕ) (text : List ℕ) (l : Line) (a m : List ℕ) → DoesOn (λ k. rules.deletes_without_rubbing fate left (reading_of k r)) (lent t text l) self a m result a m }
+        ensures rule { (fate : ℕ → Fate ℕ) (text : List ℕ) (l : Line) (a m : List ℕ) →
+            DoesOn (λ k. rules.deletes_without_rubbing fate left (reading_of k r)) (lent t text l) self a m
+            result a m }
     {
         let next = r.shortened(left, t);
         self.with_read(next)
@@ -42,7 +44,8 @@ impl Work {
     ) -> Work
         requires left_bound { left ≤ self.flow.reading.input_len }
         ensures rule { (fate : ℕ → Fate ℕ) (l : Line) (m : List ℕ) →
-            DoesOn (λ k. rules.deletes codes fate left (reading_of k self.flow.reading)) (lent t text.now l) self terminal.old m result terminal.new m }
+            DoesOn (λ k. rules.deletes codes fate left (reading_of k self.flow.reading)) (lent t text.now l)
+            self terminal.old m result terminal.new m }
     {
         let r = self.flow.reading;
         let found = r.find_marks(left, text, t);
@@ -63,10 +66,7 @@ impl Work {
         ensures rule { (l : Line) (m : List ℕ) →
             DoesOn (λ k. rules.displays_data codes (reading_of k r)) (lent t text.now l) self terminal.old m result terminal.new m }
     {
-        let flow = self.flow;
-        let known = flow.terminal;
-        let screen = known.screen;
-        let next = r.with_display_column(screen.column);
+        let next = r.with_display_column(self.flow.terminal.screen.column);
         let begun = self.with_read(next);
         if t.echoes {
             let start = r.first_shown();
@@ -103,11 +103,11 @@ impl Work {
     ) -> Work
         requires prompt_len_bound { t.prompt_len ≤ input_size }
         ensures rule { (l : Line) (m : List ℕ) →
-            DoesOn (λ k. rules.redisplays codes (reading_of k self.flow.reading)) (lent t text.now l) self terminal.old m result terminal.new m }
+            DoesOn (λ k. rules.redisplays codes (reading_of k self.flow.reading)) (lent t text.now l) self
+            terminal.old m result terminal.new m }
     {
         let r = self.flow.reading;
-        let ends = NEW_LINE;
-        let next = self.write(terminal, &ends);
+        let next = self.write(terminal, &NEW_LINE);
         next.displays(terminal, r, text, t)
     }
 }

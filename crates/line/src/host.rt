@@ -22,8 +22,7 @@ impl Work {
     fn checks_input(self, messages: &mut [u8]) -> Work
         ensures rule { (l : Line) (t : List ℕ) → Does reads.checks_input (on l self) t messages.old (on l result) t messages.new }
     {
-        let flow = self.flow;
-        let typed = flow.typed;
+        let typed = self.flow.typed;
         let waiting = typed.keys_len + typed.token_len;
         let count = waiting as u16;
         self.sends_plain(messages, Message::InputCount { count })

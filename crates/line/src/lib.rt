@@ -132,7 +132,8 @@ pub struct Answer {
     pub messages: usize,
 }
 
-// A call on its way: what the rules change, and the next place in each area.
+// A call on its way: what the rules change, and the next place in each area. Text and terms are lent to its methods side by side:
+// a struct of both would want a twin, since some methods change the text and others only read it.
 #[derive(Clone, Copy)]
 struct Work {
     flow: Flow,

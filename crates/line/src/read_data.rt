@@ -49,8 +49,7 @@ impl Work {
     fn loses_partial(self) -> Work
         ensures rule { (l : Line) (t m : List ℕ) → Does (rules.loses_partial codes) (on l self) t m (on l result) t m }
     {
-        let flow = self.flow;
-        let typed = flow.typed;
+        let typed = self.flow.typed;
         if typed.is_partial() {
             let next = typed.without_token();
             return self.with_typed(next);
@@ -62,14 +61,11 @@ impl Work {
     fn read_data_of(self, by: Completion, ending: u16, r: Reading, t: Terms) -> Message
         requires ending_bound { ending ≤ r.input_len }
         ensures { (text : List ℕ) (k l : Line) → CountedReading r text →
-            (held_in text result ≡ codec.message (rules.read_data_of codes (code_of by) ending (reading_of (lent t text l) r) (view (on_flow self.flow k)))) ×
-            (inside (length text) (spans_of result) ≡ true) }
+            (held_in text result ≡ codec.message (rules.read_data_of codes (code_of by) ending (reading_of (lent t text l) r) (view (on_flow self.flow k))))
+            × (inside (length text) (spans_of result) ≡ true) }
     {
-        let flow = self.flow;
-        let typed = flow.typed;
-        let terminal = flow.terminal;
-        let cursor = terminal.screen;
-        let more = u8::from(typed.has_more_data());
+        let cursor = self.flow.terminal.screen;
+        let more = u8::from(self.flow.typed.has_more_data());
         let vertical = screen::columns::change(cursor.line as u16, t.line as u16);
         let horizontal = screen::columns::change(cursor.column, t.column);
         let text = Span {
@@ -107,7 +103,8 @@ impl Work {
         self.send(messages, message, text)
     }
 
-    // The read completes; so many characters at the end are a terminator, token or underflow code.
+    // This read, which may be the flow's with a character more, completes; so many characters at the end are a terminator, token or
+    // underflow code.
     pub(crate) fn completes(
         self,
         messages: &mut [u8],

@@ -40,8 +40,10 @@ impl Work {
 
     // A message that has numbers alone.
     pub(crate) fn sends_plain(self, messages: &mut [u8], m: Message) -> Work
-        ensures rule { (kind : ℕ) (numbers : List ℕ) → ((s : List ℕ) → held_in s m ≡ codec.message (plain kind numbers)) → inside 0 (spans_of m) ≡ true →
-            (l : Line) (t : List ℕ) → Does (sends (plain kind numbers)) (on l self) t messages.old (on l result) t messages.new }
+        ensures rule { (kind : ℕ) (numbers : List ℕ) →
+            ((s : List ℕ) → held_in s m ≡ codec.message (plain kind numbers)) → inside 0 (spans_of m) ≡ true →
+            (l : Line) (t : List ℕ) →
+            Does (sends (plain kind numbers)) (on l self) t messages.old (on l result) t messages.new }
     {
         let text = [0u8; 1];
         self.send(messages, m, &text[..0])

@@ -38,12 +38,11 @@ impl Work {
     ) -> Work
         requires prompt_len_bound { self.flow.reading.input_len + self.flow.typed.token_len + t.prompt_len ≤ input_size }
         ensures rule { (l : Line) (a : List ℕ) →
-            DoesAcross (λ k. rules.ends_by_token codes (reading_of k self.flow.reading)) (lent t text.old l) self a messages.old (lent t text.new l)
-            result a messages.new }
+            DoesAcross (λ k. rules.ends_by_token codes (reading_of k self.flow.reading)) (lent t text.old l)
+            self a messages.old (lent t text.new l) result a messages.new }
     {
-        let flow = self.flow;
-        let r = flow.reading;
-        let typed = flow.typed;
+        let r = self.flow.reading;
+        let typed = self.flow.typed;
         let token = typed.token;
         let size = typed.token_len as usize;
         let next = r.push_all(text, &token[..size]);
@@ -62,12 +61,11 @@ impl Work {
     ) -> Work
         requires has_room { HasRoom t self.flow.reading }
         ensures rule { (l : Line) (a : List ℕ) →
-            DoesAcross (λ k. rules.takes_token codes (reading_of k self.flow.reading)) (lent t text.old l) self a messages.old (lent t text.new l) result
-            a messages.new }
+            DoesAcross (λ k. rules.takes_token codes (reading_of k self.flow.reading)) (lent t text.old l) self
+            a messages.old (lent t text.new l) result a messages.new }
     {
-        let flow = self.flow;
-        let r = flow.reading;
-        let typed = flow.typed;
+        let r = self.flow.reading;
+        let typed = self.flow.typed;
         if r.end(t) + typed.token_len as u32 <= t.max_length as u32 {
             return self.ends_by_token(text, t, messages);
         }
@@ -84,11 +82,11 @@ impl Work {
     ) -> Work
         requires has_room { HasRoom t self.flow.reading }
         requires token_len_bound { self.flow.typed.token_len < token_size }
-        ensures rule { (l : Line) (a : List ℕ) → DoesAcross (λ k. rules.adds_to_token codes c (reading_of k self.flow.reading)) (lent t text.old l) self a messages.old
-            (lent t text.new l) result a messages.new }
+        ensures rule { (l : Line) (a : List ℕ) →
+            DoesAcross (λ k. rules.adds_to_token codes c (reading_of k self.flow.reading)) (lent t text.old l)
+            self a messages.old (lent t text.new l) result a messages.new }
     {
-        let flow = self.flow;
-        let typed = flow.typed;
+        let typed = self.flow.typed;
         let next = typed.tokened(c);
         let ready = self.with_typed(next);
         if next.is_held() {

@@ -27,7 +27,9 @@ impl Terms {
     // Rules 5, 6 and 7, after raising; `ends`: the code is in the termination set.
     fn takes_plain(self, c: u8, ends: bool) -> Taken
         ensures { (s : List ℕ) (l : Line) → CanTakeKey l.flow self → ends ≡ in_set (set_of l.set) c →
-            Meets (takes_key (lent self l.text l) then rules.takes_plain codes c (idle_at_zero (lent self l.text l))) s (lent self l.text l) (Takes result) }
+            Meets
+            (takes_key (lent self l.text l) then rules.takes_plain codes c (idle_at_zero (lent self l.text l)))
+            s (lent self l.text l) (Takes result) }
     {
         if ends {
             return Taken::Terminator(c);
@@ -40,7 +42,9 @@ impl Terms {
 
     // No key waits: a read with Q and TIMEOUT 0 completes.
     fn act_without_key(self) -> Act
-        ensures rule { (s : List ℕ) (l : Line) → Meets (rules.takes_first codes [] (reading_of (lent self l.text l) l.flow.reading)) s (lent self l.text l) result }
+        ensures rule { (s : List ℕ) (l : Line) →
+            Meets (rules.takes_first codes [] (reading_of (lent self l.text l) l.flow.reading)) s
+            (lent self l.text l) result }
         ensures kind { (event_kinds_of result).step ≡ true }
     {
         if self.timed & (self.timeout == 0) {
@@ -55,9 +59,11 @@ impl Flow {
     fn taken_as(self, key: Key, ends: bool, t: Terms) -> Taken
         requires { CountedTyped self.typed }
         ensures { (s : List ℕ) (l : Line) → CanTakeKey self t →
-            ends ≡ in_set (set_of l.set) (rules.raised_by codes (reading_of (lent t l.text l) self.reading) (key_of key).char) →
-            Meets (takes_key (on_flow self (lent t l.text l)) then rules.takes codes (key_of key) (idle_at_zero (on_flow self (lent t l.text l)))) s
-            (on_flow self (lent t l.text l)) (Takes result) }
+            ends ≡ in_set (set_of l.set)
+            (rules.raised_by codes (reading_of (lent t l.text l) self.reading) (key_of key).char) →
+            Meets
+            (takes_key (on_flow self (lent t l.text l)) then rules.takes codes (key_of key) (idle_at_zero (on_flow self (lent t l.text l))))
+            s (on_flow self (lent t l.text l)) (Takes result) }
     {
         let typed = self.typed;
         let c = key.code;
@@ -117,7 +123,9 @@ impl Flow {
 
     // Idle rises by one; at TIMEOUT the read completes.
     fn act_of_idling(self, t: Terms) -> Act
-        ensures rule { (s : List ℕ) (l : Line) → Meets (rules.idles codes (reading_of (lent t l.text l) self.reading)) s (on_flow self (lent t l.text l)) result }
+        ensures rule { (s : List ℕ) (l : Line) →
+            Meets (rules.idles codes (reading_of (lent t l.text l) self.reading)) s
+            (on_flow self (lent t l.text l)) result }
         ensures kind { (event_kinds_of result).tick ≡ true }
     {
         let r = self.reading;
@@ -131,7 +139,8 @@ impl Flow {
     // Idle counts while a read with Q and TIMEOUT over 0 waits for a key.
     pub(crate) fn act_of_tick(self, held: bool, t: Terms) -> Act
         requires { CountedTyped self.typed }
-        ensures rule { (s : List ℕ) (l : Line) → held ≡ is_whole (codes_of self.typed) → Meets (rules.ticks codes) s (on_flow self (lent t l.text l)) result }
+        ensures rule { (s : List ℕ) (l : Line) → held ≡ is_whole (codes_of self.typed) →
+            Meets (rules.ticks codes) s (on_flow self (lent t l.text l)) result }
         ensures kind { (event_kinds_of result).tick ≡ true }
     {
         let pending = self.pending;
@@ -170,8 +179,10 @@ impl Work {
     ) -> Work
         requires can_take_key { CanTakeKey self.flow t }
         ensures rule { (l : Line) → length l.keys ≡ type_ahead_size →
-            DoesAcross (λ j. takes_key (on_flow self.flow j) then taken_rule k (idle_at_zero (on_flow self.flow j))) (lent t text.old l) self
-            terminal.old messages.old (lent t text.new (shifted self.flow l)) result terminal.new messages.new }
+            DoesAcross
+            (λ j. takes_key (on_flow self.flow j) then taken_rule k (idle_at_zero (on_flow self.flow j)))
+            (lent t text.old l) self terminal.old messages.old (lent t text.new (shifted self.flow l)) result
+            terminal.new messages.new }
     {
         let taken = self.takes_key();
         match k {
@@ -184,11 +195,10 @@ impl Work {
 
     // A tick that does not reach TIMEOUT.
     pub(crate) fn sets_idle(self, idle: u16) -> Work
-        ensures rule { (l : Line) (a m : List ℕ) → DoesOn (λ k. rules.sets_idle idle (reading_of k self.flow.reading)) l self a m result a m }
+        ensures rule { (l : Line) (a m : List ℕ) →
+            DoesOn (λ k. rules.sets_idle idle (reading_of k self.flow.reading)) l self a m result a m }
     {
-        let flow = self.flow;
-        let r = flow.reading;
-        let next = r.with_idle(idle);
+        let next = self.flow.reading.with_idle(idle);
         self.with_read(next)
     }
 }

@@ -83,7 +83,9 @@ impl Work {
 
     // A prefix or a postfix.
     fn writes_affix(self, terminal: &mut [u8], code: u8, value: u8) -> Work
-        ensures rule { (l : Line) (m : List ℕ) → Does (rules.writes_own (rules.affix_bytes code value)) (on l self) terminal.old m (on l result) terminal.new m }
+        ensures rule { (l : Line) (m : List ℕ) →
+            Does (rules.writes_own (rules.affix_bytes code value)) (on l self) terminal.old m (on l result)
+            terminal.new m }
     {
         if code == NEW_LINES {
             let mut lines = [characters::LF; LONGEST_AFFIX];
@@ -126,7 +128,8 @@ impl Work {
 
     // Write Completion: whether output was lost, and how far the cursor has moved.
     fn sends_completion(self, messages: &mut [u8], wants: u8, some: bool, before: Screen) -> Work
-        ensures rule { (x : forms.Message ℕ) (b : State ℕ) → some ≡ rules.has_output x → screen.screen_view before ≡ b.terminal.screen → (l : Line) (t : List ℕ) →
+        ensures rule { (x : forms.Message ℕ) (b : State ℕ) → some ≡ rules.has_output x →
+            screen.screen_view before ≡ b.terminal.screen → (l : Line) (t : List ℕ) →
             Does (rules.sends_completion wants x b) (on l self) t messages.old (on l result) t messages.new }
     {
         if wants == fields::ON {
