@@ -51,7 +51,8 @@ pub struct Typed {
     pub token_len: u8,
 }
 
-// What is fixed for the whole of a read.
+// What is fixed for the whole of a read. Any line can be asked for its dropped count, so no field may exclude a value: UU and DDD
+// stand as numbers, and Q beside TIMEOUT.
 #[derive(Clone, Copy, Default)]
 pub struct Terms {
     pub underflow: u8,

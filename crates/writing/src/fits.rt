@@ -1,4 +1,5 @@
-// Whether every field fits its place, and the message would not be read as 5.
+// Whether every field fits its place, and the message would not be read as 5. How many values a field has stands in `fronts` too, which packs them: one table for
+// both would be public, and each would still go over it in its own way.
 ghost use Rattle.std.specs.Prelude.{◌≡◌, []};
 ghost use Rattle.rules.specs.Messages.Layout.{widths_of, fits};
 ghost use Rattle.rules.specs.Messages.Forms.{form_of, start_read};
