@@ -16,7 +16,7 @@ pub struct Writer<'a> {
 impl<'a> Writer<'a> {
     ghost use Rattle.areas.specs.Writes.{Writes};
 
-    pub fn put(&mut self, b: u8)
+    pub fn put_byte(&mut self, b: u8)
         ensures { Writes (b ∷ []) self.old self.new }
     {
         if self.at < self.area.len() {
@@ -29,8 +29,8 @@ impl<'a> Writer<'a> {
     pub fn put_pair(&mut self, first: u8, second: u8)
         ensures { Writes (bytes_of 1 first ++ bytes_of 1 second) self.old self.new }
     {
-        self.put(first);
-        self.put(second);
+        self.put_byte(first);
+        self.put_byte(second);
     }
 
     // A number in so many bytes, low byte first.
@@ -39,17 +39,17 @@ impl<'a> Writer<'a> {
     {
         let mut rest = n;
         for _ in 0..count {
-            self.put((rest % forms::BYTE_VALUES) as u8);
+            self.put_byte((rest % forms::BYTE_VALUES) as u8);
             rest /= forms::BYTE_VALUES;
         }
     }
 
     // The bytes of a slice.
-    pub fn put_all(&mut self, bytes: &[u8])
+    pub fn put_bytes(&mut self, bytes: &[u8])
         ensures { Writes bytes.now self.old self.new }
     {
         for &byte in bytes {
-            self.put(byte);
+            self.put_byte(byte);
         }
     }
 

@@ -24,7 +24,7 @@ fn put_revision(s: &[u8], p: Span, w: &mut Writer)
 {
     let t = fields::span_of(s, p);
     for i in 0..REVISION_SIZE {
-        w.put(fields::byte_at(t, i));
+        w.put_byte(fields::byte_at(t, i));
     }
 }
 
@@ -33,7 +33,7 @@ pub(crate) fn put_initiate(f: InitiateFields, s: &[u8], w: &mut Writer)
 {
     w.put_pair(rules::INITIATE, forms::NO_FLAGS);
     w.put_pair(f.version, f.eco);
-    w.put(f.modification);
+    w.put_byte(f.modification);
     put_revision(s, f.revision, w);
 }
 
@@ -41,7 +41,7 @@ pub(crate) fn put_read_data(f: ReadDataFields, s: &[u8], w: &mut Writer)
     ensures { Writes (front_bytes (held_in s.now (variants.ReadData f))) w.old w.new }
 {
     let flags = packed(&[(f.code, bits::FOUR_BITS), (f.more, bits::ONE_BIT)]);
-    w.put(rules::READ_DATA);
+    w.put_byte(rules::READ_DATA);
     w.put_number(forms::FLAG_BYTES, flags);
     w.put_word(f.low_water);
     w.put_pair(f.vertical, f.horizontal);
@@ -52,7 +52,7 @@ pub(crate) fn put_read_data(f: ReadDataFields, s: &[u8], w: &mut Writer)
 pub(crate) fn put_out_of_band(discard: u8, character: u8, w: &mut Writer)
     ensures { (s : List ℕ) → Writes (front_bytes (held_in s (variants.OutOfBand discard character))) w.old w.new }
 {
-    w.put(rules::OUT_OF_BAND);
+    w.put_byte(rules::OUT_OF_BAND);
     w.put_pair(discard, character);
 }
 
@@ -75,7 +75,7 @@ fn write_flags(f: WriteFields) -> u32
 pub(crate) fn put_write(f: WriteFields, s: &[u8], w: &mut Writer)
     ensures { Writes (front_bytes (held_in s.now (variants.Write f))) w.old w.new }
 {
-    w.put(rules::WRITE);
+    w.put_byte(rules::WRITE);
     w.put_number(forms::WRITE_FLAG_BYTES, write_flags(f));
     w.put_pair(f.prefix_value, f.postfix_value);
     put_span(s, f.text, w);

@@ -8,5 +8,5 @@ use fields::Span;
 pub(crate) fn put_span(s: &[u8], p: Span, w: &mut Writer)
     ensures { Writes (span_of s.now p) w.old w.new }
 {
-    w.put_all(fields::span_of(s, p));
+    w.put_bytes(fields::span_of(s, p));
 }

@@ -51,10 +51,10 @@ pub(crate) fn put_start_read(f: StartReadFields, s: &[u8], w: &mut Writer)
     ensures { Writes (front_bytes (held_in s.now (variants.StartRead f))) w.old w.new }
 {
     let set = fields::span_of(s, f.set);
-    w.put(rules::START_READ);
+    w.put_byte(rules::START_READ);
     w.put_number(forms::START_READ_FLAG_BYTES, start_read_flags(f));
     put_words(f, w);
-    w.put((set.len() % BYTE_VALUES) as u8);
-    w.put_all(set);
+    w.put_byte((set.len() % BYTE_VALUES) as u8);
+    w.put_bytes(set);
     put_span(s, f.text, w);
 }

@@ -10,5 +10,5 @@ pub fn put_setting(selector: u16, value: &[u8], w: &mut Writer)
     ensures { Writes (bytes_of word_bytes selector ++ value.now) w.old w.new }
 {
     w.put_word(selector);
-    w.put_all(value);
+    w.put_bytes(value);
 }

@@ -36,7 +36,7 @@ fn put_section(n: u8, record: &[u8], w: &mut Writer)
 {
     let section = section_in(n, record);
     w.put_word(section.len() as u16);
-    w.put_all(section);
+    w.put_bytes(section);
 }
 
 // The section of the largest read, as another form has it.
@@ -55,7 +55,7 @@ fn put_largest_read(form: Form, record: &[u8], w: &mut Writer)
 fn put_moved(form: Form, record: &[u8], w: &mut Writer)
     ensures { Writes (rules.moved (code_of form) «record».now) w.old w.new }
 {
-    w.put(form.code());
+    w.put_byte(form.code());
     put_section(CHARACTERISTICS_SECTION, record, w);
     put_section(ATTRIBUTES_SECTION, record, w);
     put_section(SET_SECTION, record, w);

@@ -34,5 +34,5 @@ pub(crate) fn put_list(kind: u8, list: Span, s: &[u8], w: &mut Writer)
     if kind == rules::CHARACTERISTICS {
         return put_settings(t, w);
     }
-    w.put_all(t);
+    w.put_bytes(t);
 }

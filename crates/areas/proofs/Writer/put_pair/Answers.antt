@@ -4,4 +4,4 @@ use Rattle.areas.proofs.Writer.put_pair.Goals as goal
 
 pub returns : goal.returns
 returns c =
-    joins (equals (sym (one_byte (omega arith))) c.put.ensures) (equals (sym (one_byte (omega arith))) c.put-2.ensures)
+    joins (equals (sym (one_byte (omega arith))) c.put_byte.ensures) (equals (sym (one_byte (omega arith))) c.put_byte-2.ensures)

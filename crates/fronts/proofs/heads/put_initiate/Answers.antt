@@ -15,4 +15,4 @@ returns c =
     let a = c.args.f in
     headed 1 []
     (none_first (field_first 1 8 a.version (field_first 1 8 a.eco (field_first 1 8 a.modification others))))
-    (joins c.put_pair.ensures (joins c.put_pair-2.ensures (joins (equals (sym (one_byte (omega arith))) c.put.ensures) (joins c.put_revision.ensures nothing))))
+    (joins c.put_pair.ensures (joins c.put_pair-2.ensures (joins (equals (sym (one_byte (omega arith))) c.put_byte.ensures) (joins c.put_revision.ensures nothing))))

@@ -12,4 +12,4 @@ unfolding front_bytes held_in form_of forms front_tail fields_in
 returns c s =
     let a = c.args in
     headed 4 [] (field_first 1 1 a.discard (field_first 1 8 a.character no_more))
-    (joins c.put.ensures c.put_pair.ensures)
+    (joins c.put_byte.ensures c.put_pair.ensures)

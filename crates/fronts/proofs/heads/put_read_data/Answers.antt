@@ -23,4 +23,4 @@ returns c =
     headed 3 (span_of a.s.now a.f.text)
     (flags_first 1 (4 ∷ 1 ∷ []) c.packed-flags.result c.packed-flags.ensures
     (field_first 2 16 a.f.low_water (field_first 1 8 a.f.vertical (field_first 1 8 a.f.horizontal (field_first 2 16 a.f.terminator no_more)))))
-    (joins c.put.ensures (joins c.put_number.ensures (joins c.put_word.ensures (joins c.put_pair.ensures (joins c.put_word-2.ensures c.put_span.ensures)))))
+    (joins c.put_byte.ensures (joins c.put_number.ensures (joins c.put_word.ensures (joins c.put_pair.ensures (joins c.put_word-2.ensures c.put_span.ensures)))))

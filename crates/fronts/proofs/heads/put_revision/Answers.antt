@@ -12,7 +12,7 @@ loop-i-init c = all_left
 pub loop-i-preserved : goal.loop-i-preserved
 loop-i-preserved c =
     let s = c.span_of-t.result.now in
-    turn (first_of_run s 8 c.loop-i.i c.loop-i-test.true c.byte_at.ensures (omega arith)) c.loop-i.invariant c.put.ensures
+    turn (first_of_run s 8 c.loop-i.i c.loop-i-test.true c.byte_at.ensures (omega arith)) c.loop-i.invariant c.put_byte.ensures
 
 pub returns : goal.returns
 returns c =

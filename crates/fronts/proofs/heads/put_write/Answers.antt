@@ -14,4 +14,4 @@ returns c =
     let w = c.write_flags in
     headed 7 (span_of a.s.now a.f.text)
     (flags_first 2 write_widths w.result w.ensures (field_first 1 8 a.f.prefix_value (field_first 1 8 a.f.postfix_value no_more)))
-    (joins c.put.ensures (joins c.put_number.ensures (joins c.put_pair.ensures c.put_span.ensures)))
+    (joins c.put_byte.ensures (joins c.put_number.ensures (joins c.put_pair.ensures c.put_span.ensures)))

@@ -25,4 +25,4 @@ returns c =
     (flags_first 3 start_read_widths w.result w.ensures
     (field_first 2 16 a.f.max_length (field_first 2 16 a.f.end_of_data (field_first 2 16 a.f.timeout
     (field_first 2 16 a.f.end_of_prompt (field_first 2 16 a.f.start_of_display (field_first 2 16 a.f.low_water no_more)))))))
-    (joins c.put.ensures (joins c.put_number.ensures (joins c.put_words.ensures (joins c.put-2.ensures (joins (equals bytes.ensures c.put_all.ensures) c.put_span.ensures))))))
+    (joins c.put_byte.ensures (joins c.put_number.ensures (joins c.put_words.ensures (joins c.put_byte-2.ensures (joins (equals bytes.ensures c.put_bytes.ensures) c.put_span.ensures))))))

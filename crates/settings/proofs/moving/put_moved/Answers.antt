@@ -8,7 +8,7 @@ use Rattle.settings.proofs.moving.put_moved.Goals as goal
 pub returns : goal.returns
 unfolding moved moved_sections joined
 returns c =
-    joins (equals (ap (λ b. b ∷ []) c.code.ensures) c.put.ensures)
+    joins (equals (ap (λ b. b ∷ []) c.code.ensures) c.put_byte.ensures)
     (joins c.put_section.ensures
     (joins c.put_section-2.ensures
     (joins c.put_section-3.ensures

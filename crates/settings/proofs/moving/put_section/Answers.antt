@@ -19,4 +19,4 @@ overflow_cast-section c =
 pub returns : goal.returns
 unfolding framed
 returns c =
-    equals (ap framed c.section_in-section.ensures) (joins c.put_word.ensures c.put_all.ensures)
+    equals (ap framed c.section_in-section.ensures) (joins c.put_word.ensures c.put_bytes.ensures)

@@ -22,4 +22,4 @@ pub returns : goal.returns
 unfolding list_bytes
 returns c =
     let kind = c.args.kind in
-    equals (c.span_of-t.ensures ∙ sym (pick-false _ _ (ne_eqb kind 11 c.if-kind-eq-CHARACTERISTICS.false))) c.put_all.ensures
+    equals (c.span_of-t.ensures ∙ sym (pick-false _ _ (ne_eqb kind 11 c.if-kind-eq-CHARACTERISTICS.false))) c.put_bytes.ensures

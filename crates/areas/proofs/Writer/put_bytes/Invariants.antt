@@ -1,6 +1,6 @@
 use Rattle.std.proofs.Common.{take}
 use Rattle.areas.specs.Writes.{Writes}
-use Rattle.areas.proofs.Writer.put_all.Given as goal
+use Rattle.areas.proofs.Writer.put_bytes.Given as goal
 
 abbrev pub invariant-loop-byte : goal.invariant-loop-byte
 invariant-loop-byte l = Writes (take l.byte-index l.bytes) l.initial.self l.self
