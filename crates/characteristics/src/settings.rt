@@ -83,7 +83,6 @@ impl Host {
             return false;
         }
         let host = self.with_settings(list);
-        let table = host.attributes;
-        !any_deferred_clear(&table)
+        !any_deferred_clear(&host.attributes)
     }
 }

@@ -1,4 +1,5 @@
-// Fields of a message: numbers in a slice, low byte first, spans of it, and flags as numbers. All are total: past the end of a slice stands 0, and a span stops there.
+// Fields of a message: numbers in a slice, low byte first, spans of it, and flags as numbers. All are total: past the end of a
+// slice stands 0, and a span stops there.
 #![tactic(auto)]
 
 ghost use Rattle.std.specs.Prelude.{◌≡◌, drop};
@@ -47,7 +48,7 @@ pub const OFF: u8 = 0;
 
 pub const ON: u8 = 1;
 
-// What `u8::from` gives, in the words of the rules.
+// What `u8::from` gives, in the words of the rules; two edits hold it to them.
 pub fn bit_of(test: bool) -> u8
     ensures { result ≡ bit test }
 {

@@ -162,6 +162,7 @@ fn decode_as(kind: u8, s: &[u8]) -> Result<Message, Refusal>
     ensures { Finds s.now (as_held (codec.read s.now)) result }
 {
     let flag = byte_at(s, forms::FLAGS) % bits::ONE_BIT;
+    let count = word_at(s, COUNT);
     match kind {
         rules::INITIATE => listed::decode_initiate(s),
         rules::START_READ => start_read::decode_start_read(s),
@@ -188,18 +189,13 @@ fn decode_as(kind: u8, s: &[u8]) -> Result<Message, Refusal>
         rules::READ_CHARACTERISTICS => listed::decode_read_characteristics(s),
         rules::CHARACTERISTICS => listed::decode_characteristics(s),
         rules::CHECK_INPUT => fixed(forms::BARE_HEADER, s, Message::CheckInput),
-        rules::INPUT_COUNT => {
-            let message = Message::InputCount {
-                count: word_at(s, COUNT),
-            };
-            fixed(forms::INPUT_COUNT_HEADER, s, message)
-        }
+        rules::INPUT_COUNT => fixed(forms::INPUT_COUNT_HEADER, s, Message::InputCount { count }),
         rules::INPUT_STATE => fixed(forms::BARE_HEADER, s, Message::InputState { nonzero: flag }),
         _ => Err(Refusal::WrongType),
     }
 }
 
-// The number of what was found; of a message it is 0.
+// The number of what was found; of a message it is 0. For whoever wants numbers: the crates above take the refusal itself.
 pub fn found_number(f: Result<Message, Refusal>) -> u8
     ensures { result ≡ found_number f }
 {

@@ -12,11 +12,8 @@ pub(crate) fn rest_from(s: &[u8], at: u16) -> Span
     ensures { RestFrom at s.now result }
 {
     let size = s.len() as u16;
-    if at < size {
-        return Span {
-            start: at,
-            len: size - at,
-        };
+    Span {
+        start: at,
+        len: size.saturating_sub(at),
     }
-    Span { start: at, len: 0 }
 }

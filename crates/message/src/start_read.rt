@@ -76,7 +76,6 @@ fn start_read_fields(s: &[u8]) -> StartReadFields
 pub fn is_sound_start_read(f: StartReadFields) -> bool
     ensures { (s : List ℕ) → length (span_of s f.text) ≡ f.text.len → result ≡ sound_start_read input_size (start_read_in s f) }
 {
-    let text = f.text;
     let largest = f.max_length as usize;
     let shown = f.end_of_data.saturating_sub(f.start_of_display);
     (f.underflow <= LAST_UNDERFLOW)
@@ -88,7 +87,7 @@ pub fn is_sound_start_read(f: StartReadFields) -> bool
         & (f.low_water <= f.end_of_data)
         & (f.start_of_display <= f.end_of_data)
         & (f.end_of_data <= f.max_length)
-        & (text.len == shown)
+        & (f.text.len == shown)
         & (largest <= rules::INPUT_SIZE)
 }
 

@@ -16,6 +16,9 @@ const FOUR_BITS: u8 = bits::FOUR_BITS - 1;
 
 const ONE_BIT: u8 = bits::ONE_BIT - 1;
 
+// Where the count of an Initiate's parameter stands, behind PARMTYPE.
+const COUNT: usize = 1;
+
 // A value of as many bytes as one byte can count.
 static WHOLE_BYTES: [u8; u8::MAX as usize] = [ALL_BITS; u8::MAX as usize];
 
@@ -50,7 +53,7 @@ impl ListKind {
         ensures { result.now ≡ map mask (limits_of (kind_shape self) (drop at s.now)) }
     {
         match self {
-            ListKind::Initiation => &WHOLE_BYTES[..byte_at(s, at + 1) as usize],
+            ListKind::Initiation => &WHOLE_BYTES[..byte_at(s, at + COUNT) as usize],
             ListKind::Question => question_masks(word_at(s, at)),
             ListKind::Setting => setting_masks(word_at(s, at)),
         }

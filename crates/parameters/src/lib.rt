@@ -1,4 +1,5 @@
-// Parameter lists: a walk of one, and a parameter into an area. `kind` is the type of the message that a list stands in: Initiate, Read Characteristics or Characteristics.
+// Parameter lists: a walk of one, and a parameter into an area. `kind` is the type of the message that a list stands in: Initiate,
+// Read Characteristics or Characteristics.
 #![tactic(auto)]
 
 ghost use Rattle.std.specs.Prelude.{◌≡◌};
@@ -14,7 +15,8 @@ mod put;
 pub use crate::each::Parameters;
 pub use crate::put::put_setting;
 
-// Bytes in front of a parameter's value: SELECTOR, or PARMTYPE and a count. Bytes of the longest value: CHARACTER, MASK and ATTRIBUTES.
+// Bytes in front of a parameter's value: SELECTOR, or PARMTYPE and a count. Bytes of the longest value: CHARACTER, MASK and
+// ATTRIBUTES.
 pub const HEAD: usize = 2;
 
 pub const LONGEST_VALUE: usize = 3;

@@ -9,6 +9,7 @@ use lib.Dec.{leb, eqb}
 use lib.ListN.{length, get_or, set, take, drop, take-append-drop, drop_of_length-le}
 use lib.Seq.{drop-cons}
 use borrow.Author.Tests.{leb-true, le-leb, eqb-true, eq-eqb, ne_eqb}
+use Rattle.std.specs.List.{list_any}
 use Rattle.rules.specs.Choice.{pick, Row, first_row_answer, within, is_empty, all_are, any_is, joined, same, same_all}
 
 -- The choice.
@@ -252,3 +253,9 @@ module _ (test : ℕ → Bool) (ns : List ℕ) (i : ℕ) where
   pub any_end : length ns ≤ i → any_is test (drop i ns) ≡ false
   unfolding any_is
   any_end h = ap (any_is test) (drop_of_length-le ns h)
+
+-- as the library says it
+pub any_listed : {A : Type 0} (test : A → Bool) (xs : List A) → list_any test xs ≡ any_is test xs
+unfolding any_is
+any_listed test [] = refl
+any_listed test (x ∷ xs) = ap (λ t. test x || t) (any_listed test xs)

@@ -1,4 +1,5 @@
-// How many values a field of so many bits has, as in specs/Messages/Parameters.antt, two and three bits of FLAGS besides; unused bits go by taking it modulo these.
+// How many values a field of so many bits has, as in specs/Messages/Parameters.antt, and two and three bits of FLAGS besides. One
+// less is the mask of its bits.
 
 pub const ONE_BIT: u8 = 2;
 

@@ -39,7 +39,7 @@ pub const TOP_DROPPED: u16 = 65535;
 
 pub const ACCEPTED: u8 = 0;
 
-// MSGTYPE, as in specs/Messages/Forms.antt.
+// MSGTYPE, as in specs/Messages/Forms.antt: numbers, since any byte may stand there, and a message may be held of any.
 
 pub const INITIATE: u8 = 1;
 

@@ -3,4 +3,3 @@ mod Cases
 pub mod Echoes
 mod Written
 pub mod Marks
-mod AnyOf

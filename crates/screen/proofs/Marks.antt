@@ -1,13 +1,13 @@
 -- Marks and spaces: what they do to the column, and how many of them stand behind a text's first characters.
 use mathlib.Core.Path.{◌≡◌, refl, sym, ap, ◌∙◌}
-use Prim.Native.Nat.{ℕ, zero, suc, ◌+◌, ◌^◌, min, ◌≤◌, ◌<◌}
+use Prim.Native.Nat.{ℕ, zero, suc, ◌+◌, ◌-◌, ◌^◌, min, ◌≤◌, ◌<◌}
 use native.Mathlib.Omega.{arith}
 use mathlib.Core.Bool.{true, false}
 use mathlib.Core.List.{List, [], ◌∷◌, ◌++◌, map}
 use lib.Dec.{eqb, eqb-suc-zero}
 use lib.ListN.{length, get_or, take, drop, replicate}
-use lib.ListN.{length-append, length-drop, take-append-drop}
-use lib.Seq.{take_all}
+use lib.ListN.{length-append, length-take, length-drop, take-append-drop, drop_of_length-le}
+use lib.Seq.{take_all, take-take}
 use Rattle.std.proofs.lemmas.List.{drop_min, take_min}
 use borrow.Author.Tests.{leb-true}
 use Rattle.rules.specs.Choice.{pick, all_are, any_is}
@@ -17,7 +17,7 @@ use Rattle.rules.proofs.Choice.{pick_true, pick-false, pick_case, within-true, b
 use Rattle.rules.proofs.Bounds.Screen.{echo_all-length}
 use Rattle.screen.specs.Marks.{capped, is_tab, first_worked_out, Finds}
 use Rattle.screen.proofs.Cases.{column_mark}
-use Rattle.screen.proofs.Echoes.{column_after_all_append, echo_all_more}
+use Rattle.screen.proofs.Echoes.{column_after_all_append, echo_all_append, echo_all_more}
 
 -- An echo is marks and spaces.
 low_mark : (b : ℕ) → 32 ≤ b → b ≤ 126 → is_mark b ≡ true
@@ -71,6 +71,22 @@ echo_column column n width e = rw e (marks_after column (echo column n) (echo_ma
 abbrev pub reached : ℕ → List ℕ → ℕ
 reached column ns = column_after_all column (echo_all column ns)
 
+-- the marks of a text are those of its first characters and those behind them
+marks_split : (kept column : ℕ) (ns : List ℕ) →
+    length (echo_all column ns) ≡ length (echo_all column (take kept ns)) + marks_behind kept column ns
+unfolding marks_behind
+marks_split kept column ns =
+    ap (λ l. length (echo_all column l)) (sym (take-append-drop kept ns))
+    ∙ ap length (echo_all_append (take kept ns) (drop kept ns) column)
+    ∙ length-append (echo_all column (take kept ns)) (echo_all (reached column (take kept ns)) (drop kept ns))
+
+-- none stands behind the first characters of a text that has no more
+pub marks_none : (kept column : ℕ) (text : List ℕ) (i : ℕ) → i ≤ kept → marks_behind kept column (take i text) ≡ 0
+unfolding marks_behind echo_all
+marks_none kept column text i h =
+    let short : length (take i text) ≤ kept = omega (arith, length-take i text) in
+    rw (drop_of_length-le (take i text) short)
+
 -- A turn of the count, over one more character: the column behind it, and the marks.
 module _ (column : ℕ) (text : List ℕ) (i : ℕ) (inside : i < length text) where
   abbrev here : ℕ
@@ -89,13 +105,33 @@ module _ (column : ℕ) (text : List ℕ) (i : ℕ) (inside : i < length text) w
         ∙ sym (ap (column_after_all column) (echo_all_more column text i inside)
         ∙ column_after_all_append (echo_all column (take i text)) (echo here next) column)
 
-    pub marks_turn : {marks after : ℕ} → marks ≡ capped (length (echo_all column (take i text))) → after ≡ capped (marks + more) →
-        after ≡ capped (length (echo_all column (take (i + 1) text)))
-    marks_turn m e =
+    pub marks_turn : (kept : ℕ) {marks after : ℕ} → kept ≤ i → marks ≡ capped (marks_behind kept column (take i text)) →
+        after ≡ capped (marks + more) → after ≡ capped (marks_behind kept column (take (i + 1) text))
+    marks_turn kept k m e =
+        let before = marks_split kept column (take i text) in
+        let behind = marks_split kept column (take (i + 1) text) in
+        let front = take-take kept (i + 1) text (omega arith) ∙ sym (take-take kept i text k) in
+        let fronts = ap (λ l. length (echo_all column l)) front in
         let whole = ap length (echo_all_more column text i inside) in
         let parts = length-append (echo_all column (take i text)) (echo here next) in
         let width = w ∙ ap (λ c. length (echo c next)) n in
         omega arith
+
+    pub whole_turn : {marks after : ℕ} → marks ≡ capped (length (echo_all column (take i text))) → after ≡ capped (marks + more) →
+        after ≡ capped (length (echo_all column (take (i + 1) text)))
+    whole_turn m e =
+        let whole = ap length (echo_all_more column text i inside) in
+        let parts = length-append (echo_all column (take i text)) (echo here next) in
+        let width = w ∙ ap (λ c. length (echo c next)) n in
+        omega arith
+
+pub kept_turn : (kept column : ℕ) (text : List ℕ) (i : ℕ) {marks after : ℕ} → i < kept →
+    marks ≡ capped (marks_behind kept column (take i text)) → after ≡ marks →
+    after ≡ capped (marks_behind kept column (take (i + 1) text))
+kept_turn kept column text i k m e =
+    let before = marks_none kept column text i (omega arith) in
+    let still = marks_none kept column text (i + 1) (omega arith) in
+    omega arith
 
 -- Only a tab's echo depends on its column: a text without one echoes the same at any column.
 echo_anywhere : (c d n : ℕ) → is_tab n ≡ false → echo c n ≡ echo d n
@@ -109,6 +145,19 @@ echo_all_anywhere (n ∷ ns) none c d =
     let h = or_none (is_tab n) (any_is is_tab ns) none in
     ap (λ l. l ++ echo_all (column_after_all c (echo c n)) ns) (echo_anywhere c d n h.0)
     ∙ ap (λ l. echo d n ++ l) (echo_all_anywhere ns h.1 (column_after_all c (echo c n)) (column_after_all d (echo d n)))
+
+-- so the marks from the first character on whose column is worked out are all the marks
+pub found_behind : (kept column : ℕ) (ns : List ℕ) →
+    marks_behind (kept - first_worked_out kept ns) column (drop (first_worked_out kept ns) ns) ≡ marks_behind kept column ns
+unfolding first_worked_out marks_behind
+found_behind kept column ns =
+    let zero_left : kept - 0 ≡ kept = omega arith in
+    let none_left : kept - kept ≡ 0 = omega arith in
+    pick_case (λ first. marks_behind (kept - first) column (drop first ns) ≡ marks_behind kept column ns) _ {a = 0} {b = kept}
+    (λ _. ap (λ k. marks_behind k column ns) zero_left)
+    (λ none.
+    ap (λ k. marks_behind k column (drop kept ns)) none_left
+    ∙ ap length (echo_all_anywhere (drop kept ns) none (reached column []) (reached column (take kept ns))))
 
 pub first_within : (kept : ℕ) (ns : List ℕ) → first_worked_out kept ns ≤ kept
 unfolding first_worked_out

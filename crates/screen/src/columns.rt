@@ -20,7 +20,7 @@ const LAST_HIGH_MARK: u8 = 254;
 // Columns from one tab stop to the next.
 const TAB_WIDTH: u16 = 8;
 
-// Lines and changes of position count modulo these.
+// Changes of position count modulo these.
 const POSITIONS: u16 = 256;
 
 // A mark or a space: what takes a column. One expression is one case to prove; the two ranges as patterns are five.

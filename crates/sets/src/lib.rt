@@ -15,7 +15,7 @@ const CODES_A_BYTE: u8 = 8;
 // The bytes of the universal set: the others would be 0.
 const UNIVERSAL: [u8; 4] = [0b1111_1111, 0b1111_1100, 0b0101_1011, 0b1111_1111];
 
-// Its first `len` bytes were given; codes behind them are not in it.
+// Its first `len` bytes were given; codes behind them are not in it. An array, since a line has no heap.
 #[derive(Clone, Copy)]
 pub struct Set {
     pub bytes: [u8; rules::SET_SIZE],
@@ -45,11 +45,10 @@ impl Set {
     pub fn has(self, c: u8) -> bool
         ensures { result ≡ in_set (set_of self) c }
     {
-        let bytes = self.bytes;
         let at = c / CODES_A_BYTE;
         if self.len <= at {
             return false;
         }
-        (bytes[at as usize] >> (c % CODES_A_BYTE)) % bits::ONE_BIT == fields::ON
+        (self.bytes[at as usize] >> (c % CODES_A_BYTE)) % bits::ONE_BIT == fields::ON
     }
 }

@@ -7,7 +7,7 @@ ghost use Rattle.settings.specs.Forms.{code_of, IsFormOf};
 use crate::{FORM_1, FORM_2};
 use rules::forms;
 
-// The most that it may be in each.
+// The most that a largest read may be in each.
 const FORM_1_TOP: u16 = 132;
 
 const FORM_2_TOP: u16 = 1024;
@@ -40,6 +40,7 @@ impl Form {
         }
     }
 
+    // The form that it is moved to.
     pub(crate) fn other(self) -> Form
         ensures { code_of result ≡ other_form (code_of self) }
     {

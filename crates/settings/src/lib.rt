@@ -1,4 +1,5 @@
-// The settings record, forms 1 and 2: whether it breaks a rule, its sections, the attributes that it lists, and moving it from form to form.
+// The settings record, forms 1 and 2: whether it breaks a rule, its sections, the attributes that it lists, and moving it from form
+// to form.
 #![tactic(auto)]
 
 ghost use Rattle.std.specs.Prelude.{◌≡◌};
@@ -53,7 +54,8 @@ pub fn is_sound(record: &[u8]) -> bool
         & sound::largest_read(form, section_in(LARGEST_READ_SECTION, record))
 }
 
-// Section n of the line's own record where it is not empty, otherwise of the site's: a part of the record. Empty when either record breaks a rule, or no section has this number.
+// Section n of the line's own record where it is not empty, otherwise of the site's: a part of the record. Empty when either record
+// breaks a rule, or no section has this number.
 pub fn section<'a>(n: u8, own: &'a [u8], site: &'a [u8]) -> &'a [u8]
     ensures { result.now ≡ found_section n own.now site.now }
 {

@@ -52,7 +52,7 @@ pub fn encode(m: Message, s: &[u8], area: &mut [u8]) -> Result<usize, Refusal>
     Ok(w.at)
 }
 
-// Decodes a message and encodes it again.
+// Decodes a message and encodes it again. What was found is taken apart by let-else (docs/DECISIONS.md, language forms).
 pub fn copy(s: &[u8], area: &mut [u8]) -> Result<usize, Refusal>
     ensures { InFront (copied (length area.old) s.now) area.old result area.new }
 {

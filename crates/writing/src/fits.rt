@@ -1,5 +1,5 @@
-// Whether every field fits its place, and the message would not be read as 5. How many values a field has stands in `fronts` too, which packs them: one table for
-// both would be public, and each would still go over it in its own way.
+// Whether every field fits its place, and the message would not be read as 5. How many values a field has stands in `fronts` too,
+// which packs them: one table for both would be public, and each would still go over it in its own way.
 ghost use Rattle.std.specs.Prelude.{◌≡◌, []};
 ghost use Rattle.rules.specs.Messages.Layout.{widths_of, fits};
 ghost use Rattle.rules.specs.Messages.Forms.{form_of, start_read};
@@ -62,10 +62,9 @@ fn fits_flags(f: StartReadFields) -> bool
 fn fits_start_read(f: StartReadFields) -> bool
     ensures { Fits (variants.StartRead f) result }
 {
-    let set = f.set;
     let flags = fits_flags(f);
     let sound = message::is_sound_start_read(f);
-    flags & (set.len <= SET_SIZE) & sound
+    flags & (f.set.len <= SET_SIZE) & sound
 }
 
 fn fits_list(kind: u8, p: Span, s: &[u8]) -> bool
@@ -78,10 +77,8 @@ fn fits_list(kind: u8, p: Span, s: &[u8]) -> bool
 fn fits_initiate(f: InitiateFields, s: &[u8]) -> bool
     ensures { FitsIn s.now (variants.Initiate f) result }
 {
-    let revision = f.revision;
-    let parameters = f.parameters;
-    let whole = fits_list(rules::INITIATE, parameters, s);
-    (revision.len == forms::REVISION_SIZE) & whole
+    let whole = fits_list(rules::INITIATE, f.parameters, s);
+    (f.revision.len == forms::REVISION_SIZE) & whole
 }
 
 pub(crate) fn fits_message(m: Message, s: &[u8]) -> bool
@@ -104,6 +101,7 @@ pub(crate) fn fits_message(m: Message, s: &[u8]) -> bool
         ),
         Message::Characteristics { parameters } => fits_list(rules::CHARACTERISTICS, parameters, s),
         Message::CheckInput => true,
+        // named, because what a word holds fits only since it is one
         Message::InputCount { count } => true,
         Message::InputState { nonzero } => nonzero < bits::ONE_BIT,
         Message::Other { .. } => false,

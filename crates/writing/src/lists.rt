@@ -16,6 +16,7 @@ fn put_settings(t: &[u8], w: &mut Writer)
     requires { sound_from characteristics 0 t.now ≡ true }
     ensures { Writes (joined (parameters_from characteristics 0 t.now)) w.old w.new }
 {
+    // how many bytes a value has is known only from where its parameter begins
     let mut at = 0;
     for p in Parameters::new(rules::CHARACTERISTICS, t) {
         let value = [p.first, p.second, p.third];

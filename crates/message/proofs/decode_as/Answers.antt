@@ -65,7 +65,7 @@ pub fixed-requires-in-13 : goal.fixed-requires-in-13
 unfolding held_in span_list_of form_of forms size_of is_free
 fixed-requires-in-13 c =
     is_fixed 13 c.args.s.now refl (sym c.requires.typed ∙ c.in-13.is) refl
-    (none_first (word_first c.word_at-in-13.ensures (omega arith) no_more)) refl refl
+    (none_first (word_first c.word_at-count.ensures (omega arith) no_more)) refl refl
 
 pub fixed-requires-in-14 : goal.fixed-requires-in-14
 unfolding held_in span_list_of form_of forms size_of is_free

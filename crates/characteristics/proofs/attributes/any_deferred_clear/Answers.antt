@@ -3,7 +3,7 @@ use borrow.Author.Tests.{tests}
 use Rattle.std.proofs.lemmas.Iterator.{YieldsList-from_slice}
 use Rattle.std.proofs.lemmas.Iterator.Search.{any_from_yields_List}
 use Rattle.rules.specs.Characteristics.{is_deferred_clear}
-use Rattle.characteristics.proofs.AllCarried.{any_listed}
+use Rattle.rules.proofs.Choice.{any_listed}
 use Rattle.characteristics.proofs.attributes.any_deferred_clear.Goals as goal
 
 pub returns : goal.returns

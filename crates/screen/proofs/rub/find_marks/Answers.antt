@@ -1,6 +1,6 @@
 use Rattle.std.proofs.Common.{refl, sym, ap, ◌∙◌, length, arith}
 use Rattle.rules.specs.Screen.{column_after_all, echo_all}
-use Rattle.screen.proofs.Marks.{column_turn, marks_turn, finds_replayed, finds_skipped}
+use Rattle.screen.proofs.Marks.{column_turn, whole_turn, finds_replayed, finds_skipped}
 use Rattle.screen.proofs.rub.find_marks.Goals as goal
 use Rattle.screen.proofs.rub.find_marks.Goals.{then-holds_tab, else-holds_tab}
 
@@ -17,7 +17,7 @@ loop-n-preserved c =
     let inv = c.loop-n.invariant in
     let more = c.width-more.ensures ∙ ap length c.of.ensures in (
       column_turn start deleted i inside inv.0 more c.column_behind-cursor.ensures,
-      marks_turn start deleted i inside inv.0 more inv.1 c.saturating_add-marks.ensures,
+      whole_turn start deleted i inside inv.0 more inv.1 c.saturating_add-marks.ensures,
       omega (arith, inv.2),
     )
 
