@@ -7,7 +7,7 @@ use lib.ListN.{length}
 use lib.Seq.{set_out}
 use borrow.Author.Tests.{eq-eqb, ne_eqb}
 use Rattle.rules.specs.Numbers.{type_ahead_size, top_dropped}
-use mathlib.Core.Bool.{Bool, true, false, ◌&&◌}
+use mathlib.Core.Bool.{true, false, ◌&&◌}
 use mathlib.Core.List.{List, []}
 use mathlib.Core.Option as math
 use Rattle.std.specs.Prelude.{Option, Some, None, is_some}
@@ -31,7 +31,7 @@ use Rattle.line.specs.Promise.{Progress, on, Does}
 use Rattle.line.proofs.KeyArrays.{stored_keys}
 use Rattle.line.proofs.Answers.{under_way}
 use Rattle.line.proofs.Turns.{changes_does}
-use Rattle.line.proofs.FlowChanges.{goes_does, goes_as, for_equal}
+use Rattle.line.proofs.FlowChanges.{goes_does, goes_as}
 
 -- a pending read with idle at 0
 abbrev pub rested : Option Reading → Option Reading

@@ -10,10 +10,16 @@ use Rattle.line.proofs.Flow.act_of_idling.Goals as goal
 
 pub returns-then-t-idle : goal.returns-then-t-idle
 unfolding idles
-returns-then-t-idle c = record { rule = λ s l. meets_first _ refl (le-leb _ _ c.if-t-idle.true)
-      (meets_read (λ q. completes codes by_timeout no_ending (reading_of (lent c.args.t l.text l) q)) c.requires (met tt)); kind = refl }
+returns-then-t-idle c = record {
+  rule = λ s l. meets_first _ refl (le-leb _ _ c.if-t-idle.true)
+      (meets_read (λ q. completes codes by_timeout no_ending (reading_of (lent c.args.t l.text l) q)) c.requires (met tt));
+  kind = refl;
+}
 
 pub returns : goal.returns
 unfolding idles
-returns c = record { rule = λ s l. meets_second _ refl (lt-leb _ _ c.if-t-idle.false)
-      (meets_read (λ q. sets_idle _ (reading_of (lent c.args.t l.text l) q)) c.requires (met tt)); kind = refl }
+returns c = record {
+  rule = λ s l. meets_second _ refl (lt-leb _ _ c.if-t-idle.false)
+      (meets_read (λ q. sets_idle _ (reading_of (lent c.args.t l.text l) q)) c.requires (met tt));
+  kind = refl;
+}

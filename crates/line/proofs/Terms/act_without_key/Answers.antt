@@ -10,8 +10,11 @@ use Rattle.line.proofs.Terms.act_without_key.Goals as goal
 
 pub returns-then-self : goal.returns-then-self
 unfolding takes_first only
-returns-then-self c = record { rule = λ s l r pending. meets_first _ refl c.if-self.true
-      (meets_read (λ q. completes codes by_timeout no_ending (reading_of (lent c.args.self l.text l) q)) pending (met tt)); kind = refl }
+returns-then-self c = record {
+  rule = λ s l r pending. meets_first _ refl c.if-self.true
+      (meets_read (λ q. completes codes by_timeout no_ending (reading_of (lent c.args.self l.text l) q)) pending (met tt));
+  kind = refl;
+}
 
 pub returns : goal.returns
 unfolding takes_first only
