@@ -17,7 +17,7 @@ use Rattle.line.specs.declared.Key.{Key}
 use Rattle.line.specs.declared.Terms.{Terms}
 use Rattle.line.specs.declared.Flow.{Flow}
 use Rattle.line.specs.declared.Line.{Line}
-use Rattle.line.specs.View.{keys_of, token_of, reading_of, pending_of, view}
+use Rattle.line.specs.View.{keys_of, token_of, pending_of, view}
 use Rattle.line.specs.Bounded.{IsFresh}
 use Rattle.console.specs.FreshFlow.{IsFreshFlow}
 
@@ -45,7 +45,7 @@ module _ (keys : List Key) (text : List ℕ) (set : Set) (terms : Terms) (flow :
           host = record { initiated = false; switches = fresh_switches; attributes = replicate 256 0; last_set = universal_set.0 i; largest_read = sym input_size_lem i };
           terminal = f.terminal i;
           typed = record { type_ahead = keys_of (f.keys_length i) keys; token = take (f.token i) flow.typed.token };
-          pending_read = pending_of (f.pending i) (reading_of line_of flow.reading);
+          pending_read = pending_of line_of (f.pending i);
         }
 
     pub is_fresh : length keys ≡ type_ahead_size → length text ≡ input_size → terms.prompt_len ≡ 0 → IsFresh line_of

@@ -5,12 +5,14 @@ use mathlib.Core.Bool.{Bool, true, false}
 use mathlib.Core.List.{List}
 use native.Mathlib.Omega.{arith}
 use mathlib.Core.Option.{Option, none, some}
+use Rattle.std.specs.Prelude.{Some, None}
 use Rattle.rules.specs.Choice.{pick}
 use Rattle.rules.specs.State as rules
 use Rattle.rules.specs.Turns.{Fate, Rule, tells, changes, behind, ◌then◌}
 use Rattle.rules.specs.Area.{puts, spot}
 use Rattle.rules.specs.Calls.{message_bytes}
 use Rattle.line.specs.declared.Line.{Line}
+use Rattle.line.specs.declared.Reading.{Reading}
 use Rattle.line.specs.declared.acts.Act.{Act}
 use Rattle.line.specs.declared.acts.Act.TheVariants.{Nothing, Obeys}
 use Rattle.line.specs.declared.events.HostMessage.{HostMessage}
@@ -20,7 +22,7 @@ use Rattle.line.specs.declared.events.Event.TheVariants.{Key, Tick, Step, Host}
 use Rattle.line.specs.Events.{LookedUp, is_act_of, event_rule}
 use Rattle.line.specs.View.{view, pending_of, reading_of}
 use Rattle.line.specs.Promise.{Progress, Does}
-use Rattle.line.specs.Acts.{key_taken, takes_key, act_rule, Ready, effect_of, Meets}
+use Rattle.line.specs.Acts.{key_taken, takes_key, for_pending, act_rule, Ready, effect_of, Meets}
 use Rattle.line.proofs.FlowChanges.{first_at, second_at}
 
 module _ {s : List ℕ} {l : Line} {a : Act} where
@@ -40,27 +42,31 @@ module _ {s : List ℕ} {l : Line} {a : Act} where
       meets_second e b h = meets_as (second_at rule f g (view l) e b) h
 
   -- the same, behind a key that was taken
-  module _ (rule f : Rule ℕ) where
-    pub meets_behind : rule (key_taken l (view l)) ≡ f (key_taken l (view l)) → Meets (takes_key l then f) s l a → Meets (takes_key l then rule) s l a
+  module _ (r : Reading) (rule f : Rule ℕ) where
+    pub meets_behind : rule (key_taken l r (view l)) ≡ f (key_taken l r (view l)) → Meets (takes_key l r then f) s l a → Meets (takes_key l r then rule) s l a
     unfolding ◌then◌ changes
-    meets_behind e h = record { same = ap (λ t. effect_of (behind (takes_key l (view l)) t)) e ∙ h.same; ready = h.ready }
+    meets_behind e h = record { same = ap (λ t. effect_of (behind (takes_key l r (view l)) t)) e ∙ h.same; ready = h.ready }
 
     module _ {test : Bool} (g : Rule ℕ) where
-      pub behind_first_lem : rule (key_taken l (view l)) ≡ pick test f g (key_taken l (view l)) → test ≡ true →
-          Meets (takes_key l then f) s l a → Meets (takes_key l then rule) s l a
-      behind_first_lem e b h = meets_behind (first_at rule f g (key_taken l (view l)) e b) h
+      pub behind_first_lem : rule (key_taken l r (view l)) ≡ pick test f g (key_taken l r (view l)) → test ≡ true →
+          Meets (takes_key l r then f) s l a → Meets (takes_key l r then rule) s l a
+      behind_first_lem e b h = meets_behind (first_at rule f g (key_taken l r (view l)) e b) h
 
-      pub behind_second : rule (key_taken l (view l)) ≡ pick test g f (key_taken l (view l)) → test ≡ false →
-          Meets (takes_key l then f) s l a → Meets (takes_key l then rule) s l a
-      behind_second e b h = meets_behind (second_at rule f g (key_taken l (view l)) e b) h
+      pub behind_second : rule (key_taken l r (view l)) ≡ pick test g f (key_taken l r (view l)) → test ≡ false →
+          Meets (takes_key l r then f) s l a → Meets (takes_key l r then rule) s l a
+      behind_second e b h = meets_behind (second_at rule f g (key_taken l r (view l)) e b) h
 
   -- A rule that looks whether a read is pending.
   module _ (F : Option (rules.Reading ℕ) → Rule ℕ) where
-    pub meets_pending : l.flow.pending ≡ true → Meets (F (some (reading_of l l.flow.reading))) s l a → Meets (λ v. F v.pending_read v) s l a
-    meets_pending e h = meets_as (ap (λ p. F (pending_of p (reading_of l l.flow.reading)) (view l)) e) h
+    pub meets_pending : {r : Reading} → l.flow.pending ≡ Some r → Meets (F (some (reading_of l r))) s l a → Meets (λ v. F v.pending_read v) s l a
+    meets_pending e h = meets_as (ap (λ p. F (pending_of l p) (view l)) e) h
 
-    pub meets_none : l.flow.pending ≡ false → Meets (F none) s l a → Meets (λ v. F v.pending_read v) s l a
-    meets_none e h = meets_as (ap (λ p. F (pending_of p (reading_of l l.flow.reading)) (view l)) e) h
+    pub meets_none : l.flow.pending ≡ None → Meets (F none) s l a → Meets (λ v. F v.pending_read v) s l a
+    meets_none e h = meets_as (ap (λ p. F (pending_of l p) (view l)) e) h
+
+  -- a rule for the read that is pending
+  pub meets_read : (F : Reading → Rule ℕ) {r : Reading} → l.flow.pending ≡ Some r → Meets (for_pending F l.flow.pending) s l a → Meets (F r) s l a
+  meets_read F e h = meets_as (ap (λ p. for_pending F p (view l)) (sym e)) h
 
   -- what became of keys is not seen
   pub meets_told : {f : Rule ℕ} (fs : List (Fate ℕ)) → Meets f s l a → Meets (tells fs then f) s l a

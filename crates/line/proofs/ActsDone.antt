@@ -7,6 +7,7 @@ use denote.Enum.Declared.{tag_of}
 use lib.ListN.{length}
 use borrow.Author.Tests.{lt-ltb}
 use mathlib.Core.Bool.{Bool, true, false, not}
+use Rattle.std.specs.Prelude.{Option, Some, None}
 use Rattle.rules.specs.Choice.{pick, first_row_answer, within, joined}
 use Rattle.rules.specs.Turns.{Rule, still, ◌then◌}
 use Rattle.rules.specs.Area.{puts}
@@ -26,6 +27,7 @@ use Rattle.rules.proofs.Choice.{row_applies}
 use Rattle.rules.proofs.Outcomes.{refused-sound}
 use Rattle.line.specs.declared.Key.{Key}
 use Rattle.line.specs.declared.Line.{Line}
+use Rattle.line.specs.declared.Reading.{Reading}
 use Rattle.line.specs.declared.Terms.{Terms}
 use Rattle.line.specs.declared.Work.{Work}
 use Rattle.line.specs.declared.acts.Act.{Act}
@@ -40,13 +42,14 @@ use Rattle.line.specs.Bounded.{Counted, CountedFlow, Bounded}
 use Rattle.line.specs.With.{on_flow, on_keys, lent}
 use Rattle.line.specs.KeyArray.{keys_after}
 use Rattle.line.specs.Host.{Accepted}
+use Rattle.line.specs.ReadChanges.{HasRoom}
 use Rattle.line.specs.Promise.{Progress, on, Does}
-use Rattle.line.specs.Acts.{act_rule, event_kinds_of, Ready, Doable, Done, Meets}
+use Rattle.line.specs.Acts.{act_rule, for_pending, IsPending, CanTakeKey, event_kinds_of, Ready, Doable, Done, Meets}
 use Rattle.line.specs.contracts.acts.Act.{the_type}
 use Rattle.line.proofs.ReceivedMessage.{true-false}
 use Rattle.line.proofs.KeyArrays.{after_length}
 use Rattle.line.proofs.Answers.{under_way, work_on, begun, answered, refused, cramped}
-use Rattle.line.proofs.Turns.{then_does}
+use Rattle.line.proofs.Turns.{then_does, still_does}
 use Rattle.line.proofs.HostAccepted.{startables}
 use Rattle.line.proofs.ActChoice.{act_does}
 
@@ -94,8 +97,11 @@ pub record Rest (a : Act) : Type 0 where
   pub tick : (event_kinds_of a).tick ≡ true → OneOf tick_rest (tag_of the_type a) → a ≡ Nothing
   pub host : (event_kinds_of a).host ≡ true → OneOf host_rest (tag_of the_type a) → a ≡ Nothing
 
+never : {A : Type 0} → false ≡ true → A
+never e = absurd (true-false (sym e))
+
 foreign : {A B : Type 0} → false ≡ true → A → B
-foreign e = absurd (true-false (sym e))
+foreign e a = never e
 
 pub rest : (a : Act) → Rest a
 rest Nothing = record { key = λ k h. refl; step = λ k h. refl; tick = λ k h. refl; host = λ k h. refl }
@@ -111,6 +117,35 @@ rest (Takes j) = record { key = foreign; step = λ k h. absurd (miss step_rest 9
 rest TimesOut = record { key = foreign; step = λ k h. absurd (miss step_rest 10 tt h); tick = λ k h. absurd (miss tick_rest 10 tt h); host = foreign }
 rest (Idles idle) = record { key = foreign; step = foreign; tick = λ k h. absurd (miss tick_rest 11 tt h); host = foreign }
 rest (Obeys m) = record { key = foreign; step = foreign; tick = foreign; host = λ k h. absurd (miss host_rest 12 tt h) }
+
+-- where no read is pending an act of a step or a tick does nothing, and one that takes a token or a key is not chosen
+pub record Unread (s : List ℕ) (t : Terms) (l : Line) (w : Work) (text x m : List ℕ) (a : Act) : Type 0 where
+  pub step : (event_kinds_of a).step ≡ true → Doable s w.flow t a → Done s a t l w text x m w text x m
+  pub tick : (event_kinds_of a).tick ≡ true → Done s a t l w text x m w text x m
+
+none_pending : (F : Reading → Rule ℕ) {p : Option Reading} → p ≡ None → (w : Progress) (x m : List ℕ) → Does (for_pending F p) w x m w x m
+none_pending F e w x m = rw e (still_does w x m)
+
+module _ (s : List ℕ) (t : Terms) (l : Line) (w : Work) (text x m : List ℕ) (e : w.flow.pending ≡ None) where
+  pub unread : (a : Act) → Unread s t l w text x m a
+  unread Nothing = record { step = λ k d size p. still_does _ x m; tick = λ k size p. still_does _ x m }
+  unread (Stores c) = record { step = never; tick = never }
+  unread (StoresQuoted c) = record { step = never; tick = never }
+  unread (SendsOutOfBand c) = record { step = never; tick = never }
+  unread (ClearsAtOnce c) = record { step = never; tick = never }
+  unread Quotes = record { step = never; tick = never }
+  unread Clears = record { step = never; tick = never }
+  unread FlipsDiscard = record { step = never; tick = never }
+  unread TakesToken = record { step = λ k d. absurd (subst (IsPending (HasRoom t)) e d); tick = never }
+  unread (Takes j) = record { step = λ k d. absurd (subst (IsPending (λ r. CanTakeKey r w.flow t)) e d); tick = never }
+  unread TimesOut = record { step = λ k d size p. none_pending _ e _ x m; tick = λ k size p. none_pending _ e _ x m }
+  unread (Idles idle) = record { step = never; tick = λ k size p. none_pending _ e _ x m }
+  unread (Obeys h) = record { step = never; tick = never }
+
+-- a rule for the read that is pending
+pub pending_done : (F : Reading → Rule ℕ) {p : Option Reading} {r : Reading} → p ≡ Some r → {w v : Progress} {x m x' m' : List ℕ} →
+    Does (F r) w x m v x' m' → Does (for_pending F p) w x m v x' m'
+pending_done F e d = rw e d
 
 -- what is ready can be done
 pub doable : (s : List ℕ) (l : Line) (a : Act) → Ready s l a → Doable s l.flow l.terms a

@@ -1,5 +1,5 @@
 -- What the rules of an arrival leave of the line.
-use mathlib.Core.Path.{◌≡◌, refl, sym, ap, subst}
+use mathlib.Core.Path.{◌≡◌, refl, sym, ap, ◌∙◌, subst}
 use Prim.Native.Nat.{ℕ, ◌+◌, ◌%◌, ◌≤◌, ◌<◌, min}
 use native.Mathlib.Omega.{arith}
 use lib.Dec.{eqb}
@@ -7,9 +7,10 @@ use lib.ListN.{length}
 use lib.Seq.{set_out}
 use borrow.Author.Tests.{eq-eqb, ne_eqb}
 use Rattle.rules.specs.Numbers.{type_ahead_size, top_dropped}
-use mathlib.Core.Bool.{Bool, true, false, ◌&&◌}
+use mathlib.Core.Bool.{true, false, ◌&&◌}
 use mathlib.Core.List.{List, []}
-use mathlib.Core.Option.{Option, none, some}
+use mathlib.Core.Option as math
+use Rattle.std.specs.Prelude.{Option, Some, None, is_some}
 use Rattle.rules.specs.State as state
 use Rattle.rules.specs.State.{with_typed, with_terminal, with_dropped}
 use Rattle.rules.specs.Arrival as rules
@@ -22,7 +23,6 @@ use Rattle.line.specs.declared.Reading.{Reading}
 use Rattle.line.specs.declared.Typed.{Typed}
 use Rattle.line.specs.declared.Work.{Work}
 use Rattle.line.specs.View.{view, terminal_of, key_of, pending_of, reading_of, keys_of, token_of}
-use Rattle.line.specs.Bounded.{CountedFlow}
 use Rattle.line.specs.With.{GoesOn, on_terminal, on_typed, on_flow, on_keys}
 use Rattle.line.specs.KeyArray.{stored}
 use Rattle.line.specs.TokenChanges.{emptied}
@@ -33,37 +33,42 @@ use Rattle.line.proofs.Answers.{under_way}
 use Rattle.line.proofs.Turns.{changes_does}
 use Rattle.line.proofs.FlowChanges.{goes_does, goes_as}
 
-rest_view : (pending : Bool) (l : Line) (r : Reading) →
-    pending_of pending (reading_of l (idling 0 r)) ≡ rules.idle_again (pending_of pending (reading_of l r))
-unfolding rules.idle_again
-rest_view true l r = refl
-rest_view false l r = refl
+-- a pending read with idle at 0
+abbrev pub rested : Option Reading → Option Reading
+rested None = None
+rested (Some r) = Some (idling 0 r)
 
--- the flow with one key more waiting, and idle at 0
-abbrev pub kept : Flow → Flow
-kept f =
+rest_view : (l : Line) (p : Option Reading) → pending_of l (rested p) ≡ rules.idle_again (pending_of l p)
+unfolding rules.idle_again
+rest_view l None = refl
+rest_view l (Some r) = refl
+
+-- the flow with one key more waiting, and this read pending
+abbrev pub kept : Option Reading → Flow → Flow
+kept p f =
     let t = f.typed in
     record {
       terminal = f.terminal;
       typed = record { keys_len = t.keys_len + 1; token = t.token; token_len = t.token_len };
-      pending = f.pending;
-      reading = idling 0 f.reading;
+      pending = p;
     }
 
-module _ (w : Work) (c : CountedFlow w.flow) (room : w.flow.typed.keys_len < type_ahead_size) where
+module _ (w : Work) (room : w.flow.typed.keys_len < type_ahead_size) {f : Flow} {p : Option Reading} {at sent : ℕ} (rests : p ≡ rested w.flow.pending)
+    (flow : f ≡ kept p w.flow) (same_at : at ≡ w.at) (same_sent : sent ≡ w.sent) where
   pub keeps_does : (k : Key) (l : Line) → length l.keys ≡ type_ahead_size → (t m : List ℕ) →
-      Does (rules.keeps (key_of k).quoted (key_of k).char) (on l w) t m (record { line = on_flow (kept w.flow) (stored k w.flow l); at = w.at; sent = w.sent }) t m
+      Does (rules.keeps (key_of k).quoted (key_of k).char) (on l w) t m (under_way (on_flow f (stored k w.flow l)) at sent) t m
   unfolding rules.keeps token_of
   keeps_does k l size t m =
       let f = w.flow in
-      changes_does t m _
+      rw (flow, same_at, same_sent)
+      (changes_does t m _
       (λ i. record {
         host = (view l).host;
         terminal = terminal_of f.terminal;
         typed = record { type_ahead = stored_keys f.typed.keys_len k l.keys (omega arith) i; token = token_of f.typed };
-        pending_read = rest_view f.pending l f.reading i;
+        pending_read = (ap (pending_of l) rests ∙ rest_view l f.pending) i;
       })
-      refl refl
+      refl refl)
 
 -- A call goes on with another terminal.
 pub terminal_does : (w : Work) (x : Terminal) (f : state.Terminal → state.Terminal) → terminal_of x ≡ f (terminal_of w.flow.terminal) → (l : Line) (t m : List ℕ) →
@@ -97,17 +102,17 @@ unfolding keys_of token_of
 emptied_does w h e l t m = goes_does w l (with_typed [] []) (goes_as (ap (λ n. on_typed n w.flow) e) h) refl t m
 
 -- A rule that looks whether a read is pending.
-module _ (f : Option (state.Reading ℕ) → Rule ℕ) {pending : Bool} (r : state.Reading ℕ) {w v : Progress} {t t' m m' : List ℕ} where
-  pub pending_does : pending ≡ true → Does (f (some r)) w t m v t' m' → Does (f (pending_of pending r)) w t m v t' m'
+module _ (f : math.Option (state.Reading ℕ) → Rule ℕ) (l : Line) {pending : Option Reading} {w v : Progress} {t t' m m' : List ℕ} where
+  pub pending_does : {r : Reading} → pending ≡ Some r → Does (f (math.some (reading_of l r))) w t m v t' m' → Does (f (pending_of l pending)) w t m v t' m'
   pending_does e h = rw e h
 
-  pub idle_does : pending ≡ false → Does (f none) w t m v t' m' → Does (f (pending_of pending r)) w t m v t' m'
+  pub idle_does : pending ≡ None → Does (f math.none) w t m v t' m' → Does (f (pending_of l pending)) w t m v t' m'
   idle_does e h = rw e h
 
-pub passes_is : (pending : Bool) (r : state.Reading ℕ) → rules.are_controls_off (pending_of pending r) ≡ pending && eqb r.terms.disables 3
+pub passes_is : (l : Line) (pending : Option Reading) → rules.are_controls_off (pending_of l pending) ≡ is_some pending && eqb l.terms.disables 3
 unfolding rules.are_controls_off
-passes_is true r = refl
-passes_is false r = refl
+passes_is l (Some r) = refl
+passes_is l None = refl
 
 -- The out-of-band field of an attribute that was read.
 module _ {a b : ℕ} (k : ℕ) (e : a ≡ b) where

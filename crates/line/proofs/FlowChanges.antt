@@ -6,6 +6,7 @@ use mathlib.Core.Bool.{Bool, true, false, not, ◌||◌}
 use mathlib.Core.List.{List, [], ◌∷◌, ◌++◌}
 use mathlib.Core.Option.{none, some}
 use lib.ListN.{length, take}
+use Rattle.std.specs.Prelude.{None}
 use Rattle.rules.specs.Choice.{pick, bit, is_empty, joined}
 use Rattle.rules.specs.Numbers.{token_size}
 use Rattle.rules.specs.Area.{puts, spot}
@@ -146,11 +147,11 @@ module _ (w : Work) {v : Work} (r : Reading) (h : GoesOn (on_read r w.flow) w v)
       (changes_does a m (with_read (some e)) (λ i. with_read (some (same i)) (view (on_flow w.flow (lent t text l)))) refl refl)
 
 -- with no read pending the text does not show
-pub ended_does : {p : Rule ℕ} {w : Progress} {t t' m m' : List ℕ} (v : Work) (terms : Terms) (text text' : List ℕ) (l : Line) → v.flow.pending ≡ false →
+pub ended_does : {p : Rule ℕ} {w : Progress} {t t' m m' : List ℕ} (v : Work) (terms : Terms) (text text' : List ℕ) (l : Line) → v.flow.pending ≡ None →
     Does p w t m (on (lent terms text l) v) t' m' → Does p w t m (on (lent terms text' l) v) t' m'
 ended_does v terms text text' l e h =
-    let none = ap (λ p. pending_of p (reading_of (lent terms text l) v.flow.reading)) e in
-    let none' = ap (λ p. pending_of p (reading_of (lent terms text' l) v.flow.reading)) e in
+    let none = ap (pending_of (lent terms text l)) e in
+    let none' = ap (pending_of (lent terms text' l)) e in
     record {
       state = (λ i. with_read ((none' ∙ sym none) i) (view (on_flow v.flow (lent terms text l)))) ∙ h.state;
       shows = h.shows;

@@ -2,12 +2,13 @@
 use mathlib.Core.Path.{◌≡◌, refl, sym, ap, ◌∙◌, subst}
 use Prim.Native.Nat.{ℕ}
 use mathlib.Core.Bool.{Bool, true, false, not, ◌&&◌}
+use Rattle.std.specs.Prelude.{Option, Some, None}
 use mathlib.Core.List.{List, map-id}
 use lib.Dec.{eqb}
 use lib.ListN.{length}
 use Rattle.rules.specs.Choice.{pick, joined}
 use Rattle.rules.specs.Numbers.{input_size, type_ahead_size}
-use Rattle.rules.specs.State.{Reading, codes, with_host, with_read, with_last_set}
+use Rattle.rules.specs.State.{codes, with_host, with_read, with_last_set}
 use Rattle.rules.specs.Messages.Forms as forms
 use Rattle.rules.specs.Turns.{Rule, still, sends}
 use Rattle.rules.specs.StartRead.Acceptance as rules
@@ -32,6 +33,7 @@ use Rattle.line.specs.declared.Terms.{Terms}
 use Rattle.characteristics.specs.Lists.{answer_to, report_bytes, questions_in, settings_in}
 use Rattle.characteristics.proofs.Held.{held_questions, held_settings, report_carried}
 use Rattle.line.specs.declared.Line.{Line}
+use Rattle.line.specs.declared.Reading.{Reading}
 use Rattle.line.specs.declared.Work.{Work}
 use Rattle.line.specs.declared.events.HostMessage.{HostMessage}
 use Rattle.line.specs.declared.events.HostMessage.TheVariants.{Initiate, StartRead, Unread, ClearInput, Write, ReadCharacteristics, Characteristics, CheckInput}
@@ -119,16 +121,16 @@ module _ (l : Line) (s : List ℕ) (f : StartReadFields) (a : Accepted l s (Star
       let same : byte_at s 0 ≡ forms.start_read = ap (λ x. x.kind) fields ∙ sym (ap held_kind a.held) in
       ap (λ k. is_timely k (view l)) (sym same) ∙ not-false (is_timely (byte_at s 0) (view l)) time.0
 
-  no_read : l.flow.pending ≡ false
+  no_read : l.flow.pending ≡ None
   unfolding is_timely is_pending
-  no_read = by_flags l.initiated l.flow.pending (reading_of l l.flow.reading) start_timely
+  no_read = by_flags l.initiated l.flow.pending start_timely
     where
-      by_flags : (begun pending : Bool) (r : Reading ℕ) →
-          pick begun (not (eqb forms.start_read forms.initiate) && not (eqb forms.start_read forms.start_read && is_pending (pending_of pending r))) (eqb forms.start_read forms.initiate) ≡ true →
-          pending ≡ false
-      by_flags begun false r e = refl
-      by_flags true true r e = absurd (true-false (sym e ∙ pick_true {A = Bool} _ _ refl))
-      by_flags false true r e = absurd (true-false (sym e ∙ pick-false {A = Bool} _ _ refl))
+      by_flags : (begun : Bool) (pending : Option Reading) →
+          pick begun (not (eqb forms.start_read forms.initiate) && not (eqb forms.start_read forms.start_read && is_pending (pending_of l pending))) (eqb forms.start_read forms.initiate) ≡ true →
+          pending ≡ None
+      by_flags begun None e = refl
+      by_flags true (Some r) e = absurd (true-false (sym e ∙ pick_true {A = Bool} _ _ refl))
+      by_flags false (Some r) e = absurd (true-false (sym e ∙ pick-false {A = Bool} _ _ refl))
 
 -- The line with a read's terms, set and text, and either last set.
 module _ (s : List ℕ) (l : Line) (f : StartReadFields) (a : Accepted l s (StartRead f)) (T : Terms) (S : Set) (X : List ℕ) (Z : Set)
@@ -143,7 +145,7 @@ module _ (s : List ℕ) (l : Line) (f : StartReadFields) (a : Accepted l s (Star
   unseen : view opened ≡ view l
   unseen =
       let none = no_read l s f a in
-      λ i. with_read ((ap (λ p. pending_of p (reading_of opened l.flow.reading)) none ∙ sym (ap (λ p. pending_of p (reading_of l l.flow.reading)) none)) i) (view l)
+      λ i. with_read ((ap (pending_of opened) none ∙ sym (ap (pending_of l) none)) i) (view l)
 
   read_begins : reading_of opened (reading_at s f l.flow.terminal.screen.column) ≡ rules.opened_read codes x (view l)
   unfolding rules.opened_read start_read_in

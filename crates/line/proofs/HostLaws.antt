@@ -10,6 +10,7 @@ use Rattle.rules.specs.ReadData.{waiting_count}
 use Rattle.line.specs.declared.Key.{Key}
 use Rattle.line.specs.declared.Typed.{Typed}
 use Rattle.line.specs.declared.Flow.{Flow}
+use Rattle.line.specs.declared.Reading.{Reading}
 use Rattle.line.specs.View.{keys_of, token_of, typed_of, input_of}
 use Rattle.line.specs.Bounded.{CountedTyped, CountedFlow, CountedReading}
 use Rattle.line.proofs.KeyArrays.{keys_length, keys_empty}
@@ -21,12 +22,12 @@ unfolding waiting_count
 waiting_count_lem keys t c = sym (ap₂ ◌+◌ (keys_length t.keys_len keys) (token_counted t c))
 
 -- nothing typed, and nothing in the read
-pub nothing_typed : (keys : List Key) (text : List ℕ) (f : Flow) → CountedFlow f → CountedReading f.reading text →
-    eqb f.typed.keys_len 0 && eqb f.typed.token_len 0 && eqb f.reading.input_len 0
-    ≡ is_empty (keys_of f.typed.keys_len keys) && is_empty (token_of f.typed) && is_empty (input_of f.reading.input_len text)
+pub nothing_typed : (keys : List Key) (text : List ℕ) (f : Flow) → CountedFlow f → (r : Reading) → CountedReading r text →
+    eqb f.typed.keys_len 0 && eqb f.typed.token_len 0 && eqb r.input_len 0
+    ≡ is_empty (keys_of f.typed.keys_len keys) && is_empty (token_of f.typed) && is_empty (input_of r.input_len text)
 unfolding token_of
-nothing_typed keys text f c full =
+nothing_typed keys text f c r full =
     let t = f.typed in
     sym (ap₂ ◌&&◌
     (ap₂ ◌&&◌ (keys_empty t.keys_len keys) (empty_take t.token_len t.token (omega (arith, c.typed.token_length, c.typed.token))))
-    (input_empty f.reading text full))
+    (input_empty r text full))

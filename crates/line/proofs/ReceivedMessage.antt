@@ -10,7 +10,7 @@ use Rattle.rules.specs.Numbers.{accepted, small_area, wrong_length, wrong_type, 
 use Rattle.rules.specs.Messages.Forms as forms
 use Rattle.rules.specs.Messages.Codec as codec
 use Rattle.rules.specs.Messages.Codec.{Outcome, refused, sound, sound_length, defined_kind, defined_fields, all_bytes, fields_as, read}
-use Rattle.rules.specs.State.{Reading, State, codes}
+use Rattle.rules.specs.State.{State, codes}
 use Rattle.rules.specs.Calls as rules
 use Rattle.rules.specs.Calls.{Answer, are_roomy, is_pending, is_servers, is_hosts, passes_test, is_unsound, is_carried_by, carries, refusals, received, refuses, answers_message, answers, answer}
 use Rattle.rules.proofs.Choice.{none_left, row_applies, row_passed, halves}
@@ -19,11 +19,12 @@ use Rattle.rules.specs.Messages.Layout.{byte_at}
 use Rattle.rules.proofs.Outcomes.{refused-sound, sound_same, refused_same, readable, read_defined, read-refused}
 use Rattle.message.specs.declared.Message.{Message}
 use Rattle.message.specs.declared.Message.TheVariants as found_message
-use Rattle.std.specs.Prelude.{Ok, Err}
+use Rattle.std.specs.Prelude.{Ok, Err, Option, Some, is_some}
 use Rattle.rules.specs.declared.refusals.Refusal.{Refusal}
 use Rattle.rules.specs.Refusals.{number_of}
 use Rattle.message.specs.Found.{held_in, as_held, found_in}
 use Rattle.line.specs.declared.Line.{Line}
+use Rattle.line.specs.declared.Reading.{Reading}
 use Rattle.line.specs.View.{pending_of, view}
 use Rattle.line.specs.Answers.{ruled}
 use Rattle.line.specs.Refusals.{first_row, early_row, last_row, late_row}
@@ -31,10 +32,10 @@ use Rattle.line.specs.Host.{message_of, host_message_of, Accepted}
 use Rattle.line.specs.declared.events.HostMessage.{HostMessage}
 use Rattle.std.proofs.Common.{None}
 
-pub is_pending_lem : (pending : Bool) (r : Reading ℕ) → pending ≡ is_pending (pending_of pending r)
+pub is_pending_lem : (l : Line) (pending : Option Reading) → is_some pending ≡ is_pending (pending_of l pending)
 unfolding is_pending
-is_pending_lem true r = refl
-is_pending_lem false r = refl
+is_pending_lem l (Some r) = refl
+is_pending_lem l None = refl
 
 -- rows 5 and 6, of what was read
 abbrev late_rows : State ℕ → Outcome (forms.Message ℕ) → List Row

@@ -4,6 +4,7 @@ use Prim.Native.Nat.{ℕ, zero, suc, ◌+◌, ◌-◌, ◌≤◌, ◌<◌}
 use native.Mathlib.Omega.{arith}
 use mathlib.Core.Bool.{Bool, true, false, not, ◌&&◌, ◌||◌, and-false}
 use mathlib.Core.List.{List, [], ◌∷◌, ◌++◌, append-nil}
+use Rattle.std.specs.Prelude.{Some, None}
 use lib.Dec.{eqb}
 use lib.ListN.{length, get_or, take, drop, replicate}
 use borrow.Author.Tests.{eq-eqb, ne_eqb}
@@ -17,8 +18,9 @@ use Rattle.rules.specs.Turns.{writes, changes, behind, ◌then◌}
 use Rattle.rules.specs.Editing.{redisplays}
 use Rattle.rules.specs.Write.{affix_bytes, unskipped, writes_own, redisplays_while, redisplays_if_asked}
 use Rattle.rules.specs.Calls.{message_bytes}
-use Rattle.rules.proofs.Choice.{pick_true, pick-false, pick_both, halves}
+use Rattle.rules.proofs.Choice.{pick_true, pick-false, pick_both}
 use Rattle.screen.proofs.Echoes.{shown_all_append}
+use Rattle.line.specs.declared.Reading.{Reading}
 use Rattle.line.specs.View.{reading_of}
 use Rattle.line.specs.Promise.{Progress, Does}
 use Rattle.line.proofs.Turns.{then_does, still_does, only_does, not_does}
@@ -122,19 +124,16 @@ module _ (code value : ℕ) where
 
 -- The redisplay, of a pending read and with UU 3.
 module _ (w : Progress) (lock : ℕ) where
-  pub redisplays_now : {r : Progress} {t t' m m' : List ℕ} → eqb lock redisplay_after && w.line.flow.pending ≡ true →
-      Does (redisplays codes (reading_of w.line w.line.flow.reading)) w t m r t' m' → Does (redisplays_if_asked codes lock) w t m r t' m'
-  unfolding redisplays_if_asked redisplays_while
-  redisplays_now e h =
-      let both = halves (eqb lock redisplay_after) w.line.flow.pending e in
-      only_does _ both.0 (here_rule refl (pending_does (redisplays_while codes) (reading_of w.line w.line.flow.reading) both.1 h))
+  module _ (asked : eqb lock redisplay_after ≡ true) where
+    pub redisplays_now : {r : Reading} {u : Progress} {t t' m m' : List ℕ} → w.line.flow.pending ≡ Some r →
+        Does (redisplays codes (reading_of w.line r)) w t m u t' m' → Does (redisplays_if_asked codes lock) w t m u t' m'
+    unfolding redisplays_if_asked redisplays_while
+    redisplays_now e h = only_does _ asked (here_rule refl (pending_does (redisplays_while codes) w.line e h))
 
-  redisplays_by : (asked pending : Bool) → eqb lock redisplay_after ≡ asked → w.line.flow.pending ≡ pending → asked && pending ≡ false →
-      (t m : List ℕ) → Does (redisplays_if_asked codes lock) w t m w t m
-  unfolding redisplays_if_asked redisplays_while
-  redisplays_by true pending a p e t m =
-      only_does _ a (here_rule refl (idle_does (redisplays_while codes) (reading_of w.line w.line.flow.reading) (p ∙ e) (still_does w t m)))
-  redisplays_by false pending a p e t m = not_does _ a (still_does w t m)
+    pub redisplays_none : (t m : List ℕ) → w.line.flow.pending ≡ None → Does (redisplays_if_asked codes lock) w t m w t m
+    unfolding redisplays_if_asked redisplays_while
+    redisplays_none t m e = only_does _ asked (here_rule refl (idle_does (redisplays_while codes) w.line e (still_does w t m)))
 
-  pub redisplays_not : (t m : List ℕ) → eqb lock redisplay_after && w.line.flow.pending ≡ false → Does (redisplays_if_asked codes lock) w t m w t m
-  redisplays_not t m e = redisplays_by (eqb lock redisplay_after) w.line.flow.pending refl refl e t m
+  pub redisplays_not : (t m : List ℕ) → eqb lock redisplay_after ≡ false → Does (redisplays_if_asked codes lock) w t m w t m
+  unfolding redisplays_if_asked
+  redisplays_not t m e = not_does _ e (still_does w t m)

@@ -1,5 +1,5 @@
 -- Acts: which rule each does, and what an event meets.
-use Rattle.std.specs.Prelude.{ℕ, ◌<◌, ◌≡◌, Bool, true, false, List, length, get_or, drop}
+use Rattle.std.specs.Prelude.{ℕ, ◌<◌, ◌≡◌, Bool, true, false, List, length, get_or, drop, Option, Some, None}
 use Rattle.rules.specs.Numbers.{code_count, type_ahead_size, token_size}
 use Rattle.rules.specs.State as rules
 use Rattle.rules.specs.State.{State, codes, with_idle}
@@ -11,6 +11,7 @@ use Rattle.rules.specs.Steps.{takes_token, adds_to_token, terminates, edits, tak
 use Rattle.rules.specs.Calls.{message_bytes}
 use Rattle.message.specs.Found.{held_in}
 use Rattle.line.specs.declared.Terms.{Terms}
+use Rattle.line.specs.declared.Reading.{Reading}
 use Rattle.line.specs.declared.Flow.{Flow}
 use Rattle.line.specs.declared.Line.{Line}
 use Rattle.line.specs.declared.Work.{Work}
@@ -26,16 +27,21 @@ use Rattle.line.specs.KeyArray.{keys_after, shifted}
 use Rattle.line.specs.Promise.{on, Does}
 use Rattle.line.specs.Host.{message_of, Accepted, obeys_held, flow_rule, StartableMessage, Prompts}
 
--- the read of a line, with idle at 0
-abbrev pub idle_at_zero : Line → rules.Reading ℕ
-idle_at_zero l = with_idle 0 (reading_of l l.flow.reading)
+-- a read of a line, with idle at 0
+abbrev pub idle_at_zero : Line → Reading → rules.Reading ℕ
+idle_at_zero l r = with_idle 0 (reading_of l r)
 
--- what `takes_first` changes before the key's rule: the first key of this line is taken
-abbrev pub key_taken : Line → State ℕ → State ℕ
-key_taken l = steps.key_taken (drop 1 (keys_of l.flow.typed.keys_len l.keys)) (reading_of l l.flow.reading)
+-- what `takes_first` changes before the key's rule: the first key of this line is taken by its read
+abbrev pub key_taken : Line → Reading → State ℕ → State ℕ
+key_taken l r = steps.key_taken (drop 1 (keys_of l.flow.typed.keys_len l.keys)) (reading_of l r)
 
-abbrev pub takes_key : Line → Rule ℕ
-takes_key l = changes (key_taken l)
+abbrev pub takes_key : Line → Reading → Rule ℕ
+takes_key l r = changes (key_taken l r)
+
+-- a rule for the read that is pending; nothing where none is
+abbrev pub for_pending : (Reading → Rule ℕ) → Option Reading → Rule ℕ
+for_pending rule None = still
+for_pending rule (Some r) = rule r
 
 -- the rule that a taken key meets
 abbrev pub taken_rule : Taken → rules.Reading ℕ → Rule ℕ
@@ -55,17 +61,22 @@ act_rule s l (ClearsAtOnce c) = clears_at_once codes c
 act_rule s l Quotes = quotes quote_key
 act_rule s l Clears = clear_rule codes rubbing_out
 act_rule s l FlipsDiscard = flips_discard discard_key
-act_rule s l TakesToken = takes_token codes (reading_of l l.flow.reading)
-act_rule s l (Takes k) = takes_key l then taken_rule k (idle_at_zero l)
-act_rule s l TimesOut = completes codes by_timeout no_ending (reading_of l l.flow.reading)
-act_rule s l (Idles idle) = sets_idle idle (reading_of l l.flow.reading)
+act_rule s l TakesToken = for_pending (λ r. takes_token codes (reading_of l r)) l.flow.pending
+act_rule s l (Takes k) = for_pending (λ r. takes_key l r then taken_rule k (idle_at_zero l r)) l.flow.pending
+act_rule s l TimesOut = for_pending (λ r. completes codes by_timeout no_ending (reading_of l r)) l.flow.pending
+act_rule s l (Idles idle) = for_pending (λ r. sets_idle idle (reading_of l r)) l.flow.pending
 act_rule s l (Obeys m) = obeys_held (held_in s (message_of m))
 
--- a key can be taken: one waits, a read has room for it, and so has a token that is begun
-pub record CanTakeKey (f : Flow) (t : Terms) : Type 0 where
-  pub room : HasRoom t f.reading
+-- a key can be taken: one waits, this read has room for it, and so has a token that is begun
+pub record CanTakeKey (r : Reading) (f : Flow) (t : Terms) : Type 0 where
+  pub room : HasRoom t r
   pub waits : 0 < f.typed.keys_len
   pub short : f.typed.token_len < token_size
+
+-- a read is pending of which this holds
+abbrev pub IsPending : (Reading → Type 0) → Option Reading → Type 0
+IsPending P None = ⊥
+IsPending P (Some r) = P r
 
 -- the events that may meet an act; a key is its arrival
 pub record EventKinds : Type 0 where
@@ -99,8 +110,8 @@ Ready s l (ClearsAtOnce c) = Unit {0}
 Ready s l Quotes = Unit {0}
 Ready s l Clears = Unit {0}
 Ready s l FlipsDiscard = Unit {0}
-Ready s l TakesToken = HasRoom l.terms l.flow.reading
-Ready s l (Takes k) = CanTakeKey l.flow l.terms
+Ready s l TakesToken = IsPending (HasRoom l.terms) l.flow.pending
+Ready s l (Takes k) = IsPending (λ r. CanTakeKey r l.flow l.terms) l.flow.pending
 Ready s l TimesOut = Unit {0}
 Ready s l (Idles idle) = Unit {0}
 Ready s l (Obeys m) = Accepted l s m
@@ -122,14 +133,13 @@ pub record Meets (rule : Rule ℕ) (s : List ℕ) (l : Line) (a : Act) : Type 0 
 -- how the first key of a line is taken, where it can be
 abbrev pub TakesFirst : List ℕ → Line → Taken → Type 0
 TakesFirst s l k =
-    CanTakeKey l.flow l.terms →
-    Meets (takes_key l then steps.takes codes (key_of (get_or l.keys 0 no_key)) (idle_at_zero l)) s l (Takes k)
+    (r : Reading) → l.flow.pending ≡ Some r → CanTakeKey r l.flow l.terms →
+    Meets (takes_key l r then steps.takes codes (key_of (get_or l.keys 0 no_key)) (idle_at_zero l r)) s l (Takes k)
 
--- what is known of a call that has taken the first key
-pub record HasTakenKey (w v : Work) : Type 0 where
-  pub does : (l : Line) → length l.keys ≡ type_ahead_size → (t m : List ℕ) →
-      Does (takes_key (on_flow w.flow l)) (on l w) t m (on (shifted w.flow l) v) t m
-  pub reading : v.flow.reading ≡ idling 0 w.flow.reading
+-- what is known of a call that has taken the first key, by a read that is pending as this one then
+pub record HasTakenKey (next : Reading) (w v : Work) : Type 0 where
+  pub does : (r : Reading) → next ≡ idling 0 r → (l : Line) → length l.keys ≡ type_ahead_size → (t m : List ℕ) →
+      Does (takes_key (on_flow w.flow l) r) (on l w) t m (on (shifted w.flow l) v) t m
   pub token : v.flow.typed.token_len ≡ w.flow.typed.token_len
 
 -- what the acts of a call ask: `Ready`, of a message only the Start Read test
@@ -142,8 +152,8 @@ Doable s f t (ClearsAtOnce c) = Unit {0}
 Doable s f t Quotes = Unit {0}
 Doable s f t Clears = Unit {0}
 Doable s f t FlipsDiscard = Unit {0}
-Doable s f t TakesToken = HasRoom t f.reading
-Doable s f t (Takes k) = CanTakeKey f t
+Doable s f t TakesToken = IsPending (HasRoom t) f.pending
+Doable s f t (Takes k) = IsPending (λ r. CanTakeKey r f t) f.pending
 Doable s f t TimesOut = Unit {0}
 Doable s f t (Idles idle) = Unit {0}
 Doable s f t (Obeys m) = StartableMessage s m

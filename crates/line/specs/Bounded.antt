@@ -1,5 +1,5 @@
 -- What a call asks of a line: the bounds of its state, and each count within its array. `fresh` has them, and every call keeps them.
-use Rattle.std.specs.Prelude.{ℕ, ◌≤◌, ◌≡◌, List, length}
+use Rattle.std.specs.Prelude.{ℕ, ◌≤◌, ◌≡◌, List, length, Option, Some, None}
 use Rattle.rules.specs.Numbers.{code_count, input_size, type_ahead_size, token_size}
 use Rattle.rules.specs.Bounds as rules
 use Rattle.rules.specs.State as state
@@ -16,9 +16,14 @@ pub record CountedTyped (t : Typed) : Type 0 where
   pub token : length t.token ≡ token_size
   pub token_length : t.token_len ≤ token_size
 
+-- how many characters a pending read has; none where no read is pending
+abbrev pub input_len_of : Option Reading → ℕ
+input_len_of None = 0
+input_len_of (Some r) = r.input_len
+
 pub record CountedFlow (f : Flow) : Type 0 where
   pub typed : CountedTyped f.typed
-  pub within : f.reading.input_len ≤ input_size
+  pub within : input_len_of f.pending ≤ input_size
 
 -- a read and the text that is lent for it
 pub record CountedReading (r : Reading) (text : List ℕ) : Type 0 where

@@ -1,7 +1,7 @@
--- The state of the rules that a line stands for. What lies behind a count is the program's own, and so are `terms`, `set`, `text` and
--- `reading` while no read is pending, but for the counts within their arrays (`Counted`).
-use Rattle.std.specs.Prelude.{ℕ, zero, suc, ◌-◌, Bool, true, false, List, [], ◌∷◌, take, drop}
-use Rattle.std.proofs.Math.Option.{Option, none, some}
+-- The state of the rules that a line stands for. What lies behind a count is the program's own, and so are `terms`, `set` and `text`
+-- while no read is pending, but for the counts within their arrays (`Counted`).
+use Rattle.std.specs.Prelude.{ℕ, zero, suc, ◌-◌, true, false, List, [], ◌∷◌, take, drop, Option, Some, None}
+use Rattle.std.proofs.Math.Option as math
 use Rattle.rules.specs.Numbers.{input_size}
 use Rattle.rules.specs.State as rules
 use Rattle.screen.specs.View as screen
@@ -88,9 +88,10 @@ reading_of l r =
       idle = r.idle;
     }
 
-abbrev pub pending_of : Bool → rules.Reading ℕ → Option (rules.Reading ℕ)
-pending_of true r = some r
-pending_of false r = none
+-- the read that is pending on it, if one is
+abbrev pub pending_of : Line → Option Reading → math.Option (rules.Reading ℕ)
+pending_of l None = math.none
+pending_of l (Some r) = math.some (reading_of l r)
 
 abbrev pub host_of : Line → rules.Host
 host_of l =
@@ -108,5 +109,5 @@ view l =
       host = host_of l;
       terminal = terminal_of l.flow.terminal;
       typed = typed_of l.keys l.flow.typed;
-      pending_read = pending_of l.flow.pending (reading_of l l.flow.reading);
+      pending_read = pending_of l l.flow.pending;
     }

@@ -1,5 +1,5 @@
 -- A line, or a call on its way, with one part changed, as the program changes it.
-use Rattle.std.specs.Prelude.{◌≡◌, ℕ, true, false, List}
+use Rattle.std.specs.Prelude.{◌≡◌, ℕ, List, Some, None}
 use Rattle.std.specs.Borrow.{MutBor}
 use Rattle.screen.specs.declared.Screen.{Screen}
 use Rattle.screen.specs.declared.display.Display.{Display}
@@ -24,17 +24,17 @@ on_screen s t =
     }
 
 abbrev pub on_terminal : Terminal → Flow → Flow
-on_terminal t f = record { terminal = t; typed = f.typed; pending = f.pending; reading = f.reading }
+on_terminal t f = record { terminal = t; typed = f.typed; pending = f.pending }
 
 abbrev pub on_typed : Typed → Flow → Flow
-on_typed t f = record { terminal = f.terminal; typed = t; pending = f.pending; reading = f.reading }
+on_typed t f = record { terminal = f.terminal; typed = t; pending = f.pending }
 
 -- with this read pending, and with none
 abbrev pub on_read : Reading → Flow → Flow
-on_read r f = record { terminal = f.terminal; typed = f.typed; pending = true; reading = r }
+on_read r f = record { terminal = f.terminal; typed = f.typed; pending = Some r }
 
 abbrev pub off_read : Flow → Flow
-off_read f = record { terminal = f.terminal; typed = f.typed; pending = false; reading = f.reading }
+off_read f = record { terminal = f.terminal; typed = f.typed; pending = None }
 
 -- the terminal's area from a call's place on, with its screen
 abbrev pub display_of : MutBor (List ℕ) → Work → Display

@@ -5,7 +5,7 @@ ghost use Rattle.rules.specs.State.{codes};
 ghost use Rattle.rules.specs.Arrival as rules;
 ghost use Rattle.line.specs.declared.Key.{Key};
 ghost use Rattle.line.specs.declared.Line.{Line};
-ghost use Rattle.line.specs.View.{quoted_key, key_of, reading_of, pending_of};
+ghost use Rattle.line.specs.View.{quoted_key, key_of, pending_of};
 ghost use Rattle.line.specs.With.{on_flow, lent};
 ghost use Rattle.line.specs.KeyArray.{stored};
 ghost use Rattle.line.specs.Promise.{on, Does, DoesOn};
@@ -13,7 +13,7 @@ ghost use Rattle.line.specs.Acts.{event_kinds_of, Meets};
 
 use crate::acts::Act;
 use crate::read_data::{Completion, NO_ENDING};
-use crate::{Flow, Reading, Terms, Work};
+use crate::{Flow, Terms, Work};
 use message::Message;
 use rules::{characters, out_of_band};
 
@@ -43,7 +43,9 @@ impl Work {
     {
         let mut next = self;
         next.flow.typed.keys_len += 1;
-        next.flow.reading.idle = 0;
+        if let Some(reading) = &mut next.flow.pending {
+            reading.idle = 0;
+        }
         next
     }
 
@@ -123,13 +125,10 @@ impl Work {
     // A pending read's input goes, without rubbing out.
     fn clears_without_rubbing(self, t: Terms) -> Work
         ensures rule { (text : List ℕ) (l : Line) (a m : List ℕ) →
-            DoesOn
-            (λ k. rules.clears_input codes rules.without_rubbing (pending_of self.flow.pending (reading_of k self.flow.reading)))
-            (lent t text l) self a m result a m }
+            DoesOn (λ k. rules.clears_input codes rules.without_rubbing (pending_of k self.flow.pending)) (lent t text l) self a m result a m }
     {
-        let flow = self.flow;
-        if flow.pending {
-            return self.deletes_without_rubbing(0, flow.reading, t);
+        if let Some(r) = self.flow.pending {
+            return self.deletes_without_rubbing(0, r, t);
         }
         self
     }
@@ -142,13 +141,11 @@ impl Work {
         t: Terms,
     ) -> Work
         ensures rule { (l : Line) (m : List ℕ) →
-            DoesOn
-            (λ k. rules.clears_input codes rules.rubbing_out (pending_of self.flow.pending (reading_of k self.flow.reading)))
-            (lent t text.now l) self terminal.old m result terminal.new m }
+            DoesOn (λ k. rules.clears_input codes rules.rubbing_out (pending_of k self.flow.pending)) (lent t text.now l) self terminal.old
+            m result terminal.new m }
     {
-        let flow = self.flow;
-        if flow.pending {
-            return self.deletes(terminal, 0, text, t);
+        if let Some(r) = self.flow.pending {
+            return self.deletes(terminal, 0, r, text, t);
         }
         self
     }
@@ -184,20 +181,11 @@ impl Work {
     // Rule 2, immediate clear: a pending read completes, returning no data.
     fn ends_out_of_band(self, messages: &mut [u8], text: &[u8; rules::INPUT_SIZE], t: Terms) -> Work
         ensures rule { (l : Line) (a : List ℕ) →
-            DoesOn
-            (λ k. rules.ends_out_of_band codes (pending_of self.flow.pending (reading_of k self.flow.reading)))
-            (lent t text.now l) self a messages.old result a messages.new }
+            DoesOn (λ k. rules.ends_out_of_band codes (pending_of k self.flow.pending)) (lent t text.now l) self a messages.old result a
+            messages.new }
     {
-        let flow = self.flow;
-        if flow.pending {
-            return self.completes(
-                messages,
-                Completion::OutOfBand,
-                NO_ENDING,
-                flow.reading,
-                text,
-                t,
-            );
+        if let Some(r) = self.flow.pending {
+            return self.completes(messages, Completion::OutOfBand, NO_ENDING, r, text, t);
         }
         self
     }
@@ -257,7 +245,7 @@ impl Flow {
         if band == out_of_band::IMMEDIATE_CLEAR {
             return Act::ClearsAtOnce(c);
         }
-        if self.pending & (t.disables == DISABLES_CONTROLS) {
+        if self.pending.is_some() & (t.disables == DISABLES_CONTROLS) {
             return Act::Stores(c);
         }
         act_of_control(c)

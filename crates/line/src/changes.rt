@@ -22,8 +22,7 @@ impl Work {
         ensures { GoesOn (on_read read self.flow) self result }
     {
         let mut next = self;
-        next.flow.pending = true;
-        next.flow.reading = read;
+        next.flow.pending = Some(read);
         next
     }
 }

@@ -39,15 +39,15 @@ impl Work {
         self,
         terminal: &mut [u8],
         left: u16,
+        r: Reading,
         text: &[u8; rules::INPUT_SIZE],
         t: Terms,
     ) -> Work
-        requires left_bound { left ≤ self.flow.reading.input_len }
+        requires input_len_bound { r.input_len ≤ input_size }
+        requires left_bound { left ≤ r.input_len }
         ensures rule { (fate : ℕ → Fate ℕ) (l : Line) (m : List ℕ) →
-            DoesOn (λ k. rules.deletes codes fate left (reading_of k self.flow.reading)) (lent t text.now l)
-            self terminal.old m result terminal.new m }
+            DoesOn (λ k. rules.deletes codes fate left (reading_of k r)) (lent t text.now l) self terminal.old m result terminal.new m }
     {
-        let r = self.flow.reading;
         let found = r.find_marks(left, text, t);
         in_one_pass(found.columns, left, r, text, t);
         let rubbed = self.rub_out(terminal, found.marks);
@@ -98,15 +98,15 @@ impl Work {
     pub(crate) fn redisplays(
         self,
         terminal: &mut [u8],
+        r: Reading,
         text: &[u8; rules::INPUT_SIZE],
         t: Terms,
     ) -> Work
+        requires input_len_bound { r.input_len ≤ input_size }
         requires prompt_len_bound { t.prompt_len ≤ input_size }
         ensures rule { (l : Line) (m : List ℕ) →
-            DoesOn (λ k. rules.redisplays codes (reading_of k self.flow.reading)) (lent t text.now l) self
-            terminal.old m result terminal.new m }
+            DoesOn (λ k. rules.redisplays codes (reading_of k r)) (lent t text.now l) self terminal.old m result terminal.new m }
     {
-        let r = self.flow.reading;
         let next = self.write(terminal, &NEW_LINE);
         next.displays(terminal, r, text, t)
     }

@@ -40,12 +40,10 @@ impl Work {
             DoesOn (λ k. reads.unreads codes (plain unread (condition ∷ []))) (lent t text.now l) self a messages.old result a
             messages.new }
     {
-        let flow = self.flow;
-        if !flow.pending {
+        let Some(r) = self.flow.pending else {
             return self;
-        }
-        let typed = flow.typed;
-        let r = flow.reading;
+        };
+        let typed = self.flow.typed;
         let nothing = (typed.keys_len == 0) & (typed.token_len == 0) & (r.input_len == 0);
         if (condition == ALWAYS) | nothing {
             return self.completes(messages, Completion::Unread, NO_ENDING, r, text, t);

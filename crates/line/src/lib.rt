@@ -90,12 +90,12 @@ pub struct Reading {
 // What the rules change besides the arrays. In this order it is copied fastest (docs/PERFORMANCE.md).
 #[derive(Clone, Copy, Default)]
 pub struct Flow {
-    pub reading: Reading,
-    // a read is pending; if not, `reading` stands for nothing
-    pub pending: bool,
+    pub pending: Option<Reading>,
     pub typed: Typed,
     pub terminal: Terminal,
 }
+
+const _: () = prove!(std::mem::size_of::<Flow>() == 40);
 
 // A key as it was typed; quoted, it is data whatever its code.
 #[derive(Clone, Copy, Debug, PartialEq, Eq, Default)]

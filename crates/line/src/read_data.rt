@@ -1,5 +1,5 @@
 // A read completes.
-ghost use Rattle.std.specs.Prelude.{ℕ, ◌≤◌, ◌≡◌, true, false, length, List};
+ghost use Rattle.std.specs.Prelude.{ℕ, ◌≤◌, ◌≡◌, true, length, List, None};
 ghost use Rattle.rules.specs.Numbers.{input_size};
 ghost use Rattle.rules.specs.State.{codes};
 ghost use Rattle.rules.specs.Messages.Codec as codec;
@@ -119,11 +119,11 @@ impl Work {
         ensures rule { (k l : Line) (a : List ℕ) →
             Does (rules.completes codes (code_of by) ending (reading_of (lent t text.now l) r)) (on k self) a messages.old (on k result) a
             messages.new }
-        ensures ended { result.flow.pending ≡ false }
+        ensures ended { result.flow.pending ≡ None }
     {
         let ready = self.loses_partial();
         let mut answered = ready.sends_read_data(messages, by, ending, r, text, t);
-        answered.flow.pending = false;
+        answered.flow.pending = None;
         answered
     }
 }

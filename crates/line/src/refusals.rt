@@ -112,7 +112,7 @@ impl Line {
         let flow = self.flow;
         row(
             Refusal::WrongTime,
-            is_timely(kind, self.initiated, flow.pending),
+            is_timely(kind, self.initiated, flow.pending.is_some()),
         )
     }
 

@@ -32,16 +32,16 @@ impl Work {
     // A token that fits completes the read.
     fn ends_by_token(
         self,
+        r: Reading,
         text: &mut [u8; rules::INPUT_SIZE],
         t: Terms,
         messages: &mut [u8],
     ) -> Work
-        requires prompt_len_bound { self.flow.reading.input_len + self.flow.typed.token_len + t.prompt_len ≤ input_size }
+        requires prompt_len_bound { r.input_len + self.flow.typed.token_len + t.prompt_len ≤ input_size }
         ensures rule { (l : Line) (a : List ℕ) →
-            DoesAcross (λ k. rules.ends_by_token codes (reading_of k self.flow.reading)) (lent t text.old l)
-            self a messages.old (lent t text.new l) result a messages.new }
+            DoesAcross (λ k. rules.ends_by_token codes (reading_of k r)) (lent t text.old l) self a messages.old (lent t text.new l)
+            result a messages.new }
     {
-        let r = self.flow.reading;
         let typed = self.flow.typed;
         let token = typed.token;
         let size = typed.token_len as usize;
@@ -55,19 +55,19 @@ impl Work {
     // A whole token: one that does not fit stays held.
     pub(crate) fn takes_token(
         self,
+        r: Reading,
         text: &mut [u8; rules::INPUT_SIZE],
         t: Terms,
         messages: &mut [u8],
     ) -> Work
-        requires has_room { HasRoom t self.flow.reading }
+        requires has_room { HasRoom t r }
         ensures rule { (l : Line) (a : List ℕ) →
-            DoesAcross (λ k. rules.takes_token codes (reading_of k self.flow.reading)) (lent t text.old l) self
-            a messages.old (lent t text.new l) result a messages.new }
+            DoesAcross (λ k. rules.takes_token codes (reading_of k r)) (lent t text.old l) self a messages.old (lent t text.new l) result
+            a messages.new }
     {
-        let r = self.flow.reading;
         let typed = self.flow.typed;
         if r.end(t) + typed.token_len as u32 <= t.max_length as u32 {
-            return self.ends_by_token(text, t, messages);
+            return self.ends_by_token(r, text, t, messages);
         }
         self.completes(messages, Completion::Absentee, NO_ENDING, r, text, t)
     }
@@ -76,21 +76,21 @@ impl Work {
     pub(crate) fn adds_to_token(
         self,
         c: u8,
+        r: Reading,
         text: &mut [u8; rules::INPUT_SIZE],
         t: Terms,
         messages: &mut [u8],
     ) -> Work
-        requires has_room { HasRoom t self.flow.reading }
+        requires has_room { HasRoom t r }
         requires token_len_bound { self.flow.typed.token_len < token_size }
-        ensures rule { (l : Line) (a : List ℕ) →
-            DoesAcross (λ k. rules.adds_to_token codes c (reading_of k self.flow.reading)) (lent t text.old l)
-            self a messages.old (lent t text.new l) result a messages.new }
+        ensures rule { (l : Line) (a : List ℕ) → DoesAcross (λ k. rules.adds_to_token codes c (reading_of k r)) (lent t text.old l) self a messages.old
+            (lent t text.new l) result a messages.new }
     {
         let typed = self.flow.typed;
         let next = typed.tokened(c);
         let ready = self.with_typed(next);
         if next.is_held() {
-            return ready.takes_token(text, t, messages);
+            return ready.takes_token(r, text, t, messages);
         }
         ready
     }
@@ -99,17 +99,17 @@ impl Work {
     pub(crate) fn takes_data(
         self,
         c: u8,
+        r: Reading,
         text: &mut [u8; rules::INPUT_SIZE],
         t: Terms,
         terminal: &mut [u8],
         messages: &mut [u8],
     ) -> Work
-        requires has_room { HasRoom t self.flow.reading }
+        requires has_room { HasRoom t r }
         ensures rule { (l : Line) →
-            DoesAcross (λ k. rules.takes_data codes c (reading_of k self.flow.reading)) (lent t text.old l) self terminal.old messages.old
+            DoesAcross (λ k. rules.takes_data codes c (reading_of k r)) (lent t text.old l) self terminal.old messages.old
             (lent t text.new l) result terminal.new messages.new }
     {
-        let r = self.flow.reading;
         let next = r.push(text, c);
         let mut shown = self.with_read(next);
         if t.echoes {
@@ -125,17 +125,17 @@ impl Work {
     pub(crate) fn terminates(
         self,
         c: u8,
+        r: Reading,
         text: &mut [u8; rules::INPUT_SIZE],
         t: Terms,
         terminal: &mut [u8],
         messages: &mut [u8],
     ) -> Work
-        requires has_room { HasRoom t self.flow.reading }
+        requires has_room { HasRoom t r }
         ensures rule { (l : Line) →
-            DoesAcross (λ k. rules.terminates codes c (reading_of k self.flow.reading)) (lent t text.old l) self terminal.old messages.old
+            DoesAcross (λ k. rules.terminates codes c (reading_of k r)) (lent t text.old l) self terminal.old messages.old
             (lent t text.new l) result terminal.new messages.new }
     {
-        let r = self.flow.reading;
         let next = r.push(text, c);
         let mut shown = self;
         if t.terminator_echo & t.echoes {
@@ -148,19 +148,20 @@ impl Work {
     fn underflows(
         self,
         c: u8,
+        r: Reading,
         text: &mut [u8; rules::INPUT_SIZE],
         t: Terms,
         terminal: &mut [u8],
         messages: &mut [u8],
     ) -> Work
-        requires has_room { HasRoom t self.flow.reading }
+        requires has_room { HasRoom t r }
         ensures rule { (l : Line) →
-            DoesAcross (λ k. rules.underflows codes c (reading_of k self.flow.reading)) (lent t text.old l) self terminal.old messages.old
+            DoesAcross (λ k. rules.underflows codes c (reading_of k r)) (lent t text.old l) self terminal.old messages.old
             (lent t text.new l) result terminal.new messages.new }
     {
         let underflow = t.underflow;
         if underflow == UNDERFLOW_COMPLETES {
-            let next = self.flow.reading.push(text, c);
+            let next = r.push(text, c);
             return self.completes(messages, Completion::Underflow, ONE_ENDING, next, text, t);
         }
         if underflow == UNDERFLOW_RINGS {
@@ -174,49 +175,51 @@ impl Work {
         self,
         left: u16,
         c: u8,
+        r: Reading,
         text: &mut [u8; rules::INPUT_SIZE],
         t: Terms,
         terminal: &mut [u8],
         messages: &mut [u8],
     ) -> Work
-        requires has_room { HasRoom t self.flow.reading }
-        requires left_bound { left ≤ self.flow.reading.input_len }
+        requires has_room { HasRoom t r }
+        requires left_bound { left ≤ r.input_len }
         ensures rule { (l : Line) →
-            DoesAcross (λ k. rules.erases codes left c (reading_of k self.flow.reading)) (lent t text.old l) self terminal.old messages.old
+            DoesAcross (λ k. rules.erases codes left c (reading_of k r)) (lent t text.old l) self terminal.old messages.old
             (lent t text.new l) result terminal.new messages.new }
     {
-        let count = self.flow.reading.input_len;
+        let count = r.input_len;
         if count == 0 {
-            return self.underflows(c, text, t, terminal, messages);
+            return self.underflows(c, r, text, t, terminal, messages);
         }
-        self.deletes(terminal, left, text, t)
+        self.deletes(terminal, left, r, text, t)
     }
 
     // Rule 6.
     pub(crate) fn edits(
         self,
         c: u8,
+        r: Reading,
         text: &mut [u8; rules::INPUT_SIZE],
         t: Terms,
         terminal: &mut [u8],
         messages: &mut [u8],
     ) -> Work
-        requires has_room { HasRoom t self.flow.reading }
+        requires has_room { HasRoom t r }
         ensures rule { (l : Line) →
-            DoesAcross (λ k. rules.edits codes c (reading_of k self.flow.reading)) (lent t text.old l) self terminal.old messages.old
+            DoesAcross (λ k. rules.edits codes c (reading_of k r)) (lent t text.old l) self terminal.old messages.old
             (lent t text.new l) result terminal.new messages.new }
     {
         if c == DELETE_KEY {
-            let left = self.flow.reading.left_by_delete();
-            return self.erases(left, c, text, t, terminal, messages);
+            let left = r.left_by_delete();
+            return self.erases(left, c, r, text, t, terminal, messages);
         }
         if c == DELETE_WORD_KEY {
-            let left = self.flow.reading.left_by_delete_word(text);
-            return self.erases(left, c, text, t, terminal, messages);
+            let left = r.left_by_delete_word(text);
+            return self.erases(left, c, r, text, t, terminal, messages);
         }
         if c == DELETE_LINE_KEY {
-            return self.deletes(terminal, 0, text, t);
+            return self.deletes(terminal, 0, r, text, t);
         }
-        self.redisplays(terminal, text, t)
+        self.redisplays(terminal, r, text, t)
     }
 }

@@ -173,8 +173,10 @@ impl Work {
         let said = written.sends_completion(messages, f.wants_completion, some, before);
         let mut shown = said.sets_locked(f.lock == LEAVES_LOCKED);
         // a pending read is redisplayed as 18 does
-        if (f.lock == REDISPLAY_AFTER) & shown.flow.pending {
-            shown = shown.redisplays(terminal, text, t);
+        if f.lock == REDISPLAY_AFTER {
+            if let Some(r) = shown.flow.pending {
+                shown = shown.redisplays(terminal, r, text, t);
+            }
         }
         shown
     }

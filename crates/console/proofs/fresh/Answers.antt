@@ -1,7 +1,8 @@
-use mathlib.Core.Path.{sym, ◌∙◌}
+use mathlib.Core.Path.{sym, ap, ◌∙◌}
 use native.Mathlib.Omega.{arith}
 use Rattle.rules.specs.State.{fresh_terminal}
 use Rattle.rules.proofs.Numbers.{input_size_lem, type_ahead_size_lem, token_size_lem}
+use Rattle.line.specs.Bounded.{input_len_of}
 use Rattle.console.specs.FreshFlow.{IsFreshFlow}
 use Rattle.console.proofs.FreshLine.{is_fresh}
 use Rattle.console.proofs.fresh.Goals as goal
@@ -11,8 +12,8 @@ unfolding fresh_terminal
 returns c =
     let set = c.universal-set in
     let flow = c.default-3 in
-    let typed = flow.ensures.1.1.0 in
-    let terminal = flow.ensures.1.1.1 in
+    let typed = flow.ensures.1.0 in
+    let terminal = flow.ensures.1.1 in
     let screen = terminal.0 in
     let begun : IsFreshFlow flow.result =
     record {
@@ -26,10 +27,10 @@ returns c =
       };
       keys_length = typed.0;
       token = typed.1.1;
-      pending = flow.ensures.1.0;
+      pending = flow.ensures.0;
       counted = record {
         typed = record { keys_length = omega (arith, typed.0); token = typed.1.0.long ∙ sym token_size_lem; token_length = omega (arith, typed.1.1) };
-        within = omega (arith, flow.ensures.0.1.0);
+        within = omega (arith, ap input_len_of flow.ensures.0);
       };
     } in
     is_fresh _ _ set.result c.default-2.result flow.result begun set.ensures (sym type_ahead_size_lem) (sym input_size_lem) (omega (arith, c.default-2.ensures))

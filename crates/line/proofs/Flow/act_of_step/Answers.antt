@@ -1,4 +1,4 @@
-use mathlib.Core.Path.{◌≡◌, refl, sym, ap, ◌∙◌}
+use mathlib.Core.Path.{◌≡◌, refl, sym, ap, ◌∙◌, subst}
 use Prim.Native.Nat.{ℕ}
 use native.Mathlib.Omega.{arith}
 use mathlib.Core.Bool.{false, not}
@@ -6,17 +6,18 @@ use mathlib.Core.List.{List}
 use borrow.Author.Tests.{eq-eqb}
 use Rattle.rules.specs.State.{codes}
 use Rattle.rules.specs.Turns.{still, only}
-use Rattle.rules.specs.Steps.{takes_first, steps_while, steps}
+use Rattle.rules.specs.Steps.{takes_token, takes_first, steps_while, steps}
 use Rattle.rules.proofs.Choice.{is_empty_nil}
 use Rattle.line.specs.View.{view, reading_of}
 use Rattle.line.specs.With.{on_flow, lent}
 use Rattle.line.specs.declared.Line.{Line}
 use Rattle.line.specs.declared.acts.Act.{Act}
-use Rattle.line.specs.Acts.{CanTakeKey, Meets}
-use Rattle.line.proofs.ActChoice.{met, meets_as, meets_pending, meets_none, meets_first, meets_second, meets_told}
+use Rattle.line.specs.Acts.{CanTakeKey, IsPending, Meets}
+use Rattle.line.specs.ReadChanges.{HasRoom}
+use Rattle.line.proofs.ActChoice.{met, meets_read, meets_as, meets_pending, meets_none, meets_first, meets_second, meets_told}
 use Rattle.line.proofs.KeyArrays.{keys_empty, first_key}
 use Rattle.line.proofs.TokenBytes.{token_short}
-use Rattle.line.proofs.PendingRead.{pending_room}
+use Rattle.line.proofs.PendingRead.{no_read, pending_read, pending_room}
 use Rattle.line.proofs.Flow.act_of_step.Goals as goal
 
 -- a step while the line is not locked
@@ -29,21 +30,23 @@ pub returns-then-known : goal.returns-then-known
 unfolding steps only
 returns-then-known c = record { rule = λ s l bounded held taken. meets_second _ refl (ap not c.if-known.true) (met tt); kind = refl }
 
-pub returns-then-not-pending : goal.returns-then-not-pending
+pub returns-then-is_none : goal.returns-then-is_none
 unfolding steps_while
-returns-then-not-pending c =
-    let self = c.args.self in
-    record { rule = λ s l bounded held taken. meets_unlocked c.if-known.false (meets_none (steps_while codes) c.if-not-pending.true (met tt)); kind = refl }
+returns-then-is_none c =
+    let none = no_read c.args.self.pending (c.is_none.ensures ∙ ap not c.if-is_none.true) in
+    record { rule = λ s l bounded held taken. meets_unlocked c.if-known.false (meets_none (steps_while codes) none (met tt)); kind = refl }
 
 pub returns-then-held : goal.returns-then-held
 unfolding steps_while
 returns-then-held c =
     let a = c.args in
-    let pending = c.if-not-pending.false in record {
+    let found = pending_read a.self.pending (c.is_none.ensures ∙ ap not c.if-is_none.false) in
+    let pending = found.is in record {
       rule = λ s l bounded held taken.
           meets_unlocked c.if-known.false
           (meets_pending (steps_while codes) pending
-          (meets_first _ refl (sym held ∙ c.if-held.true) (met (pending_room (on_flow a.self (lent a.t l.text l)) bounded pending))));
+          (meets_first _ refl (sym held ∙ c.if-held.true) (meets_read (λ q. takes_token codes (reading_of (lent a.t l.text l) q)) pending
+          (met (subst (IsPending (HasRoom a.t)) (sym pending) (pending_room (on_flow a.self (lent a.t l.text l)) bounded pending))))));
       kind = refl;
     }
 
@@ -51,14 +54,15 @@ pub returns-then-waiting-eq0 : goal.returns-then-waiting-eq0
 unfolding steps_while
 returns-then-waiting-eq0 c =
     let a = c.args in
-    let pending = c.if-not-pending.false in record {
+    let found = pending_read a.self.pending (c.is_none.ensures ∙ ap not c.if-is_none.false) in
+    let pending = found.is in record {
       rule = λ s l bounded held taken.
           let line = on_flow a.self (lent a.t l.text l) in
           let none = is_empty_nil _ (keys_empty a.self.typed.keys_len l.keys ∙ eq-eqb _ 0 c.if-waiting-eq0.true) in
           meets_unlocked c.if-known.false
           (meets_pending (steps_while codes) pending
           (meets_second _ refl (sym held ∙ c.if-held.false)
-          (meets_as (ap (λ ks. takes_first codes ks (reading_of line a.self.reading) (view line)) none) (c.act_without_key.ensures.rule s line))));
+          (meets_as (ap (λ ks. takes_first codes ks (reading_of line found.read) (view line)) none) (c.act_without_key.ensures.rule s line found.read pending))));
       kind = c.act_without_key.ensures.kind;
     }
 
@@ -67,11 +71,12 @@ unfolding steps_while takes_first
 returns c =
     let a = c.args in
     let f = a.self in
-    let pending = c.if-not-pending.false in
+    let found = pending_read a.self.pending (c.is_none.ensures ∙ ap not c.if-is_none.false) in
+    let pending = found.is in
     let waiting = f.typed.keys_len in record {
       rule = λ s l bounded held taken.
           let line = on_flow f (lent a.t l.text l) in
-          let can : CanTakeKey f a.t = record {
+          let can : CanTakeKey found.read f a.t = record {
             room = pending_room line bounded pending;
             waits = omega (arith, c.if-waiting-eq0.false);
             short = token_short f.typed c.requires (sym held ∙ c.if-held.false);
@@ -80,6 +85,6 @@ returns c =
           meets_unlocked c.if-known.false
           (meets_pending (steps_while codes) pending
           (meets_second _ refl (sym held ∙ c.if-held.false)
-          (meets_as (ap (λ ks. takes_first codes ks (reading_of line f.reading) (view line)) head) (meets_told _ (taken can)))));
+          (meets_as (ap (λ ks. takes_first codes ks (reading_of line found.read) (view line)) head) (meets_told _ (taken found.read pending can)))));
       kind = refl;
     }

@@ -16,12 +16,12 @@ returns c =
     let a = c.args in
     λ s l bounded first set.
     let line = on_flow a.self (lent a.t l.text l) in
-    let raised = c.raised_by-raised.ensures l.text l a.self.reading in
-    let ends = c.has-ends.ensures ∙ ap (λ x. in_set (set_of x) c.raised_by-raised.result) set ∙ ap (in_set (set_of l.set)) raised in
+    let ends = c.has-ends.ensures ∙ ap (λ x. in_set (set_of x) c.raised_by-raised.result) set in
     let taken = c.taken_as in
     record {
       bounded = bounded;
       held = c.is_held.ensures;
-      taken = λ can.
-          subst (λ k. Meets (takes_key line then steps.takes codes (key_of k) (idle_at_zero line)) s line (Takes taken.result)) first (taken.ensures s l can ends);
+      taken = λ r pending can.
+          subst (λ k. Meets (takes_key line r then steps.takes codes (key_of k) (idle_at_zero line r)) s line (Takes taken.result)) first
+          (taken.ensures s l r pending can (ends ∙ ap (in_set (set_of l.set)) (c.raised_by-raised.ensures l.text l r)));
     }

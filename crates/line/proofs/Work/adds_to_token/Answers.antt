@@ -1,14 +1,11 @@
-use mathlib.Core.Path.{refl, sym, ap, ◌∙◌, subst}
+use mathlib.Core.Path.{refl, sym, ap, ◌∙◌}
 use Rattle.rules.specs.Token.{is_whole}
-use Rattle.rules.specs.State.{codes}
-use Rattle.rules.specs.Steps.{takes_token, adds_to_token}
-use Rattle.line.specs.View.{reading_of}
-use Rattle.line.specs.ReadChanges.{HasRoom}
+use Rattle.rules.specs.Steps.{adds_to_token}
 use Rattle.line.specs.TokenChanges.{codes_of}
 use Rattle.line.specs.With.{lent}
 use Rattle.line.proofs.Turns.{told_does, then_does}
 use Rattle.line.proofs.TokenBytes.{grown_counted}
-use Rattle.line.proofs.FlowChanges.{for_equal, here_only, here_not, tokened_does}
+use Rattle.line.proofs.FlowChanges.{here_only, here_not, tokened_does}
 use Rattle.line.proofs.Work.adds_to_token.Goals as goal
 
 pub tokened-next-requires : goal.tokened-next-requires
@@ -20,8 +17,7 @@ is_held-requires c =
 
 pub takes_token-requires : goal.takes_token-requires
 takes_token-requires c =
-    let ready = c.with_typed-ready.ensures in
-    record { has_room = subst (λ f. HasRoom c.args.t f.reading) (sym ready.flow) c.requires.has_room }
+    record { has_room = c.requires.has_room }
 
 pub returns-then-is_held : goal.returns-then-is_held
 unfolding adds_to_token
@@ -33,7 +29,7 @@ returns-then-is_held c =
       rule = λ l x.
           told_does _
           (then_does (tokened_does a.self ready a.c c.args.self.counted.typed c.requires.token_len_bound c.tokened-next.ensures (lent a.t a.text.now l) x _)
-          (here_only _ refl whole (for_equal (takes_token codes) (ap (λ f. reading_of (lent a.t a.text.now l) f.reading) ready.flow) (taken.rule l x))));
+          (here_only _ refl whole (taken.rule l x)));
     }
 
 pub returns : goal.returns

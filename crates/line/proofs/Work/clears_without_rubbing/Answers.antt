@@ -1,4 +1,3 @@
-use Rattle.line.specs.View.{reading_of}
 use Rattle.line.specs.With.{lent}
 use Rattle.rules.specs.State.{codes}
 use Rattle.rules.specs.Arrival.{without_rubbing, clears_input}
@@ -7,15 +6,15 @@ use Rattle.line.proofs.Turns.{still_does}
 use Rattle.line.proofs.ArrivalLaws.{pending_does, idle_does}
 use Rattle.line.proofs.Work.clears_without_rubbing.Goals as goal
 
-pub returns-then-flow : goal.returns-then-flow
+pub returns-in-Some : goal.returns-in-Some
 unfolding clears_input
-returns-then-flow c =
+returns-in-Some c =
     let a = c.args in
     let deleted = c.deletes_without_rubbing.ensures in
-    record { rule = λ text l x m. pending_does (clears_input codes without_rubbing) (reading_of (lent a.t text l) a.self.flow.reading) c.if-flow.true (deleted.rule cleared text l x m) }
+    record { rule = λ text l x m. pending_does (clears_input codes without_rubbing) (lent a.t text l) c.in-Some.is (deleted.rule cleared text l x m) }
 
 pub returns : goal.returns
 unfolding clears_input
 returns c =
     let a = c.args in
-    record { rule = λ text l x m. idle_does (clears_input codes without_rubbing) (reading_of (lent a.t text l) a.self.flow.reading) c.if-flow.false (still_does _ x m) }
+    record { rule = λ text l x m. idle_does (clears_input codes without_rubbing) (lent a.t text l) c.in_default.is (still_does _ x m) }

@@ -6,14 +6,14 @@ use Rattle.line.proofs.LentText.{lent_reading}
 use Rattle.line.proofs.Work.deletes.Goals as goal
 
 pub find_marks-found-requires : goal.find_marks-found-requires
-find_marks-found-requires c = lent_reading c.args.text.now c.told-text c.args.self.flow.reading c.args.self.counted.within
+find_marks-found-requires c = lent_reading c.args.text.now c.told-text c.args.r c.requires.input_len_bound
 
 pub in_one_pass-requires : goal.in_one_pass-requires
 in_one_pass-requires c = λ l. (c.find_marks-found.ensures l).once
 
 pub deletes_without_rubbing-requires : goal.deletes_without_rubbing-requires
 deletes_without_rubbing-requires c =
-    record { input_len_bound = c.args.self.counted.within; left_bound = c.requires.left_bound }
+    record { input_len_bound = c.requires.input_len_bound; left_bound = c.requires.left_bound }
 
 pub returns : goal.returns
 unfolding deletes

@@ -16,7 +16,7 @@ slice_bounds-push_all-end c = token-length c.args.self.flow.typed c.args.self.co
 pub push_all-next-requires : goal.push_all-next-requires
 push_all-next-requires c =
     let long = token-length c.args.self.flow.typed c.args.self.counted.typed in
-    record { counted_reading = lent_reading c.args.text.now c.told-text c.args.self.flow.reading (omega (arith, c.requires.prompt_len_bound)); cs_bound = omega (arith, c.requires.prompt_len_bound) }
+    record { counted_reading = lent_reading c.args.text.now c.told-text c.args.r (omega (arith, c.requires.prompt_len_bound)); cs_bound = omega (arith, c.requires.prompt_len_bound) }
 
 pub token_completion-by-requires : goal.token_completion-by-requires
 token_completion-by-requires c = c.args.self.counted.typed

@@ -4,7 +4,7 @@ use Rattle.line.proofs.Turns.{then_does}
 use Rattle.line.proofs.Work.redisplays.Goals as goal
 
 pub displays-requires : goal.displays-requires
-displays-requires c = record { input_len_bound = c.args.self.counted.within; prompt_len_bound = c.requires.prompt_len_bound }
+displays-requires c = record { input_len_bound = c.requires.input_len_bound; prompt_len_bound = c.requires.prompt_len_bound }
 
 pub returns : goal.returns
 unfolding redisplays

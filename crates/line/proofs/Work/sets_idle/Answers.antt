@@ -6,7 +6,5 @@ use Rattle.line.proofs.Work.sets_idle.Goals as goal
 pub returns : goal.returns
 unfolding sets_idle
 returns c =
-    let self = c.args.self in
-    let r = self.flow.reading in
     let next = c.with_idle-next in
-    let read = c.with_read.ensures in record { rule = λ l x m. read_does self next.result read l (idle_same r next.ensures l) x m }
+    let read = c.with_read.ensures in record { rule = λ l x m. read_does c.args.self next.result read l (idle_same c.args.r next.ensures l) x m }

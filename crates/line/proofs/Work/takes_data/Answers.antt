@@ -18,7 +18,7 @@ use Rattle.line.proofs.Work.takes_data.Goals as goal
 use Rattle.line.proofs.Work.takes_data.Goals.{After-end, then-t, else-t}
 
 pub push-next-requires : goal.push-next-requires
-push-next-requires c = let pre = c.requires in record { counted_reading = room_reading c.args.text.now c.told-text c.args.t c.args.self.flow.reading pre.has_room; input_len_bound = omega (arith, pre.has_room.room, pre.has_room.largest) }
+push-next-requires c = let pre = c.requires in record { counted_reading = room_reading c.args.text.now c.told-text c.args.t c.args.r pre.has_room; input_len_bound = omega (arith, pre.has_room.room, pre.has_room.largest) }
 
 pub overflow_add-end : goal.overflow_add-end
 overflow_add-end c = let room = c.requires.has_room in omega (arith, c.end.ensures, room.room, room.largest, input_word)
@@ -50,7 +50,7 @@ returns-then-end-t c =
     let done = c.completes.ensures in record {
       rule = λ l.
           let same = next.ensures.same a.t l (omega (arith, room.room, room.largest, room.prompt)) in
-          let full = eq-eqb _ _ (ap (λ n. n + 1) (sym (end_is a.t text l a.self.flow.reading (room_reading c.args.text.now c.told-text c.args.t c.args.self.flow.reading c.requires.has_room))) ∙ ap (λ n. n + 1) (sym c.end.ensures) ∙ c.if-end-t.true) in
+          let full = eq-eqb _ _ (ap (λ n. n + 1) (sym (end_is a.t text l a.r (room_reading c.args.text.now c.told-text c.args.t c.args.r c.requires.has_room))) ∙ ap (λ n. n + 1) (sym c.end.ensures) ∙ c.if-end-t.true) in
           let line = lent a.t _ l in
           then_does (text_does a.self next.result c.with_read-shown.ensures a.t text _ l same _ _)
           (then_does (echoed (goal.at.returns-then-end-t c).After-end l _) (only_does _ full (completes_as refl refl same (done.rule line l _))));
@@ -66,7 +66,7 @@ returns c =
     record {
       rule = λ l.
           let same = next.ensures.same a.t l (omega (arith, room.room, room.largest, room.prompt)) in
-          let end = end_is a.t text l a.self.flow.reading (room_reading c.args.text.now c.told-text c.args.t c.args.self.flow.reading c.requires.has_room) in
+          let end = end_is a.t text l a.r (room_reading c.args.text.now c.told-text c.args.t c.args.r c.requires.has_room) in
           let more = ne_eqb _ _ (λ e. c.if-end-t.false (ap (λ n. n + 1) (c.end.ensures ∙ end) ∙ e)) in
           then_does (text_does a.self next.result c.with_read-shown.ensures a.t text _ l same _ _)
           (then_does (echoed (goal.at.returns c).After-end l _) (not_does _ more (still_does _ _ _)));

@@ -32,8 +32,8 @@ returns-then-end-typed c =
     let long = token_counted typed c.args.self.counted.typed in
     let ended = c.ends_by_token.ensures in record {
       rule = λ l x.
-          let is = end_is a.t a.text.now l a.self.flow.reading (room_reading c.args.text.now c.told-text c.args.t c.args.self.flow.reading c.requires.has_room) in
-          let fits : end_of (reading_of (lent a.t a.text.now l) a.self.flow.reading) + length (token_of typed) ≤ a.t.max_length =
+          let is = end_is a.t a.text.now l a.r (room_reading c.args.text.now c.told-text c.args.t c.args.r c.requires.has_room) in
+          let fits : end_of (reading_of (lent a.t a.text.now l) a.r) + length (token_of typed) ≤ a.t.max_length =
           omega (arith, c.end.ensures, c.if-end-typed.true) in
           here_first _ refl (le-leb _ _ fits) (ended.rule l x);
     }
@@ -50,7 +50,7 @@ returns c =
     let done = c.completes.ensures in record {
       rule = λ l x.
           let line = lent a.t a.text.now l in
-          let is = end_is a.t a.text.now l a.self.flow.reading (room_reading c.args.text.now c.told-text c.args.t c.args.self.flow.reading c.requires.has_room) in
-          let fits = lt-leb (end_of (reading_of line a.self.flow.reading) + length (token_of typed)) a.t.max_length (omega (arith, c.end.ensures, c.if-end-typed.false)) in
+          let is = end_is a.t a.text.now l a.r (room_reading c.args.text.now c.told-text c.args.t c.args.r c.requires.has_room) in
+          let fits = lt-leb (end_of (reading_of line a.r) + length (token_of typed)) a.t.max_length (omega (arith, c.end.ensures, c.if-end-typed.false)) in
           here_second _ refl fits (done.rule line l x);
     }

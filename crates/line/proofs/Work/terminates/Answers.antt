@@ -11,7 +11,7 @@ use Rattle.line.proofs.Work.terminates.Goals as goal
 use Rattle.line.proofs.Work.terminates.Goals.{then-t, else-t}
 
 pub push-next-requires : goal.push-next-requires
-push-next-requires c = let pre = c.requires in record { counted_reading = room_reading c.args.text.now c.told-text c.args.t c.args.self.flow.reading pre.has_room; input_len_bound = omega (arith, pre.has_room.room, pre.has_room.largest) }
+push-next-requires c = let pre = c.requires in record { counted_reading = room_reading c.args.text.now c.told-text c.args.t c.args.r pre.has_room; input_len_bound = omega (arith, pre.has_room.room, pre.has_room.largest) }
 
 pub completes-requires : goal.completes-requires
 completes-requires c =

@@ -1,13 +1,12 @@
-use borrow.Author.Tests.{not-true, not-false}
 use Rattle.line.specs.With.{lent}
 use Rattle.line.specs.Promise.{on}
 use Rattle.line.proofs.Unread.{unreads_none, unreads_now, unreads_not}
 use Rattle.line.proofs.LentText.{text_full}
 use Rattle.line.proofs.Work.unreads.Goals as goal
 
-pub returns-then-not-flow : goal.returns-then-not-flow
-returns-then-not-flow c =
-    let a = c.args in record { rule = λ l x. unreads_none (on (lent a.t a.text.now l) a.self) a.condition x _ (not-true a.self.flow.pending c.if-not-flow.true) }
+pub returns-in_default : goal.returns-in_default
+returns-in_default c =
+    let a = c.args in record { rule = λ l x. unreads_none (on (lent a.t a.text.now l) a.self) a.condition x _ c.in_default.is }
 
 pub returns-then-condition-nothing : goal.returns-then-condition-nothing
 returns-then-condition-nothing c =
@@ -15,14 +14,12 @@ returns-then-condition-nothing c =
     let done = c.completes.ensures in record {
       rule = λ l x.
           let line = lent a.t a.text.now l in
-          let pending = not-false a.self.flow.pending c.if-not-flow.false in
-          unreads_now (on line a.self) a.condition pending c.args.self.counted (text_full c.args.text.now c.told-text) c.if-condition-nothing.true (done.rule line l x);
+          unreads_now (on line a.self) a.condition c.in-Some.is c.args.self.counted (text_full c.args.text.now c.told-text) c.if-condition-nothing.true (done.rule line l x);
     }
 
 pub returns : goal.returns
 returns c =
     let a = c.args in record {
       rule = λ l x.
-          let pending = not-false a.self.flow.pending c.if-not-flow.false in
-          unreads_not (on (lent a.t a.text.now l) a.self) a.condition pending c.args.self.counted (text_full c.args.text.now c.told-text) x _ c.if-condition-nothing.false;
+          unreads_not (on (lent a.t a.text.now l) a.self) a.condition c.in-Some.is c.args.self.counted (text_full c.args.text.now c.told-text) x _ c.if-condition-nothing.false;
     }

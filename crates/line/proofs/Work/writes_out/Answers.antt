@@ -9,12 +9,16 @@ use Rattle.line.specs.declared.Line.{Line}
 use Rattle.rules.specs.State.{codes}
 use Prim.Native.Nat.{ℕ}
 use mathlib.Core.List.{List}
-use Rattle.line.proofs.WriteLaws.{redisplays_now, redisplays_not}
+use borrow.Author.Tests.{eq-eqb, ne_eqb}
+use Rattle.line.proofs.PendingRead.{pending_within}
+use Rattle.line.proofs.WriteLaws.{redisplays_now, redisplays_none, redisplays_not}
 use Rattle.line.proofs.Work.writes_out.Goals as goal
 use Rattle.line.proofs.Work.writes_out.Goals.{After-sets_locked-shown}
 
 pub redisplays-shown-requires : goal.redisplays-shown-requires
-redisplays-shown-requires c = record { prompt_len_bound = c.requires.prompt_len_bound }
+redisplays-shown-requires c =
+    let locked = c.sets_locked-shown.result in
+    record { input_len_bound = pending_within locked.flow locked.counted c.in-Some.is; prompt_len_bound = c.requires.prompt_len_bound }
 
 -- all but what is asked of a pending read
 written : (c : After-sets_locked-shown) (l : Line) {r : Progress} {t' : List ℕ} →
@@ -34,15 +38,21 @@ written c l shown =
     (then_does (c.sends_completion-said.ensures.rule (write_in a.s.now a.f) _ some refl line _)
     (then_does (c.sets_locked-shown.ensures.rule line _ _) shown))))
 
-pub returns-then-f-shown : goal.returns-then-f-shown
-returns-then-f-shown c =
+pub returns-in-Some : goal.returns-in-Some
+returns-in-Some c =
     let a = c.args in
     let locked = c.sets_locked-shown.result in
     let shown = c.redisplays-shown.ensures in
-    record { rule = λ l. written (goal.at.returns-then-f-shown c).After-sets_locked-shown l (redisplays_now (on (lent a.t a.text.now l) locked) a.f.lock c.if-f-shown.true (shown.rule l _)) }
+    record { rule = λ l. written (goal.at.returns-in-Some c).After-sets_locked-shown l (redisplays_now (on (lent a.t a.text.now l) locked) a.f.lock (eq-eqb _ _ c.if-f-eq-REDISPLAY_AFTER.true) c.in-Some.is (shown.rule l _)) }
 
-pub returns-else-f-shown : goal.returns-else-f-shown
-returns-else-f-shown c =
+pub returns-in_default : goal.returns-in_default
+returns-in_default c =
     let a = c.args in
     let locked = c.sets_locked-shown.result in
-    record { rule = λ l. written (goal.at.returns-else-f-shown c).After-sets_locked-shown l (redisplays_not (on (lent a.t a.text.now l) locked) a.f.lock _ _ c.if-f-shown.false) }
+    record { rule = λ l. written (goal.at.returns-in_default c).After-sets_locked-shown l (redisplays_none (on (lent a.t a.text.now l) locked) a.f.lock (eq-eqb _ _ c.if-f-eq-REDISPLAY_AFTER.true) _ _ c.in_default.is) }
+
+pub returns-else-f-eq-REDISPLAY_AFTER : goal.returns-else-f-eq-REDISPLAY_AFTER
+returns-else-f-eq-REDISPLAY_AFTER c =
+    let a = c.args in
+    let locked = c.sets_locked-shown.result in
+    record { rule = λ l. written (goal.at.returns-else-f-eq-REDISPLAY_AFTER c).After-sets_locked-shown l (redisplays_not (on (lent a.t a.text.now l) locked) a.f.lock _ _ (ne_eqb _ _ c.if-f-eq-REDISPLAY_AFTER.false)) }
