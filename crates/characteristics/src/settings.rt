@@ -53,7 +53,8 @@ impl Switches {
 impl Host {
     // One parameter of a Characteristics message, wherever it stood.
     fn with_setting(self, p: Parameter) -> Host
-        ensures same { (at : ℕ) (s : List ℕ) → ParameterIs characteristics at s p → host_view result ≡ with_parameter (used_at characteristics at s) (host_view self) }
+        ensures same { (at : ℕ) (s : List ℕ) → ParameterIs characteristics at s p →
+            host_view result ≡ with_parameter (used_at characteristics at s) (host_view self) }
         ensures kept { KeepsSettings self result }
     {
         if p.selector == selectors::CHARACTER_ATTRIBUTES {
@@ -66,7 +67,8 @@ impl Host {
 
     // All parameters of a Characteristics message, in order.
     pub fn with_settings(self, list: &[u8]) -> Host
-        ensures { (host_view result ≡ with_parameters (parameters_from characteristics 0 list.now) (host_view self)) × KeepsSettings self result }
+        ensures { (host_view result ≡ with_parameters (parameters_from characteristics 0 list.now) (host_view self)) ×
+            KeepsSettings self result }
     {
         let mut host = self;
         for p in Parameters::new(rules::CHARACTERISTICS, list) {

@@ -125,7 +125,8 @@ impl Work {
     // A pending read's input goes, without rubbing out.
     fn clears_without_rubbing(self, t: Terms) -> Work
         ensures rule { (text : List ℕ) (l : Line) (a m : List ℕ) →
-            DoesOn (λ k. rules.clears_input codes rules.without_rubbing (pending_of k self.flow.pending)) (lent t text l) self a m result a m }
+            DoesOn (λ k. rules.clears_input codes rules.without_rubbing (pending_of k self.flow.pending)) (lent t text l) self a
+            m result a m }
     {
         if let Some(r) = self.flow.pending {
             return self.deletes_without_rubbing(0, r, t);

@@ -96,7 +96,8 @@ impl Work {
         requires input_len_bound { r.input_len ≤ input_size }
         requires ending_bound { ending ≤ r.input_len }
         ensures rule { (k l : Line) (a : List ℕ) →
-            Does (rules.sends_read_data codes (code_of by) ending (reading_of (lent t text.now l) r)) (on k self) a messages.old (on k result) a
+            Does (rules.sends_read_data codes (code_of by) ending (reading_of (lent t text.now l) r)) (on k self) a messages.old
+            (on k result) a
             messages.new }
     {
         let message = self.read_data_of(by, ending, r, t);

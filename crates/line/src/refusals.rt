@@ -118,7 +118,8 @@ impl Line {
 
     // A Start Read that was read asks for no more than this line's largest read.
     fn passes_test(self, m: HostMessage) -> bool
-        ensures { (s : List ℕ) (x : forms.Message ℕ) → held_in s (message_of m) ≡ codec.message x → defined_fields x ≡ true → result ≡ rules.passes_test (view self) x }
+        ensures { (s : List ℕ) (x : forms.Message ℕ) → held_in s (message_of m) ≡ codec.message x → defined_fields x ≡ true →
+            result ≡ rules.passes_test (view self) x }
     {
         match m {
             HostMessage::StartRead(f) => f.max_length <= self.largest_read,
@@ -151,7 +152,8 @@ impl Line {
     // The row that applies to a message that was read.
     pub(crate) fn late_row(self, m: HostMessage, s: &[u8]) -> Result<(), Refusal>
         requires { Counted self }
-        ensures { (x : forms.Message ℕ) → held_in s.now (message_of m) ≡ codec.message x → defined_fields x ≡ true → answered result ≡ late_row (view self) x }
+        ensures { (x : forms.Message ℕ) → held_in s.now (message_of m) ≡ codec.message x → defined_fields x ≡ true →
+            answered result ≡ late_row (view self) x }
     {
         row(Refusal::Unsound, self.passes_test(m))?;
         row(Refusal::NotCarried, self.carries(m, s))

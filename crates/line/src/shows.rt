@@ -66,7 +66,8 @@ impl Work {
     // A terminator's echo.
     pub(crate) fn echo_terminator(self, terminal: &mut [u8], n: u8) -> Work
         ensures rule { (l : Line) (m : List ℕ) →
-            Does (writes (rules.echo_terminator self.flow.terminal.screen.column n)) (on l self) terminal.old m (on l result) terminal.new m }
+            Does (writes (rules.echo_terminator self.flow.terminal.screen.column n)) (on l self) terminal.old m (on l result)
+            terminal.new m }
     {
         let mut display = self.display(terminal);
         display.echo_terminator(n);
@@ -86,7 +87,8 @@ impl Work {
 
     // Blanks over so many marks.
     pub(crate) fn rub_out(self, terminal: &mut [u8], marks: usize) -> Work
-        ensures rule { (l : Line) (m : List ℕ) → Does (writes (rules.rub_out marks)) (on l self) terminal.old m (on l result) terminal.new m }
+        ensures rule { (l : Line) (m : List ℕ) →
+            Does (writes (rules.rub_out marks)) (on l self) terminal.old m (on l result) terminal.new m }
     {
         let mut display = self.display(terminal);
         display.rub_out(marks);

@@ -83,7 +83,8 @@ impl Work {
     ) -> Work
         requires has_room { HasRoom t r }
         requires token_len_bound { self.flow.typed.token_len < token_size }
-        ensures rule { (l : Line) (a : List ℕ) → DoesAcross (λ k. rules.adds_to_token codes c (reading_of k r)) (lent t text.old l) self a messages.old
+        ensures rule { (l : Line) (a : List ℕ) →
+            DoesAcross (λ k. rules.adds_to_token codes c (reading_of k r)) (lent t text.old l) self a messages.old
             (lent t text.new l) result a messages.new }
     {
         let typed = self.flow.typed;

@@ -27,8 +27,10 @@ use sets::Set;
 impl Terms {
     // Rules 5, 6 and 7, after raising; `ends`: the code is in the termination set.
     fn takes_plain(self, c: u8, ends: bool) -> Taken
-        ensures { (s : List ℕ) (l : Line) (r : Reading) → l.flow.pending ≡ Some r → CanTakeKey r l.flow self → ends ≡ in_set (set_of l.set) c →
-            Meets (takes_key (lent self l.text l) r then rules.takes_plain codes c (idle_at_zero (lent self l.text l) r)) s (lent self l.text l) (Takes result) }
+        ensures { (s : List ℕ) (l : Line) (r : Reading) → l.flow.pending ≡ Some r → CanTakeKey r l.flow self →
+            ends ≡ in_set (set_of l.set) c →
+            Meets (takes_key (lent self l.text l) r then rules.takes_plain codes c (idle_at_zero (lent self l.text l) r)) s
+            (lent self l.text l) (Takes result) }
     {
         if ends {
             return Taken::Terminator(c);
@@ -58,7 +60,8 @@ impl Flow {
         requires { CountedTyped self.typed }
         ensures { (s : List ℕ) (l : Line) (r : Reading) → self.pending ≡ Some r → CanTakeKey r self t →
             ends ≡ in_set (set_of l.set) (rules.raised_by codes (reading_of (lent t l.text l) r) (key_of key).char) →
-            Meets (takes_key (on_flow self (lent t l.text l)) r then rules.takes codes (key_of key) (idle_at_zero (on_flow self (lent t l.text l)) r)) s
+            Meets (takes_key (on_flow self (lent t l.text l)) r then rules.takes codes (key_of key)
+            (idle_at_zero (on_flow self (lent t l.text l)) r)) s
             (on_flow self (lent t l.text l)) (Takes result) }
     {
         let typed = self.typed;
@@ -119,7 +122,8 @@ impl Flow {
     // Idle rises by one; at TIMEOUT the read completes.
     fn act_of_idling(self, r: Reading, t: Terms) -> Act
         requires { self.pending ≡ Some r }
-        ensures rule { (s : List ℕ) (l : Line) → Meets (rules.idles codes (reading_of (lent t l.text l) r)) s (on_flow self (lent t l.text l)) result }
+        ensures rule { (s : List ℕ) (l : Line) →
+            Meets (rules.idles codes (reading_of (lent t l.text l) r)) s (on_flow self (lent t l.text l)) result }
         ensures kind { (event_kinds_of result).tick ≡ true }
     {
         let idle = r.idle as u32 + 1;
@@ -172,7 +176,8 @@ impl Work {
     ) -> Work
         requires can_take_key { CanTakeKey r self.flow t }
         ensures rule { (l : Line) → length l.keys ≡ type_ahead_size →
-            DoesAcross (λ j. takes_key (on_flow self.flow j) r then taken_rule k (idle_at_zero (on_flow self.flow j) r)) (lent t text.old l) self
+            DoesAcross (λ j. takes_key (on_flow self.flow j) r then taken_rule k (idle_at_zero (on_flow self.flow j) r))
+            (lent t text.old l) self
             terminal.old messages.old (lent t text.new (shifted self.flow l)) result terminal.new messages.new }
     {
         let read = r.with_idle(0);
