@@ -10,7 +10,9 @@ use Rattle.rules.specs.State.{State, codes, with_terminal, with_screen}
 use Rattle.rules.specs.Turns.{Fate, Turn, Rule, still, writes, tells, changes, behind, ◌then◌, only}
 use Rattle.rules.specs.Calls.{message_bytes}
 use Rattle.rules.specs.Area.{puts, spot}
-use Rattle.screen.specs.declared.display.Display.{Display}
+use Rattle.areas.specs.declared.Writer.{Writer}
+use Rattle.areas.specs.Writes.{Writes}
+use Rattle.screen.specs.declared.Screen.{Screen}
 use Rattle.screen.specs.View.{Shows}
 use lib.ListN.{length}
 use Rattle.rules.proofs.Area.{puts_append}
@@ -18,7 +20,7 @@ use Rattle.line.specs.declared.Line.{Line}
 use Rattle.line.specs.declared.Flow.{Flow}
 use Rattle.line.specs.declared.Work.{Work}
 use Rattle.line.specs.View.{view, terminal_of}
-use Rattle.line.specs.With.{Has, AfterShown, display_of, on_flow}
+use Rattle.line.specs.With.{Has, AfterShown, writer_of, on_flow}
 use Rattle.line.specs.Promise.{Progress, on, Does}
 use Rattle.line.proofs.Answers.{under_way}
 
@@ -54,22 +56,19 @@ pub has_does : {p : Rule ℕ} {q : Progress} {t t' m m' : List ℕ} {f : Flow} {
 has_does {p} {q} {t} {t'} {m} {m'} h l d =
     subst (λ r. Does p q t m r t' m') (λ i. under_way (on_flow (sym h.flow i) l) (sym h.at i) (sym h.sent i)) d
 
--- what was shown, bytes that go by the column they begin at, as a rule
-module _ (w : Work) (bytes : ℕ → List ℕ) {area : MutBor (List ℕ)} {old new : Display} {t : List ℕ}
-    (e : old ≡ display_of area w) (h : Shows (bytes old.screen.column) old new) (last : new.area.now ≡ t) where
-  abbrev shown_bytes : List ℕ
-  shown_bytes = bytes w.flow.terminal.screen.column
-
-  pub writes_does : {r : Work} → AfterShown new.at new.screen w r → (l : Line) (m : List ℕ) → Does (writes shown_bytes) (on l w) area.now m (on l r) t m
+-- what was shown, as a rule
+module _ (w : Work) {bytes : List ℕ} {area : MutBor (List ℕ)} {new : Screen} {before after : Writer} {t : List ℕ}
+    (e : before ≡ writer_of area w) (h : Shows bytes w.flow.terminal.screen new before after) (last : after.area.now ≡ t) where
+  pub writes_does : {r : Work} → AfterShown after.at new w r → (l : Line) (m : List ℕ) → Does (writes bytes) (on l w) area.now m (on l r) t m
   unfolding writes message_bytes joined puts
-  writes_does after l m =
-      let shown : Shows shown_bytes (display_of area w) new = rw e at h in
-      has_does after l
+  writes_does shown l m =
+      let written : Writes bytes (writer_of area w) after = rw e at h.writes in
+      has_does shown l
       (record {
-        state = λ i. with_terminal (with_screen (shown.screen i) (terminal_of w.flow.terminal)) (view (on_flow w.flow l));
-        shows = ap (λ l. spot l new.at) (sym last) ∙ shown.area;
+        state = λ i. with_terminal (with_screen (h.screen i) (terminal_of w.flow.terminal)) (view (on_flow w.flow l));
+        shows = ap (λ l. spot l after.at) (sym last) ∙ written.puts.area;
         sends = refl;
-        terminal_length = ap length (sym last) ∙ shown.same;
+        terminal_length = ap length (sym last) ∙ written.puts.same;
         messages_length = refl;
       })
 

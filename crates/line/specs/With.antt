@@ -2,7 +2,7 @@
 use Rattle.std.specs.Prelude.{◌≡◌, ℕ, List, Some, None}
 use Rattle.std.specs.Borrow.{MutBor}
 use Rattle.screen.specs.declared.Screen.{Screen}
-use Rattle.screen.specs.declared.display.Display.{Display}
+use Rattle.areas.specs.declared.Writer.{Writer}
 use Rattle.line.specs.declared.Terminal.{Terminal}
 use Rattle.line.specs.declared.Terms.{Terms}
 use Rattle.line.specs.declared.Reading.{Reading}
@@ -36,9 +36,9 @@ on_read r f = record { terminal = f.terminal; typed = f.typed; pending = Some r 
 abbrev pub off_read : Flow → Flow
 off_read f = record { terminal = f.terminal; typed = f.typed; pending = None }
 
--- the terminal's area from a call's place on, with its screen
-abbrev pub display_of : MutBor (List ℕ) → Work → Display
-display_of area w = record { area = area; at = w.at; screen = w.flow.terminal.screen }
+-- a writer into the terminal's area from a call's place on
+abbrev pub writer_of : MutBor (List ℕ) → Work → Writer
+writer_of area w = record { area = area; at = w.at }
 
 -- what a call on its way then has: this flow, and these next places in the areas
 pub record Has (f : Flow) (a s : ℕ) (w : Work) : Type 0 where

@@ -2,23 +2,22 @@
 ghost use Rattle.std.specs.Prelude.{ℕ, List, [], ◌∷◌, ◌≡◌};
 ghost use Rattle.rules.specs.Screen as rules;
 ghost use Rattle.rules.specs.Turns.{writes};
-ghost use Rattle.line.specs.With.{display_of, AfterShown};
+ghost use Rattle.line.specs.With.{writer_of, AfterShown};
 ghost use Rattle.line.specs.declared.Line.{Line};
 ghost use Rattle.line.specs.Promise.{on, Does};
 
 use crate::Work;
+use areas::Writer;
 use screen::Screen;
-use screen::display::Display;
 
 impl Work {
-    // The terminal's area from here on, with the screen as it is.
-    fn display<'a>(self, terminal: &'a mut [u8]) -> Display<'a>
-        ensures { result ≡ display_of terminal.entry self }
+    // A writer into the terminal's area from here on.
+    fn writer<'a>(self, terminal: &'a mut [u8]) -> Writer<'a>
+        ensures { result ≡ writer_of terminal.entry self }
     {
-        Display {
+        Writer {
             area: terminal,
             at: self.at,
-            screen: self.flow.terminal.screen,
         }
     }
 
@@ -39,18 +38,20 @@ impl Work {
     pub(crate) fn write(self, terminal: &mut [u8], text: &[u8]) -> Work
         ensures rule { (l : Line) (m : List ℕ) → Does (writes text.now) (on l self) terminal.old m (on l result) terminal.new m }
     {
-        let mut display = self.display(terminal);
-        display.write(text);
-        self.showing(display.at, display.screen)
+        let mut writer = self.writer(terminal);
+        let mut screen = self.flow.terminal.screen;
+        screen.write(text, &mut writer);
+        self.showing(writer.at, screen)
     }
 
     // One byte.
     pub(crate) fn put(self, terminal: &mut [u8], b: u8) -> Work
         ensures rule { (l : Line) (m : List ℕ) → Does (writes (b ∷ [])) (on l self) terminal.old m (on l result) terminal.new m }
     {
-        let mut display = self.display(terminal);
-        display.put(b);
-        self.showing(display.at, display.screen)
+        let mut writer = self.writer(terminal);
+        let mut screen = self.flow.terminal.screen;
+        screen.put(b, &mut writer);
+        self.showing(writer.at, screen)
     }
 
     // A character's echo.
@@ -58,9 +59,10 @@ impl Work {
         ensures rule { (l : Line) (m : List ℕ) →
             Does (writes (rules.echo self.flow.terminal.screen.column n)) (on l self) terminal.old m (on l result) terminal.new m }
     {
-        let mut display = self.display(terminal);
-        display.echo(n);
-        self.showing(display.at, display.screen)
+        let mut writer = self.writer(terminal);
+        let mut screen = self.flow.terminal.screen;
+        screen.echo(n, &mut writer);
+        self.showing(writer.at, screen)
     }
 
     // A terminator's echo.
@@ -69,9 +71,10 @@ impl Work {
             Does (writes (rules.echo_terminator self.flow.terminal.screen.column n)) (on l self) terminal.old m (on l result)
             terminal.new m }
     {
-        let mut display = self.display(terminal);
-        display.echo_terminator(n);
-        self.showing(display.at, display.screen)
+        let mut writer = self.writer(terminal);
+        let mut screen = self.flow.terminal.screen;
+        screen.echo_terminator(n, &mut writer);
+        self.showing(writer.at, screen)
     }
 
     // A text's echo.
@@ -80,9 +83,10 @@ impl Work {
             Does (writes (rules.echo_all self.flow.terminal.screen.column text.now)) (on l self) terminal.old m (on l result)
             terminal.new m }
     {
-        let mut display = self.display(terminal);
-        display.echo_all(text);
-        self.showing(display.at, display.screen)
+        let mut writer = self.writer(terminal);
+        let mut screen = self.flow.terminal.screen;
+        screen.echo_all(text, &mut writer);
+        self.showing(writer.at, screen)
     }
 
     // Blanks over so many marks.
@@ -90,8 +94,9 @@ impl Work {
         ensures rule { (l : Line) (m : List ℕ) →
             Does (writes (rules.rub_out marks)) (on l self) terminal.old m (on l result) terminal.new m }
     {
-        let mut display = self.display(terminal);
-        display.rub_out(marks);
-        self.showing(display.at, display.screen)
+        let mut writer = self.writer(terminal);
+        let mut screen = self.flow.terminal.screen;
+        screen.rub_out(marks, &mut writer);
+        self.showing(writer.at, screen)
     }
 }

@@ -3,7 +3,7 @@
 #![tactic(auto)]
 
 pub mod columns;
-pub mod display;
+mod display;
 mod echo;
 pub mod rub;
 

@@ -1,9 +1,6 @@
-use Rattle.std.proofs.Common.{rules, ℕ}
-use Rattle.rules.specs.Screen.{echo_terminator}
+use Rattle.std.proofs.Common.{rules}
 use Rattle.line.proofs.Turns.{writes_does}
 use Rattle.line.proofs.Work.echo_terminator.Goals as goal
 
 pub returns : goal.returns
-returns c =
-    let shown = λ (k : ℕ). echo_terminator k c.args.n in
-    record { rule = writes_does c.args.self shown c.display-display.ensures c.echo_terminator.ensures (search rules) c.showing.ensures }
+returns c = record { rule = writes_does c.args.self c.writer-writer.ensures c.echo_terminator.ensures (search rules) c.showing.ensures }

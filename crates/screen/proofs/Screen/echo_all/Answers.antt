@@ -2,7 +2,7 @@ use Rattle.std.proofs.Common.{ap, get_or}
 use Rattle.rules.specs.Screen.{echo, echo_all}
 use Rattle.screen.proofs.Echoes.{echo_all_more}
 use Rattle.screen.proofs.Written.{nothing, equals, adds, column_behind}
-use Rattle.screen.proofs.display.Display.echo_all.Goals as goal
+use Rattle.screen.proofs.Screen.echo_all.Goals as goal
 
 pub loop-character-init : goal.loop-character-init
 unfolding echo_all
@@ -14,4 +14,4 @@ loop-character-preserved c =
     let i = c.loop-character.character-index in
     let before = c.loop-character.invariant in
     let echoed = equals (ap (λ k. echo k (get_or text i 0)) (column_behind before)) c.echo.ensures in
-    adds (echo_all_more c.args.self.now.screen.column text i c.loop-character-test.true) before echoed
+    adds (echo_all_more c.args.self.now.column text i c.loop-character-test.true) before echoed

@@ -1,6 +1,6 @@
 use Rattle.screen.proofs.Echoes.{take_more}
 use Rattle.screen.proofs.Written.{nothing, adds}
-use Rattle.screen.proofs.display.Display.write.Goals as goal
+use Rattle.screen.proofs.Screen.write.Goals as goal
 
 pub loop-byte-init : goal.loop-byte-init
 loop-byte-init c = nothing

@@ -1,5 +1,5 @@
 use Rattle.screen.proofs.Written.{joins}
-use Rattle.screen.proofs.display.Display.pair.Goals as goal
+use Rattle.screen.proofs.Screen.pair.Goals as goal
 
 pub returns : goal.returns
 returns c = joins c.put.ensures c.put-2.ensures

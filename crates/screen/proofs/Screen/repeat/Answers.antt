@@ -1,6 +1,6 @@
 use Rattle.screen.proofs.Echoes.{replicate_more}
 use Rattle.screen.proofs.Written.{nothing, adds}
-use Rattle.screen.proofs.display.Display.repeat.Goals as goal
+use Rattle.screen.proofs.Screen.repeat.Goals as goal
 
 pub loop-init : goal.loop-init
 loop-init c = nothing

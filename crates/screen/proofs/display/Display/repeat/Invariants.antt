@@ -1,6 +1,0 @@
-use Rattle.std.proofs.Common.{replicate}
-use Rattle.screen.specs.View.{Shows}
-use Rattle.screen.proofs.display.Display.repeat.Given as goal
-
-abbrev pub invariant-loop : goal.invariant-loop
-invariant-loop l = Shows (replicate l.counter l.b) l.initial.self l.self

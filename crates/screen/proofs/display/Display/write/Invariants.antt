@@ -1,6 +1,0 @@
-use Rattle.std.proofs.Common.{take}
-use Rattle.screen.specs.View.{Shows}
-use Rattle.screen.proofs.display.Display.write.Given as goal
-
-abbrev pub invariant-loop-byte : goal.invariant-loop-byte
-invariant-loop-byte l = Shows (take l.byte-index l.text) l.initial.self l.self
