@@ -1,4 +1,4 @@
-// What only writes to the terminal.
+// What only writes to the terminal. Each method promises a rule of its own; what they share are the first two.
 ghost use Rattle.std.specs.Prelude.{ℕ, List, [], ◌∷◌, ◌≡◌};
 ghost use Rattle.rules.specs.Screen as rules;
 ghost use Rattle.rules.specs.Turns.{writes};
