@@ -19,9 +19,8 @@ impl Line {
         ensures { Answers (rules.key code) self terminal.old messages.old result terminal.new messages.new }
     {
         let roomy = are_roomy(terminal.len(), messages.len());
-        let flow = self.flow;
-        let typed = flow.typed;
         let mut next = self;
+        let typed = next.flow.typed;
         let terms = next.terms;
         let at = code as usize;
         let key = Event::Key {
@@ -29,20 +28,19 @@ impl Line {
             attribute: next.attributes[at],
             initiated: next.initiated,
         };
-        let arrival = flow.act_if(roomy, key, terms);
+        let arrival = next.flow.act_if(roomy, key, terms);
         move_keys(&mut next.keys, typed.keys_len as usize, arrival);
         let w = Work {
-            flow,
+            flow: next.flow,
             at: 0,
             sent: 0,
         };
         let arrived = w.acts_on_key(arrival, terminal, messages, &next.text, terms);
-        let left = arrived.flow;
-        let waiting = left.typed;
+        let waiting = arrived.flow.typed;
         let set = next.set;
         let first_left = next.keys[0];
-        let lookup = left.look_up_for_step(first_left, set, terms);
-        let act = left.act_if(roomy, Event::Step(lookup), terms);
+        let lookup = arrived.flow.look_up_for_step(first_left, set, terms);
+        let act = arrived.flow.act_if(roomy, Event::Step(lookup), terms);
         move_keys(&mut next.keys, waiting.keys_len as usize, act);
         let done = arrived.acts_on_step(act, terminal, messages, &mut next.text, terms);
         next.flow = done.flow;
@@ -60,17 +58,16 @@ impl Line {
         ensures { Answers rules.step self terminal.old messages.old result terminal.new messages.new }
     {
         let roomy = are_roomy(terminal.len(), messages.len());
-        let flow = self.flow;
-        let typed = flow.typed;
         let mut next = self;
+        let typed = next.flow.typed;
         let terms = next.terms;
         let set = next.set;
         let first = next.keys[0];
-        let lookup = flow.look_up_for_step(first, set, terms);
-        let act = flow.act_if(roomy, Event::Step(lookup), terms);
+        let lookup = next.flow.look_up_for_step(first, set, terms);
+        let act = next.flow.act_if(roomy, Event::Step(lookup), terms);
         move_keys(&mut next.keys, typed.keys_len as usize, act);
         let w = Work {
-            flow,
+            flow: next.flow,
             at: 0,
             sent: 0,
         };

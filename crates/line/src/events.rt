@@ -75,11 +75,11 @@ pub(crate) struct Lookup {
 }
 
 impl Flow {
-    // The act that an event meets; a host message is its own.
-    pub(crate) fn act_of(self, e: Event, t: Terms) -> Act
-        requires { CountedTyped self.typed }
-        ensures rule { (s : List ℕ) (l : Line) → LookedUp s (on_flow self (lent t l.text l)) e →
-            Meets (event_rule s e) s (on_flow self (lent t l.text l)) result }
+    // The act that an event meets; a host message is its own. The flow is lent, since a copy of it is not compiled away.
+    pub(crate) fn act_of(&self, e: Event, t: Terms) -> Act
+        requires { CountedTyped self.now.typed }
+        ensures rule { (s : List ℕ) (l : Line) → LookedUp s (on_flow self.now (lent t l.text l)) e →
+            Meets (event_rule s e) s (on_flow self.now (lent t l.text l)) result }
         ensures kind { is_act_of e result ≡ true }
         ensures obeys { (m : hosts.HostMessage) → e ≡ Host m → result ≡ Obeys m }
     {
@@ -96,10 +96,10 @@ impl Flow {
     }
 
     // In areas that are too small it meets none.
-    pub(crate) fn act_if(self, roomy: bool, e: Event, t: Terms) -> Act
-        requires { CountedTyped self.typed }
-        ensures rule { (s : List ℕ) (l : Line) → roomy ≡ true → LookedUp s (on_flow self (lent t l.text l)) e →
-            Meets (event_rule s e) s (on_flow self (lent t l.text l)) result }
+    pub(crate) fn act_if(&self, roomy: bool, e: Event, t: Terms) -> Act
+        requires { CountedTyped self.now.typed }
+        ensures rule { (s : List ℕ) (l : Line) → roomy ≡ true → LookedUp s (on_flow self.now (lent t l.text l)) e →
+            Meets (event_rule s e) s (on_flow self.now (lent t l.text l)) result }
         ensures none { roomy ≡ false → result ≡ Nothing }
         ensures kind { is_act_of e result ≡ true }
     {

@@ -80,10 +80,10 @@ impl Flow {
     }
 
     // What a step looks up, from the first key and the read's set.
-    pub(crate) fn look_up_for_step(self, first: Key, set: Set, t: Terms) -> Lookup
-        requires { CountedTyped self.typed }
-        ensures { (s : List ℕ) (l : Line) → Bounded (on_flow self (lent t l.text l)) → first ≡ get_or l.keys 0 no_key → set ≡ l.set →
-            LookedUpForStep s (on_flow self (lent t l.text l)) result }
+    pub(crate) fn look_up_for_step(&self, first: Key, set: Set, t: Terms) -> Lookup
+        requires { CountedTyped self.now.typed }
+        ensures { (s : List ℕ) (l : Line) → Bounded (on_flow self.now (lent t l.text l)) → first ≡ get_or l.keys 0 no_key → set ≡ l.set →
+            LookedUpForStep s (on_flow self.now (lent t l.text l)) result }
     {
         let typed = self.typed;
         let raised = t.raised_by(first.code);

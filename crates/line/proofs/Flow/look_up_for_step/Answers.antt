@@ -15,7 +15,7 @@ pub returns : goal.returns
 returns c =
     let a = c.args in
     λ s l bounded first set.
-    let line = on_flow a.self (lent a.t l.text l) in
+    let line = on_flow a.self.now (lent a.t l.text l) in
     let ends = c.has-ends.ensures ∙ ap (λ x. in_set (set_of x) c.raised_by-raised.result) set in
     let taken = c.taken_as in
     record {
