@@ -23,6 +23,7 @@ fn put_revision(s: &[u8], p: Span, w: &mut Writer)
     ensures { Writes (write_groups (replicate revision_size byte) (span_of s.now p)) w.old w.new }
 {
     let t = fields::span_of(s, p);
+    // by place: past the end of a slice stands 0
     for i in 0..REVISION_SIZE {
         w.put_byte(fields::byte_at(t, i));
     }

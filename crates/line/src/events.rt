@@ -90,7 +90,7 @@ impl Flow {
                 initiated,
             } => self.act_of_key(code, initiated, attribute, t),
             Event::Tick { held } => self.act_of_tick(held, t),
-            Event::Step(lookup) => self.act_of_step(lookup.held, lookup.taken, t),
+            Event::Step(lookup) => self.act_of_step(lookup, t),
             Event::Host(m) => Act::Obeys(m),
         }
     }

@@ -87,7 +87,7 @@ pub struct Reading {
     pub hidden_lf: bool,
 }
 
-// What the rules change besides the arrays. In this order it is copied fastest (docs/PERFORMANCE.md).
+// What the rules change besides the arrays. The order of fields was timed before the read was an Option (docs/PERFORMANCE.md).
 #[derive(Clone, Copy, Default)]
 pub struct Flow {
     pub pending: Option<Reading>,
@@ -104,7 +104,7 @@ pub struct Key {
     pub quoted: bool,
 }
 
-// The line between calls. What lies behind a count is left over.
+// The line between calls: arrays with their counts, since it has no heap. What lies behind a count is left over.
 #[derive(Clone, Copy)]
 pub struct Line {
     pub attributes: [u8; rules::CODE_COUNT],
@@ -124,7 +124,7 @@ pub struct Line {
     pub flow: Flow,
 }
 
-// A call's answer: the next line, the number, and the bytes written to the front of each area.
+// A call's answer: the next line, the number of page 01's table (0 is done), and the bytes written to the front of each area.
 #[derive(Clone, Copy)]
 pub struct Answer {
     pub line: Line,

@@ -61,7 +61,8 @@ impl Work {
     fn read_data_of(self, by: Completion, ending: u16, r: Reading, t: Terms) -> Message
         requires ending_bound { ending ≤ r.input_len }
         ensures { (text : List ℕ) (k l : Line) → CountedReading r text →
-            (held_in text result ≡ codec.message (rules.read_data_of codes (code_of by) ending (reading_of (lent t text l) r) (view (on_flow self.flow k))))
+            (held_in text result ≡ codec.message
+            (rules.read_data_of codes (code_of by) ending (reading_of (lent t text l) r) (view (on_flow self.flow k))))
             × (inside (length text) (spans_of result) ≡ true) }
     {
         let cursor = self.flow.terminal.screen;

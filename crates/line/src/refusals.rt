@@ -26,7 +26,7 @@ pub(crate) fn are_roomy(terminal: usize, messages: usize) -> bool
     (rules::TERMINAL_AREA <= terminal) & (rules::MESSAGE_AREA <= messages)
 }
 
-// Row 1, or 0 where it does not apply.
+// The number of row 1, or 0 where it does not apply: an answer holds a number.
 pub(crate) fn row_of(roomy: bool) -> u8
     ensures { result ≡ row_of roomy }
 {
@@ -109,11 +109,8 @@ impl Line {
         row(Refusal::WrongLength, is_sound_length(s.len()))?;
         let kind = fields::byte_at(s, rules::forms::MSGTYPE);
         row(Refusal::WrongType, is_hosts(kind))?;
-        let flow = self.flow;
-        row(
-            Refusal::WrongTime,
-            is_timely(kind, self.initiated, flow.pending.is_some()),
-        )
+        let pending = self.flow.pending.is_some();
+        row(Refusal::WrongTime, is_timely(kind, self.initiated, pending))
     }
 
     // A Start Read that was read asks for no more than this line's largest read.

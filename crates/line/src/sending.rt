@@ -45,7 +45,6 @@ impl Work {
             (l : Line) (t : List ℕ) →
             Does (sends (plain kind numbers)) (on l self) t messages.old (on l result) t messages.new }
     {
-        let text = [0u8; 1];
-        self.send(messages, m, &text[..0])
+        self.send(messages, m, &[])
     }
 }

@@ -27,7 +27,8 @@ const UNDERFLOW_RINGS: u8 = 1;
 
 const UNDERFLOW_COMPLETES: u8 = 2;
 
-// Where the text is lent to be changed it stands before the areas: so a proof knows its length after a call too.
+// Where the text is lent to be changed it stands before the areas: so a proof knows its length after a call too. `r` is the read
+// that is pending, which the act's method has opened.
 impl Work {
     // A token that fits completes the read.
     fn ends_by_token(

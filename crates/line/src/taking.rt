@@ -94,29 +94,26 @@ impl Flow {
         }
     }
 
-    // A locked step does nothing. A whole held token goes first; `taken` is how the first key would be taken.
-    pub(crate) fn act_of_step(self, held: bool, taken: Taken, t: Terms) -> Act
+    // A locked step does nothing. A whole held token goes first, then the first key.
+    pub(crate) fn act_of_step(self, lookup: Lookup, t: Terms) -> Act
         requires { CountedTyped self.typed }
-        ensures rule { (s : List ℕ) (l : Line) → Bounded (on_flow self (lent t l.text l)) → held ≡ is_whole (codes_of self.typed) →
-            TakesFirst s (on_flow self (lent t l.text l)) taken → Meets (rules.steps codes) s (on_flow self (lent t l.text l)) result }
+        ensures rule { (s : List ℕ) (l : Line) → LookedUpForStep s (on_flow self (lent t l.text l)) lookup →
+            Meets (rules.steps codes) s (on_flow self (lent t l.text l)) result }
         ensures kind { (event_kinds_of result).step ≡ true }
     {
-        let known = self.terminal;
-        if known.locked {
+        if self.terminal.locked {
             return Act::Nothing;
         }
         if self.pending.is_none() {
             return Act::Nothing;
         }
-        if held {
+        if lookup.held {
             return Act::TakesToken;
         }
-        let typed = self.typed;
-        let waiting = typed.keys_len;
-        if waiting == 0 {
+        if self.typed.keys_len == 0 {
             return t.act_without_key();
         }
-        Act::Takes(taken)
+        Act::Takes(lookup.taken)
     }
 
     // Idle rises by one; at TIMEOUT the read completes.

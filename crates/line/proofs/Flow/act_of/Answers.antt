@@ -20,7 +20,7 @@ unfolding event_rule
 returns-in-Step c =
     let a = c.args in record {
       rule = λ s l h. event_meets s (on_flow a.self.now (lent a.t l.text l)) c.in-Step.is h
-          (λ k. c.act_of_step.ensures.rule s l k.bounded k.held k.taken);
+          (λ k. c.act_of_step.ensures.rule s l k);
       kind = kind_as c.act_of_step.result c.in-Step.is c.act_of_step.ensures.kind;
       obeys = λ m e. absurd (step_host (sym c.in-Step.is ∙ e));
     }

@@ -26,42 +26,42 @@ meets_unlocked : {s : List ℕ} {l : Line} {a : Act} → l.flow.terminal.locked 
 unfolding steps only
 meets_unlocked e h = meets_first still refl (ap not e) (meets_as refl h)
 
-pub returns-then-known : goal.returns-then-known
+pub returns-then-self : goal.returns-then-self
 unfolding steps only
-returns-then-known c = record { rule = λ s l bounded held taken. meets_second _ refl (ap not c.if-known.true) (met tt); kind = refl }
+returns-then-self c = record { rule = λ s l k. meets_second _ refl (ap not c.if-self.true) (met tt); kind = refl }
 
 pub returns-then-is_none : goal.returns-then-is_none
 unfolding steps_while
 returns-then-is_none c =
     let none = no_read c.args.self.pending (c.is_none.ensures ∙ ap not c.if-is_none.true) in
-    record { rule = λ s l bounded held taken. meets_unlocked c.if-known.false (meets_none (steps_while codes) none (met tt)); kind = refl }
+    record { rule = λ s l k. meets_unlocked c.if-self.false (meets_none (steps_while codes) none (met tt)); kind = refl }
 
-pub returns-then-held : goal.returns-then-held
+pub returns-then-lookup : goal.returns-then-lookup
 unfolding steps_while
-returns-then-held c =
+returns-then-lookup c =
     let a = c.args in
     let found = pending_read a.self.pending (c.is_none.ensures ∙ ap not c.if-is_none.false) in
     let pending = found.is in record {
-      rule = λ s l bounded held taken.
-          meets_unlocked c.if-known.false
+      rule = λ s l k.
+          meets_unlocked c.if-self.false
           (meets_pending (steps_while codes) pending
-          (meets_first _ refl (sym held ∙ c.if-held.true) (meets_read (λ q. takes_token codes (reading_of (lent a.t l.text l) q)) pending
-          (met (subst (IsPending (HasRoom a.t)) (sym pending) (pending_room (on_flow a.self (lent a.t l.text l)) bounded pending))))));
+          (meets_first _ refl (sym k.held ∙ c.if-lookup.true) (meets_read (λ q. takes_token codes (reading_of (lent a.t l.text l) q)) pending
+          (met (subst (IsPending (HasRoom a.t)) (sym pending) (pending_room (on_flow a.self (lent a.t l.text l)) k.bounded pending))))));
       kind = refl;
     }
 
-pub returns-then-waiting-eq0 : goal.returns-then-waiting-eq0
+pub returns-then-self-eq0 : goal.returns-then-self-eq0
 unfolding steps_while
-returns-then-waiting-eq0 c =
+returns-then-self-eq0 c =
     let a = c.args in
     let found = pending_read a.self.pending (c.is_none.ensures ∙ ap not c.if-is_none.false) in
     let pending = found.is in record {
-      rule = λ s l bounded held taken.
+      rule = λ s l k.
           let line = on_flow a.self (lent a.t l.text l) in
-          let none = is_empty_nil _ (keys_empty a.self.typed.keys_len l.keys ∙ eq-eqb _ 0 c.if-waiting-eq0.true) in
-          meets_unlocked c.if-known.false
+          let none = is_empty_nil _ (keys_empty a.self.typed.keys_len l.keys ∙ eq-eqb _ 0 c.if-self-eq0.true) in
+          meets_unlocked c.if-self.false
           (meets_pending (steps_while codes) pending
-          (meets_second _ refl (sym held ∙ c.if-held.false)
+          (meets_second _ refl (sym k.held ∙ c.if-lookup.false)
           (meets_as (ap (λ ks. takes_first codes ks (reading_of line found.read) (view line)) none) (c.act_without_key.ensures.rule s line found.read pending))));
       kind = c.act_without_key.ensures.kind;
     }
@@ -74,17 +74,17 @@ returns c =
     let found = pending_read a.self.pending (c.is_none.ensures ∙ ap not c.if-is_none.false) in
     let pending = found.is in
     let waiting = f.typed.keys_len in record {
-      rule = λ s l bounded held taken.
+      rule = λ s l k.
           let line = on_flow f (lent a.t l.text l) in
           let can : CanTakeKey found.read f a.t = record {
-            room = pending_room line bounded pending;
-            waits = omega (arith, c.if-waiting-eq0.false);
-            short = token_short f.typed c.requires (sym held ∙ c.if-held.false);
+            room = pending_room line k.bounded pending;
+            waits = omega (arith, c.if-self-eq0.false);
+            short = token_short f.typed c.requires (sym k.held ∙ c.if-lookup.false);
           } in
-          let head = first_key waiting l.keys (omega (arith, c.if-waiting-eq0.false)) in
-          meets_unlocked c.if-known.false
+          let head = first_key waiting l.keys (omega (arith, c.if-self-eq0.false)) in
+          meets_unlocked c.if-self.false
           (meets_pending (steps_while codes) pending
-          (meets_second _ refl (sym held ∙ c.if-held.false)
-          (meets_as (ap (λ ks. takes_first codes ks (reading_of line found.read) (view line)) head) (meets_told _ (taken found.read pending can)))));
+          (meets_second _ refl (sym k.held ∙ c.if-lookup.false)
+          (meets_as (ap (λ ks. takes_first codes ks (reading_of line found.read) (view line)) head) (meets_told _ (k.taken found.read pending can)))));
       kind = refl;
     }

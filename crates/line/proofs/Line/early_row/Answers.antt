@@ -41,7 +41,7 @@ unfolding first_row row
 returns c =
     let l = c.args.self in
     let byte = c.byte_at-kind.ensures in
-    c.row-4.ensures ∙ ap (row wrong_time) (c.is_timely.ensures (view l) refl (c.is_some.ensures ∙ is_pending_lem l l.flow.pending) ∙ ap (λ k. is_timely k (view l)) byte)
+    c.row-4.ensures ∙ ap (row wrong_time) (c.is_timely.ensures (view l) refl (c.is_some-pending.ensures ∙ is_pending_lem l l.flow.pending) ∙ ap (λ k. is_timely k (view l)) byte)
     ∙ row_passes wrong_type _ _ (λ e. omega arith) (c.in_ok-row-3.ensures ∙ ap (row wrong_type) (c.is_hosts.ensures ∙ ap is_hosts byte))
     ∙ row_passes wrong_length _ _ (λ e. omega arith) (c.in_ok-row-2.ensures ∙ ap (row wrong_length) c.is_sound_length.ensures)
     ∙ row_passes small_area _ _ (λ e. omega arith) (c.in_ok-row.ensures ∙ ap (row small_area) c.are_roomy.ensures)
