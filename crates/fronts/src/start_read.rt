@@ -13,7 +13,7 @@ use areas::Writer;
 use message::StartReadFields;
 use rules::{bits, forms};
 
-// How many values a byte has.
+// How many values a byte has, in the type of a length.
 const BYTE_VALUES: usize = forms::BYTE_VALUES as usize;
 
 fn start_read_flags(f: StartReadFields) -> u32

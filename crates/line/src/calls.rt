@@ -135,7 +135,7 @@ impl Line {
         }
     }
 
-    // The host sends a message.
+    // The host sends a message. What was read is taken apart by let-else (docs/DECISIONS.md, language forms).
     pub fn host(self, s: &[u8], terminal: &mut [u8], messages: &mut [u8]) -> Answer
         requires { Bounded self }
         ensures { Answers (rules.message s.now) self terminal.old messages.old result terminal.new messages.new }

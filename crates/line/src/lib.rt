@@ -124,7 +124,8 @@ pub struct Line {
     pub flow: Flow,
 }
 
-// A call's answer: the next line, the number of page 01's table (0 is done), and the bytes written to the front of each area.
+// A call's answer: the next line, the number of page 01's table (0 is done), and the bytes written to the front of each area. A number,
+// since callers and what is proved of whole runs hold it against the table.
 #[derive(Clone, Copy)]
 pub struct Answer {
     pub line: Line,

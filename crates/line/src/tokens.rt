@@ -73,7 +73,8 @@ fn begun(n: u8) -> Place
     }
 }
 
-// An intermediate byte leads to the place between, a final byte from the lowest on ends the token, any other makes it invalid.
+// An intermediate byte leads to the place between, a final byte from the lowest on ends the token, any other makes it invalid. As a match
+// its last arm is reached in two ways, and what is known there has no name.
 fn ended(between: Place, low: u8, n: u8) -> Place
     ensures { place_of result ≡ rules.ended (place_of between) low n }
 {

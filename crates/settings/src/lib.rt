@@ -14,12 +14,12 @@ use crate::forms::Form;
 pub use crate::moving::{to_form_1, to_form_2};
 use crate::sections::section_in;
 
-// The forms: the first byte of a record.
+// The forms: the first byte of a record, where any may stand.
 pub const FORM_1: u8 = 1;
 
 pub const FORM_2: u8 = 2;
 
-// The sections, in this order.
+// The sections, in this order: numbers, since any number may be asked for.
 pub const CHARACTERISTICS_SECTION: u8 = 1;
 
 pub const ATTRIBUTES_SECTION: u8 = 2;

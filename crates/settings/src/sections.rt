@@ -7,6 +7,7 @@ use rules::forms;
 
 const FORM_BYTES: usize = 1;
 
+// In the type of a length.
 const WORD_BYTES: usize = forms::WORD_BYTES as usize;
 
 // What stands behind the form.
