@@ -23,7 +23,7 @@ fn is_of(word: bool, n: u8) -> bool
 fn end_before(text: &[u8], word: bool) -> usize
     ensures { result ≡ length text.now - rules.leading (of_class word) (reverse text.now) }
 {
-    // by place: of a walk from the end the library says too little
+    // by place: what the library says of a reversed iterator does not give it
     for last in (0..text.len()).rev() {
         if !is_of(word, text[last]) {
             return last + 1;

@@ -51,7 +51,7 @@ fn is_sound_length(size: usize) -> bool
     (rules::SHORTEST_MESSAGE <= size) & (size <= rules::MESSAGE_SIZE)
 }
 
-// A type that a host sends. As a match over the kinds its arms have no names that a proof can cite.
+// A type that a host sends. A match over the kinds is no plainer: its last arm is reached in four ways, whose facts have no name.
 fn is_hosts(kind: u8) -> bool
     ensures { result ≡ is_hosts kind }
 {

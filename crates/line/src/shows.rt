@@ -1,5 +1,5 @@
-// What only writes to the terminal. Each method promises a rule of its own, and shares the first two. One over a closure would have to
-// say what that does to screen and writer, and six would still say their rules.
+// What only writes to the terminal. One method over a closure would have to say in its contract what the closure does to screen and
+// writer, and the six would stay, each with its rule.
 ghost use Rattle.std.specs.Prelude.{ℕ, List, [], ◌∷◌, ◌≡◌};
 ghost use Rattle.rules.specs.Screen as rules;
 ghost use Rattle.rules.specs.Turns.{writes};

@@ -1,4 +1,5 @@
-// Write: its output, what it tells of it, the lock and the redisplay. Flags and affixes are taken as the message has them, and so do the rules.
+// Write: its output, what it tells of it, the lock and the redisplay. Flags and affixes are taken as the message
+// has them, as the rules take them.
 ghost use Rattle.std.specs.Prelude.{ℕ, ◌≤◌, ◌≡◌, not, List, length, drop};
 ghost use Rattle.rules.specs.Numbers.{input_size};
 ghost use Rattle.rules.specs.State.{State, codes};
