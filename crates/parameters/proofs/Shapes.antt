@@ -11,7 +11,7 @@ use borrow.Author.Tests.{eq-eqb, ne_eqb, eqb-true, leb-true, leb-false, lt-ltb, 
 use Rattle.std.proofs.lemmas.List.{length-map}
 use Rattle.rules.specs.Choice.{within, all_are}
 use Rattle.rules.specs.Messages.Layout.{byte_at, number_at}
-use Rattle.rules.specs.Messages.Parameters.{Shape, initiation, question, setting, selector, input_count_state, defined_selector, defined_value}
+use Rattle.rules.specs.Messages.Parameters.{Shape, cut, initiation, question, setting, selector, input_count_state, defined_selector, defined_value}
 use Rattle.rules.specs.Messages.Codec.{all_bytes}
 use Rattle.rules.specs.Messages.Parameters.{question_limits, value_limits, limits_of, parameter_size, sound_parameter, cleaned}
 use Rattle.rules.proofs.Choice.{pick_true, pick-false, pick_case, pick_same, all_split}
@@ -40,6 +40,11 @@ module _ {kind : ℕ} where
 pub each_shape : (P : Shape → Type 0) (kind : ℕ) → P initiation → P question → P setting → P (shape_of kind)
 unfolding shape_of
 each_shape P kind p q r = pick_case P _ (λ e. p) (λ e. pick_case P _ (λ e. q) (λ e. r))
+
+-- whether a list is sound goes by its shape alone
+pub sound_alike : (k kind : ℕ) → shape_of k ≡ shape_of kind → (at : ℕ) (s : List ℕ) → sound_from k at s ≡ sound_from kind at s
+unfolding sound_from
+sound_alike k kind e at s = ap (λ shape. all_are (sound_parameter shape) (cut shape 0 (drop at s))) e
 
 -- A byte under the mask of its limit is the byte modulo the limit; where there is no limit, and so no mask, it is 0.
 abbrev Masked : List ℕ → Type 0
@@ -203,3 +208,15 @@ module _ (kind at : ℕ) (s : List ℕ) where
           sound_parameter (shape_of kind) (take (parameter_size (shape_of kind) rest) rest)
       by_end true e = sym (sound_whole (shape_of kind) at s (leb-true _ _ e))
       by_end false e = sym (sound_cut (shape_of kind) at s (leb-false _ _ e))
+
+  -- A list is sound from this parameter on where the parameter is, and the list from the next one on; nothing behind the end is unsound.
+  pub sound_turn : all_bytes s ≡ true → at < length s → {p : Parameter} → ParameterIs kind at s p →
+      sound_from kind at s ≡ (leb p.next (length s) && (shape_of kind).defined (known_bytes p)) && sound_from kind p.next s
+  unfolding sound_from parameter_at all_are
+  sound_turn bytes h is =
+      ap (all_are (sound_parameter (shape_of kind))) (cut-here (shape_of kind) at s h) ∙
+      ap₂ ◌&&◌ (sym (sound_known bytes h is)) (ap (λ n. sound_from kind n s) (sym (is.behind ∙ next_inside h)))
+
+  pub sound_end : length s ≤ at → sound_from kind at s ≡ true
+  unfolding sound_from all_are
+  sound_end h = ap (all_are (sound_parameter (shape_of kind))) (cut_end (shape_of kind) at s h)

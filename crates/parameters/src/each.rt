@@ -42,6 +42,8 @@ impl<'a> Iterator for Parameters<'a> {
 
     ghost remaining = { λ s. at_most (length s.list.now - s.at) };
 
+    // Inlined with `parameter_at`.
+    #[inline(always)]
     fn next(&mut self) -> Option<Parameter> {
         if self.list.len() <= self.at {
             return None;
