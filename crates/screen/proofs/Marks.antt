@@ -1,21 +1,22 @@
 -- Marks and spaces: what they do to the column, and how many of them stand behind a text's first characters.
 use mathlib.Core.Path.{◌≡◌, refl, sym, ap, ◌∙◌}
 use Prim.Native.Nat.{ℕ, zero, suc, ◌+◌, ◌-◌, ◌^◌, min, ◌≤◌, ◌<◌}
+use native.Mathlib.Numerals.{add-one}
 use native.Mathlib.Omega.{arith}
 use mathlib.Core.Bool.{true, false}
 use mathlib.Core.List.{List, [], ◌∷◌, ◌++◌, map}
 use lib.Dec.{eqb, eqb-suc-zero}
 use lib.ListN.{length, get_or, take, drop, replicate}
 use lib.ListN.{length-append, length-take, length-drop, take-append-drop, drop_of_length-le}
-use lib.Seq.{take_all, take-take}
-use Rattle.std.proofs.lemmas.List.{drop_min, take_min}
+use lib.Seq.{take-take}
+use Rattle.std.proofs.lemmas.List.{drop_min}
 use borrow.Author.Tests.{leb-true}
 use Rattle.rules.specs.Choice.{pick, all_are, any_is}
 use Rattle.rules.specs.Numbers.{top_column}
 use Rattle.rules.specs.Screen.{HT, SP, is_mark, to_tab, column_after, column_after_all, echo, echo_all, marks_behind}
 use Rattle.rules.proofs.Choice.{pick_true, pick-false, pick_case, within-true, both, or_none, all_cons}
 use Rattle.rules.proofs.Bounds.Screen.{echo_all-length}
-use Rattle.screen.specs.Marks.{capped, is_tab, first_worked_out, Finds}
+use Rattle.screen.specs.Marks.{capped, is_tab, first_worked_out}
 use Rattle.screen.proofs.Cases.{column_mark}
 use Rattle.screen.proofs.Echoes.{column_after_all_append, echo_all_append, echo_all_more}
 
@@ -87,7 +88,7 @@ marks_none kept column text i h =
     let short : length (take i text) ≤ kept = omega (arith, length-take i text) in
     rw (drop_of_length-le (take i text) short)
 
--- A turn of the count, over one more character: the column behind it, and the marks.
+-- A turn of the count, over one more character: the column behind it, and the marks where it is not kept and where it is.
 module _ (column : ℕ) (text : List ℕ) (i : ℕ) (inside : i < length text) where
   abbrev here : ℕ
   here = reached column (take i text)
@@ -117,14 +118,6 @@ module _ (column : ℕ) (text : List ℕ) (i : ℕ) (inside : i < length text) w
         let width = w ∙ ap (λ c. length (echo c next)) n in
         omega arith
 
-    pub whole_turn : {marks after : ℕ} → marks ≡ capped (length (echo_all column (take i text))) → after ≡ capped (marks + more) →
-        after ≡ capped (length (echo_all column (take (i + 1) text)))
-    whole_turn m e =
-        let whole = ap length (echo_all_more column text i inside) in
-        let parts = length-append (echo_all column (take i text)) (echo here next) in
-        let width = w ∙ ap (λ c. length (echo c next)) n in
-        omega arith
-
 pub kept_turn : (kept column : ℕ) (text : List ℕ) (i : ℕ) {marks after : ℕ} → i < kept →
     marks ≡ capped (marks_behind kept column (take i text)) → after ≡ marks →
     after ≡ capped (marks_behind kept column (take (i + 1) text))
@@ -132,6 +125,13 @@ kept_turn kept column text i k m e =
     let before = marks_none kept column text i (omega arith) in
     let still = marks_none kept column text (i + 1) (omega arith) in
     omega arith
+
+-- so kept characters alone leave no mark
+pub kept_turns : (kept column : ℕ) (text : List ℕ) (i : ℕ) → i ≤ kept → 0 ≡ capped (marks_behind kept column (take i text))
+kept_turns kept column text zero k = let none = marks_none kept column text 0 k in omega arith
+kept_turns kept column text (suc i) k =
+    kept_turn kept column text i k (kept_turns kept column text i (omega arith)) refl
+    ∙ ap (λ n. capped (marks_behind kept column (take n text))) (add-one i)
 
 -- Only a tab's echo depends on its column: a text without one echoes the same at any column.
 echo_anywhere : (c d n : ℕ) → is_tab n ≡ false → echo c n ≡ echo d n
@@ -167,41 +167,26 @@ pub first_kept : (kept : ℕ) (ns : List ℕ) → any_is is_tab (drop kept ns) �
 unfolding first_worked_out
 first_kept kept ns none = pick-false 0 kept none
 
--- What a count of the deleted characters' marks finds. It starts behind the kept characters where a tab is deleted, and else at the
--- text's own column.
-module _ (kept column : ℕ) (ns : List ℕ) (cursor : ℕ) {at marks i : ℕ} {deleted : List ℕ} (a : at ≡ min kept (length ns))
-    (d : deleted ≡ drop at ns) (m : marks ≡ capped (length (echo_all cursor (take i deleted)))) (end : length deleted ≤ i) where
+-- The text behind the skipped characters: first what is replayed, all of it kept, and then what is deleted.
+pub record Walks (kept : ℕ) (ns replayed deleted : List ℕ) : Type 0 where
+  pub parts : drop (first_worked_out kept ns) ns ≡ replayed ++ deleted
+  pub replays : length replayed ≡ min kept (length ns) - first_worked_out kept ns
+
+module _ (kept : ℕ) (ns : List ℕ) {at : ℕ} {deleted : List ℕ} (a : at ≡ min kept (length ns)) (d : deleted ≡ drop at ns) where
   behind : deleted ≡ drop kept ns
   behind = d ∙ ap (λ k. drop k ns) a ∙ drop_min kept ns
 
-  counted : (start : ℕ) → echo_all cursor deleted ≡ echo_all start deleted → marks ≡ capped (length (echo_all start (drop kept ns)))
-  counted start e =
-      m
-      ∙ ap (λ l. capped (length (echo_all cursor l))) (take_all i deleted end)
-      ∙ ap (λ l. capped (length l)) e
-      ∙ ap (λ l. capped (length (echo_all start l))) behind
-
-  pub finds_replayed : {columns : ℕ} {replayed : List ℕ} → cursor ≡ reached column replayed → any_is is_tab deleted ≡ true →
-      replayed ≡ take at ns → columns ≡ length replayed + length deleted → Finds kept column ns (record { marks = marks; columns = columns })
-  unfolding first_worked_out marks_behind
-  finds_replayed r tab front worked =
+  -- all that is kept is replayed where a tab is deleted, and else none
+  pub walks_replayed : {replayed : List ℕ} → any_is is_tab deleted ≡ true → replayed ≡ take at ns → Walks kept ns replayed deleted
+  unfolding first_worked_out
+  walks_replayed tab front =
       let first = pick_true 0 kept (sym (ap (any_is is_tab) behind) ∙ tab) in
-      let kept_text = front ∙ ap (λ k. take k ns) a ∙ take_min kept ns in
-      let all = sym (length-append (take kept ns) (drop kept ns)) ∙ ap length (take-append-drop kept ns) in
-      record {
-        marks = counted (reached column (take kept ns)) (ap (λ k. echo_all k deleted) (r ∙ ap (reached column) kept_text));
-        columns = omega (arith, worked, ap length kept_text, ap length behind);
-      }
+      record { parts = cc (take-append-drop at ns); replays = omega (arith, ap length front, length-take at ns) }
 
-  pub finds_skipped : {columns : ℕ} {replayed : List ℕ} → any_is is_tab deleted ≡ false → replayed ≡ [] →
-      columns ≡ length replayed + length deleted → Finds kept column ns (record { marks = marks; columns = columns })
-  unfolding marks_behind echo_all column_after_all
-  finds_skipped none empty worked =
+  pub walks_skipped : {replayed : List ℕ} → any_is is_tab deleted ≡ false → replayed ≡ [] → Walks kept ns replayed deleted
+  walks_skipped none empty =
       let first = first_kept kept ns (sym (ap (any_is is_tab) behind) ∙ none) in
-      record {
-        marks = counted (reached column (take kept ns)) (echo_all_anywhere deleted none cursor (reached column (take kept ns)));
-        columns = omega (arith, worked, ap length empty, ap length behind, length-drop kept ns);
-      }
+      record { parts = cc behind; replays = omega (arith, ap length empty) }
 
 -- computed, because with every character called a tab all other laws would hold: a tab between two characters, 0 to 4 of them kept
 first_by_tab : map (λ kept. first_worked_out kept (0x61 ∷ HT ∷ 0x62 ∷ [])) (0 ∷ 1 ∷ 2 ∷ 3 ∷ 4 ∷ []) ≡ 0 ∷ 0 ∷ 2 ∷ 3 ∷ 4 ∷ []
