@@ -145,7 +145,8 @@ impl Line {
         }
         let found = message::decode(s);
         let Ok(m) = found else {
-            return self.refuse(found.unwrap_err());
+            let number = message::found_number(found);
+            return self.refuse_with(number);
         };
         let Some(h) = HostMessage::of(m) else {
             return self.refuse(Refusal::WrongType);

@@ -93,9 +93,16 @@ impl Line {
     pub(crate) fn refuse(self, refused: Refusal) -> Answer
         ensures { result ≡ refusal (number_of refused) self }
     {
+        self.refuse_with(refused.number())
+    }
+
+    // The same, by its number.
+    pub(crate) fn refuse_with(self, number: u8) -> Answer
+        ensures { result ≡ refusal number self }
+    {
         Answer {
             line: self,
-            number: refused.number(),
+            number,
             terminal: 0,
             messages: 0,
         }

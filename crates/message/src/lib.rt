@@ -195,7 +195,7 @@ fn decode_as(kind: u8, s: &[u8]) -> Result<Message, Refusal>
     }
 }
 
-// The number of what was found; of a message it is 0. For whoever wants numbers: the crates above take the refusal itself.
+// The number of what was found; of a message it is 0.
 pub fn found_number(f: Result<Message, Refusal>) -> u8
     ensures { result ≡ found_number f }
 {

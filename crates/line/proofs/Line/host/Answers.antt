@@ -1,8 +1,10 @@
-use Rattle.std.proofs.Common.{rules as found_alone, ◌≡◌, refl, sym, ap, ◌∙◌, arith, Ok, Err}
+use Rattle.std.proofs.Common.{rules as found_alone, ◌≡◌, refl, sym, ap, ◌∙◌, arith, Ok}
 use Rattle.rules.specs.Refusals.{answered}
 use Rattle.rules.specs.Calls as rules
+use Rattle.rules.specs.Calls.{refuses}
 use Rattle.rules.proofs.RefusalNumbers.{never-accepted}
-use Rattle.message.specs.Found.{found_in}
+use Rattle.message.specs.Found.{found_in, found_number}
+use Rattle.line.specs.View.{view}
 use Rattle.rules.proofs.Bounds.Bytes.{bytes_all}
 use Rattle.line.proofs.HostAccepted.{host_sends}
 use Rattle.line.proofs.Answers.{refused}
@@ -29,11 +31,13 @@ returns-in_default-found c =
     let m = a.messages.now in
     let early : c.early_row.result ≡ Ok _ = search found_alone in
     let row = sym (ap answered early) ∙ c.early_row.ensures in
-    let told : c.decode-found.result ≡ Err c.unwrap_err.result = search found_alone in
+    let told = c.in_default-found.is in
     let found = ap (found_in s) (sym told) ∙ c.decode-found.ensures.fields in
+    let number = c.found_number-number.ensures ∙ ap found_number told in
     let passed = early_passed l t m s row refl in
     refused (rules.message s) l t m _ c.requires
-    (outcome_refused l t m s row refl (found-refused l s passed.3 passed.2 c.unwrap_err.result found)) c.refuse-in_default-found.ensures
+    (outcome_refused l t m s row refl (found-refused l s passed.3 passed.2 _ found) ∙ ap (λ n. refuses n (view l)) (sym number))
+    c.refuse_with.ensures
 
 pub returns-in_default-of : goal.returns-in_default-of
 returns-in_default-of c =
