@@ -1,5 +1,6 @@
-use Rattle.std.proofs.Common.{◌≡◌, sym, ap, ◌∙◌, length, ◌&&◌}
+use Rattle.std.proofs.Common.{rules, ◌≡◌, sym, ap, ◌∙◌, length, ◌&&◌, true, false}
 use native.Mathlib.Omega.{arith}
+use borrow.Author.Tests.{tests}
 use lib.Dec.{leb}
 use Rattle.rules.proofs.Bounds.Bytes.{bytes_all}
 use Rattle.parameters.specs.Lists.{known_bytes, sound_from}
@@ -27,7 +28,8 @@ pub returns-then-not-sound : goal.returns-then-not-sound
 returns-then-not-sound c =
     let a = c.args in
     let looked = turn (goal.at.returns-then-not-sound c).After-defines in
-    sym (c.loop-p.invariant.4 ∙ looked ∙ ap (λ t. t && sound_from a.kind c.in-Some.p.next a.s.now) c.if-not-sound.true)
+    let unsound : leb c.in-Some.p.next (length a.s.now) && c.defines.result ≡ false = search (rules, tests) in
+    sym (c.loop-p.invariant.4 ∙ looked ∙ ap (λ t. t && sound_from a.kind c.in-Some.p.next a.s.now) unsound)
 
 pub loop-p-preserved : goal.loop-p-preserved
 loop-p-preserved c =
@@ -35,7 +37,8 @@ loop-p-preserved c =
     let i = c.loop-p.invariant in
     let step = c.in-Some.ensures.steps in
     let looked = turn (goal.at.loop-p-preserved c).After-defines in
-    let left = ap (λ t. t && sound_from a.kind c.in-Some.p.next a.s.now) c.if-not-sound.false in
+    let sound : leb c.in-Some.p.next (length a.s.now) && c.defines.result ≡ true = search (rules, tests) in
+    let left = ap (λ t. t && sound_from a.kind c.in-Some.p.next a.s.now) sound in
     (tt, tt, step.0 ∙ i.2, step.1 ∙ i.3, i.4 ∙ looked ∙ left ∙ ap (λ n. sound_from a.kind n a.s.now) (sym step.2.2))
 
 pub returns : goal.returns
